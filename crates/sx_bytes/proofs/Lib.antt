@@ -1,0 +1,4 @@
+pub mod Field
+pub mod Grammar
+pub mod Loop
+pub mod Ordered

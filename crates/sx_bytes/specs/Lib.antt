@@ -1,0 +1,4 @@
+pub mod Field
+pub mod Cursor
+pub mod Fault
+pub mod Grammar
