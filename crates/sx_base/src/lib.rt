@@ -1,0 +1,46 @@
+//! What every other crate stands on: the outside as two traits, and the small numbers of the
+//! exchange.
+//!
+//! A [`Source`] gives bytes and a [`Sink`] takes them. Each call answers how many, or [`Failed`],
+//! and that only where a count of faults has risen, so a caller's own answer "the outside failed"
+//! can be tied to it. [`take_exact`] and [`put_all`] go on until all is done. [`MemSource`] and
+//! [`MemSink`] are in memory, tell all their bytes and fail at the calls that they are told to;
+//! [`StdSource`] and [`StdSink`] adapt `std::io`, and as streams they tell nothing of content.
+//! [`AccountId`], [`AssetId`], [`Seq`] and [`Amount`] are numbers that keep their range, and
+//! [`Balances`] is a list.
+//!
+//! Not here: files, clocks, threads, buffering, retries after a failure, and any claim that a
+//! stream ever gives a byte. What `std::io` gives and takes is trusted.
+#![tactic(auto)]
+
+mod account_id;
+mod amount;
+mod asset_id;
+mod balances;
+mod exact;
+mod failed;
+mod mem_sink;
+mod mem_source;
+mod memory;
+mod seq;
+mod sink;
+mod source;
+mod std_sink;
+mod std_source;
+
+pub use account_id::AccountId;
+pub use amount::{Amount, AmountRange};
+pub use asset_id::{AssetId, AssetRange};
+pub use balances::Balances;
+pub use exact::{TakeFault, put_all, take_exact};
+pub use failed::Failed;
+pub use mem_sink::MemSink;
+pub use mem_source::MemSource;
+pub use seq::{Seq, SeqRange};
+pub use sink::Sink;
+pub use source::Source;
+pub use std_sink::StdSink;
+pub use std_source::StdSource;
+
+#[cfg(test)]
+mod tests;
