@@ -1,0 +1,10 @@
+pub mod Find
+pub mod Loop
+pub mod Written
+pub mod Sums
+pub mod Units
+pub mod Entries
+pub mod Rising
+pub mod State
+pub mod Payload
+pub mod Lengths

@@ -1,0 +1,7 @@
+use Rattle.std.proofs.Common.{◌≡◌, ◌++◌, take}
+use Rattle.std.specs.List.{flat_map}
+use Rattle.sx_ledger.specs.Spelling.{account_bytes}
+use Rattle.sx_ledger.proofs.writing.put_accounts.Given as goal
+
+abbrev pub invariant-loop-account : goal.invariant-loop-account
+invariant-loop-account l = l.to ≡ l.fn.to ++ flat_map account_bytes (take l.account-index l.accounts)

@@ -1,0 +1,4 @@
+pub mod Ledger
+pub mod Spelling
+pub mod Reading
+pub mod Laws
