@@ -1,0 +1,13 @@
+pub mod Table
+pub mod Standing
+pub mod Counting
+pub mod Adding
+pub mod Conserving
+pub mod Applying
+pub mod PaymentLaws
+pub mod HeaderLaws
+pub mod BlockLaws
+pub mod Framing
+pub mod Deciding
+pub mod Input
+pub mod Searching

@@ -1,0 +1,10 @@
+use Rattle.std.proofs.Common.{◌≡◌, ℕ, ◌<◌, ◌≤◌, length, slice_index}
+use Rattle.sx_run.specs.Settling.{balance_after}
+use Rattle.sx_run.proofs.settling.moved.Given as goal
+
+abbrev pub invariant-loop-asset : goal.invariant-loop-asset
+invariant-loop-asset l = record {
+  as_many : length l.balances.items ≡ length l.fn.balances.items;
+  moved : (asset : ℕ) → asset < l.asset → slice_index l.balances.items asset ≡ balance_after l.fn.balances.items l.debits l.credits l.place asset;
+  unmoved : (asset : ℕ) → l.asset ≤ asset → slice_index l.balances.items asset ≡ slice_index l.fn.balances.items asset;
+}

@@ -1,0 +1,13 @@
+use Rattle.std.proofs.Common.{◌≡◌, ℕ, ◌<◌, ◌^◌, max, All, length, slice_index, drop}
+use Rattle.sx_run.specs.Sums.{number_at}
+use Rattle.sx_run.proofs.sums.greatest_of.Given as goal
+
+abbrev pub invariant-loop-payment : goal.invariant-loop-payment
+invariant-loop-payment l = record {
+  can_next : (goal.iterator-loop-payment).can_next l.payment-iterator;
+  is_finite : (goal.iterator-loop-payment).is_finite l.payment-iterator;
+  as_many : length l.numbers.items ≡ l.fn.accounts;
+  greatest : (place : ℕ) → place < l.fn.accounts →
+      max (slice_index l.numbers.items place) (number_at place (drop (length l.yielded) l.fn.places) (drop (length l.yielded) l.fn.payments)) ≡ number_at place l.fn.places l.fn.payments;
+  in_range : All (λ number. number < 2 ^ 63) l.numbers.items;
+}

@@ -1,0 +1,15 @@
+pub mod Effects
+pub mod Places
+pub mod Sums
+pub mod Flows
+pub mod Settling
+pub mod Applied
+pub mod Conservation
+pub mod Block
+pub mod BlockReading
+pub mod Status
+pub mod Validity
+pub mod Replay
+pub mod Stream
+pub mod Verdict
+pub mod Texts

@@ -1,0 +1,64 @@
+-- Which block of payments is valid for a ledger, and the first reason why one is not.
+use Rattle.std.specs.Prelude.{◌≡◌, ◌≢◌, ℕ, ◌+◌, ◌^◌, ◌<◌, List, All}
+use Rattle.sha2.specs.Sha256.{sha256}
+use Rattle.sx_ledger.specs.declared.parts.Parts.{Parts}
+use Rattle.sx_ledger.specs.Ledger.{IsLedger}
+use Rattle.sx_ledger.specs.Spelling.{state_bytes}
+use Rattle.sx_run.specs.declared.block.Block.{Block}
+use Rattle.sx_run.specs.declared.invalid.Invalid.{Invalid}
+use Rattle.sx_run.specs.declared.invalid.Invalid.TheVariants.{WrongParent, WrongBody, Overdrawn, WrongAfter}
+use Rattle.sx_run.specs.declared.payment.Payment.{Payment}
+use Rattle.sx_run.specs.Block.{record_bytes, body_bytes, block_bytes, IsBlock}
+use Rattle.sx_run.specs.Effects.{Passes, ledger_after, NoneOverdrawn, IsFirstOverdrawn}
+
+-- tag 1 is a state's, tag 3 a block's
+abbrev pub state_record : Parts → List ℕ
+state_record parts = record_bytes 1 (state_bytes parts)
+
+abbrev pub block_record : Block → List ℕ
+block_record block = record_bytes 3 (block_bytes block)
+
+-- SHA-256 of the whole record of the state
+abbrev pub ledger_digest : Parts → List ℕ
+ledger_digest parts = sha256 (state_record parts)
+
+-- SHA-256 of the list of payments, its number included
+abbrev pub body_digest : List Payment → List ℕ
+body_digest payments = sha256 (body_bytes payments)
+
+-- A ledger and a block of payments on top of it, of the form that is replayed so far: the block has
+-- the next height and the ledger's prices, and each payment passes.
+pub record IsReplayable (parts : Parts) (block : Block) : Type 0 where
+  pub ledger : IsLedger parts
+  pub form : IsBlock block
+  pub room : parts.height + 1 < 2 ^ 63
+  pub height : block.header.height ≡ parts.height + 1
+  pub prices : block.header.prices ≡ parts.prices
+  pub passes : All (Passes parts) block.payments
+
+abbrev pub HasParent : Parts → Block → Type 0
+HasParent parts block = block.header.parent ≡ ledger_digest parts
+
+abbrev pub HasBody : Block → Type 0
+HasBody block = block.header.body ≡ body_digest block.payments
+
+abbrev pub HasAfter : Parts → Block → Type 0
+HasAfter parts block = block.header.after ≡ ledger_digest (ledger_after parts block.payments)
+
+-- this is the first reason, in the order of their numbers, why the block is refused
+abbrev pub Refuses : Parts → Block → Invalid → Type 0
+Refuses parts block (WrongParent said real) = (said ≡ block.header.parent) × (real ≡ ledger_digest parts) × (said ≢ real)
+Refuses parts block (WrongBody said real) =
+    HasParent parts block × (said ≡ block.header.body) × (real ≡ body_digest block.payments) × (said ≢ real)
+Refuses parts block (Overdrawn account asset opening taken) =
+    HasParent parts block × HasBody block × IsFirstOverdrawn parts block.payments account.0 asset opening taken
+Refuses parts block (WrongAfter said real) =
+    HasParent parts block × HasBody block × NoneOverdrawn parts block.payments
+    × (said ≡ block.header.after) × (real ≡ ledger_digest (ledger_after parts block.payments)) × (said ≢ real)
+
+-- none of the reasons holds
+pub record IsValid (parts : Parts) (block : Block) : Type 0 where
+  pub parent : HasParent parts block
+  pub body : HasBody block
+  pub covered : NoneOverdrawn parts block.payments
+  pub after : HasAfter parts block

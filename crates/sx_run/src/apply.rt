@@ -1,0 +1,58 @@
+ghost use Rattle.std.specs.Prelude.{◌≡◌, ◌+◌, ◌<◌, ◌≤◌, ◌^◌, All, length, IfOk};
+ghost use Rattle.sx_run.specs.Effects.{Passes};
+ghost use Rattle.sx_run.specs.Places.{ArePlaced};
+ghost use Rattle.sx_run.specs.Applied.{IsApplied};
+
+use crate::flows::flows_of;
+use crate::overdraft::{Overdraft, first_overdraft};
+use crate::payment::Payment;
+use crate::places::Places;
+use crate::settling::settled;
+use std::alloc::Global;
+use sx_bytes::NoMemory;
+use sx_ledger::{Accounts, Ledger, Parts};
+
+/// What a body of payments leaves, or the first overdraft.
+#[derive(Debug, Drop)]
+pub enum Applied {
+    After(Ledger),
+    Overdrawn(Overdraft),
+}
+
+/// Applies a body of payments to a ledger, all at once: every balance loses its debits and gains
+/// its credits, and an account's last number becomes the greatest that it used. Only debits count
+/// against an opening balance. The first account, and of it the first asset, whose debits pass the
+/// opening balance is answered in place of the ledger.
+pub fn apply(
+    alloc: Global,
+    ledger: Ledger,
+    payments: &[Payment],
+    places: &Places,
+) -> Result<Applied, NoMemory>
+    requires placed { ArePlaced ledger payments.now places.now }
+    requires passes { All (Passes ledger) payments.now }
+    requires below_last { ledger.height + 1 < 2 ^ 63 }
+    requires few { length payments.now ≤ 1000000 }
+    ensures { IfOk result (IsApplied ledger payments.now) }
+{
+    let flows = flows_of(alloc, &ledger, payments, places)?;
+    let Parts {
+        version,
+        height,
+        prices,
+        rounding,
+        accounts,
+    } = ledger.into_parts();
+    let accounts = accounts.into_items();
+    if let Some(overdraft) = first_overdraft(&accounts, &flows.debits) {
+        return Ok(Applied::Overdrawn(overdraft));
+    }
+    let after = settled(alloc, accounts, &flows)?;
+    Ok(Applied::After(Ledger::of(Parts {
+        version,
+        height: height + 1,
+        prices,
+        rounding,
+        accounts: Accounts::of(after),
+    })))
+}

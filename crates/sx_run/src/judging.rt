@@ -1,0 +1,171 @@
+//! A state and a block of payments are judged: is the block of the form that is replayed, and if
+//! so, is it valid for the state?
+
+ghost use Rattle.std.specs.Prelude.{◌≡◌, ◌+◌, ◌<◌, ◌≤◌, ◌^◌, length, drop, IfOk, OnOk, IsErrOf, IsTrue, ◌↔◌};
+ghost use Rattle.sx_ledger.specs.Ledger.{IsLedger};
+ghost use Rattle.sx_ledger.specs.Spelling.{state_bytes};
+ghost use Rattle.sx_run.specs.Block.{body_bytes, block_bytes, IsBlock};
+ghost use Rattle.sx_run.specs.Validity.{IsReplayable, HasParent, HasBody, state_record};
+ghost use Rattle.sx_run.specs.Verdict.{IsNoLedger, IsNoBlock, SpellsNone, IsNext, IsReady, Closes, Decides, Judges};
+
+use crate::apply::{Applied, apply};
+use crate::block::Block;
+use crate::block_reading::{BlockRead, read_block};
+use crate::digest::Digest;
+use crate::hashing::{digest_of, record_digest};
+use crate::invalid::Invalid;
+use crate::places::{Places, places_of};
+use crate::stop::Stop;
+use crate::stream::Input;
+use std::alloc::Global;
+use sx_bytes::{NoMemory, ReadError, Writer};
+use sx_ledger::{Ledger, read_state};
+
+/// The record of the state after a valid block, or why the block is refused.
+#[derive(Debug, Drop)]
+pub enum Verdict {
+    Valid(Writer),
+    Refused(Invalid),
+}
+
+fn ledger_of(alloc: Global, state: &[u8]) -> Result<Ledger, Stop>
+    ensures ledger { IfOk result (λ ledger. IsLedger ledger) }
+    ensures spelled { IfOk result (λ ledger. state.now ≡ state_bytes ledger) }
+    ensures not_built { IsErrOf result Stop.NotBuilt → IsNoLedger state.now }
+    ensures calm { IsErrOf result Stop.ReadFault → ⊥ }
+{
+    match read_state(alloc, state) {
+        Ok(ledger) => Ok(ledger),
+        Err(ReadError::NoMemory) => Err(Stop::NoMemory),
+        Err(ReadError::Form(_)) => Err(Stop::NotBuilt),
+    }
+}
+
+fn block_of(alloc: Global, payload: &[u8]) -> Result<BlockRead, Stop>
+    ensures block { IfOk result (λ read. IsBlock read.block) }
+    ensures spelled { IfOk result (λ read. payload.now ≡ block_bytes read.block) }
+    ensures body { IfOk result (λ read. drop read.body_at payload.now ≡ body_bytes read.block.payments) }
+    ensures within { IfOk result (λ read. read.body_at ≤ length payload.now) }
+    ensures not_built { IsErrOf result Stop.NotBuilt → IsNoBlock payload.now }
+    ensures calm { IsErrOf result Stop.ReadFault → ⊥ }
+{
+    match read_block(alloc, payload) {
+        Ok(read) => Ok(read),
+        Err(ReadError::NoMemory) => Err(Stop::NoMemory),
+        Err(ReadError::Form(_)) => Err(Stop::NotBuilt),
+    }
+}
+
+fn is_next(ledger: &Ledger, block: &Block) -> bool
+    ensures { IsTrue result ↔ IsNext ledger.now block.now }
+{
+    ledger.height() < u64::MAX >> 1
+        && block.header.height == ledger.height() + 1
+        && block.header.prices.items() == ledger.prices()
+}
+
+// Where the accounts of the payments stand, if the block may be replayed on the ledger.
+fn places(alloc: Global, ledger: &Ledger, block: &Block) -> Result<Places, Stop>
+    ensures ready { IfOk result (λ places. IsReady ledger.now block.now places) }
+    ensures not_built { IsErrOf result Stop.NotBuilt → IsReplayable ledger.now block.now → ⊥ }
+    ensures calm { IsErrOf result Stop.ReadFault → ⊥ }
+{
+    if !is_next(ledger, block) {
+        return Err(Stop::NotBuilt);
+    }
+    match places_of(alloc, ledger, block.payments.items())? {
+        Some(places) => Ok(places),
+        None => Err(Stop::NotBuilt),
+    }
+}
+
+// The record of a state.
+fn record_of(alloc: Global, ledger: &Ledger) -> Result<Writer, NoMemory>
+    ensures { IfOk result (λ output. output ≡ state_record ledger.now) }
+{
+    let mut output = Writer::new(alloc);
+    output.put_u8(1)?;
+    output.put_u32(ledger.state_length())?;
+    ledger.write_state(&mut output)?;
+    Ok(output)
+}
+
+// The last test: the ledger after the block has the digest that the block says.
+fn close(alloc: Global, after: &Ledger, said: Digest) -> Result<Verdict, NoMemory>
+    ensures { IfOk result (Closes after.now said) }
+{
+    let output = record_of(alloc, after)?;
+    let real = digest_of(output.bytes());
+    if said != real {
+        return Ok(Verdict::Refused(Invalid::WrongAfter { said, real }));
+    }
+    Ok(Verdict::Valid(output))
+}
+
+// The overdrafts, and then the ledger after the block.
+fn settle(
+    alloc: Global,
+    ledger: Ledger,
+    block: &Block,
+    places: &Places,
+) -> Result<Verdict, NoMemory>
+    requires ready { IsReady ledger block.now places.now }
+    requires few { length block.now.payments ≤ 1000000 }
+    requires parent { HasParent ledger block.now }
+    requires body { HasBody block.now }
+    ensures { IfOk result (Decides ledger block.now) }
+{
+    match apply(alloc, ledger, block.payments.items(), places)? {
+        Applied::After(after) => close(alloc, &after, block.header.after),
+        Applied::Overdrawn(overdraft) => Ok(Verdict::Refused(Invalid::Overdrawn {
+            account: overdraft.account,
+            asset: overdraft.asset,
+            opening: overdraft.opening,
+            debits: overdraft.debits,
+        })),
+    }
+}
+
+// The digests of the parent and of the body, and then the payments.
+fn decide(
+    alloc: Global,
+    ledger: Ledger,
+    block: &Block,
+    places: &Places,
+    input: &Input,
+    body: &[u8],
+) -> Result<Verdict, NoMemory>
+    requires ready { IsReady ledger block.now places.now }
+    requires few { length block.now.payments ≤ 1000000 }
+    requires state { input.now.state.items ≡ state_bytes ledger }
+    requires fits { length input.now.state.items < 2 ^ 32 }
+    requires body { body.now ≡ body_bytes block.now.payments }
+    ensures { IfOk result (Decides ledger block.now) }
+{
+    let said = block.header.parent;
+    let real = record_digest(1, &input.state);
+    if said != real {
+        return Ok(Verdict::Refused(Invalid::WrongParent { said, real }));
+    }
+    let said = block.header.body;
+    let real = digest_of(body);
+    if said != real {
+        return Ok(Verdict::Refused(Invalid::WrongBody { said, real }));
+    }
+    settle(alloc, ledger, block, places)
+}
+
+/// Judges the payloads of a state and a block. `NotBuilt` comes exactly where they are no ledger
+/// and block of the form that is replayed.
+pub fn judge(alloc: Global, input: &Input) -> Result<Verdict, Stop>
+    ensures verdict { IfOk result (Judges input.now.state.items input.now.block.items) }
+    ensures not_built { IsErrOf result Stop.NotBuilt → SpellsNone input.now.state.items input.now.block.items }
+    ensures calm { IsErrOf result Stop.ReadFault → ⊥ }
+{
+    let ledger = ledger_of(alloc, &input.state)?;
+    let read = block_of(alloc, &input.block)?;
+    let places = places(alloc, &ledger, &read.block)?;
+    let body = &input.block[read.body_at..];
+    let verdict = decide(alloc, ledger, &read.block, &places, input, body)?;
+    Ok(verdict)
+}

@@ -1,0 +1,73 @@
+ghost use Rattle.std.specs.Prelude.{◌≡◌, ℕ, ◌+◌, ◌*◌, ◌<◌, ◌≤◌, ◌^◌, ◌==◌, if◌then◌else◌, All, length, slice_get, Some, IfOk, IfSome};
+ghost use Rattle.sx_ledger.specs.declared.account.Account.{Account};
+ghost use Rattle.sx_run.specs.Settling.{CanSettle, CoversBelow, balance_after, IsMoved, IsSettled};
+ghost use Rattle.sx_run.specs.Sums.{HasShape};
+
+use crate::flows::Flows;
+use crate::sums::Sums;
+use std::alloc::Global;
+use sx_base::Balances;
+use sx_bytes::NoMemory;
+use sx_ledger::Account;
+
+/// The accounts after the debits, the credits and the greatest number of each place.
+pub fn settled(
+    alloc: Global,
+    accounts: Vec<Account>,
+    flows: &Flows,
+) -> Result<Vec<Account>, NoMemory>
+    requires numbers { length flows.now.numbers.items ≡ length accounts.items }
+    requires debits { HasShape flows.now.debits (length accounts.items) flows.now.debits.assets }
+    requires credits { HasShape flows.now.credits (length accounts.items) flows.now.debits.assets }
+    requires balances { All (λ account. length account.balances ≡ flows.now.debits.assets) accounts.items }
+    requires can { (place : ℕ) (entry : Account) → slice_get accounts.items place ≡ Some entry → CanSettle flows.now place entry }
+    ensures as_many { IfOk result (λ after. length after.items ≡ length accounts.items) }
+    ensures each { IfOk result (λ after. (place : ℕ) (entry : Account) → slice_get accounts.items place ≡ Some entry → IfSome (slice_get after.items place) (IsSettled flows.now place entry)) }
+{
+    let mut after = Vec::with_capacity(alloc, accounts.len())?;
+    for account in accounts {
+        let place = after.len();
+        after.push(settled_account(account, place, flows))?;
+    }
+    Ok(after)
+}
+
+/// The account of a place after the debits and the credits there, with the greatest number used,
+/// or 0 where none was.
+fn settled_account(account: Account, place: usize, flows: &Flows) -> Account
+    requires number { place < length flows.now.numbers.items }
+    requires debits { flows.now.debits.assets ≡ length account.balances }
+    requires debits_place { (place + 1) * flows.now.debits.assets ≤ length flows.now.debits.cells.items }
+    requires credits { flows.now.credits.assets ≡ length account.balances }
+    requires credits_place { (place + 1) * flows.now.credits.assets ≤ length flows.now.credits.cells.items }
+    requires can { CanSettle flows.now place account }
+    ensures { IsSettled flows.now place account result }
+{
+    let Account { id, last, balances } = account;
+    let number = flows.numbers[place];
+    let last = if number == 0 { last } else { number };
+    let after = moved(balances.into_items(), place, &flows.debits, &flows.credits);
+    Account {
+        id,
+        last,
+        balances: Balances::of(after),
+    }
+}
+
+/// The balances of a place after the debits and the credits there.
+fn moved(balances: Vec<u64>, place: usize, debits: &Sums, credits: &Sums) -> Vec<u64>
+    requires debits { debits.now.assets ≡ length balances.items }
+    requires debits_place { (place + 1) * debits.now.assets ≤ length debits.now.cells.items }
+    requires credits { credits.now.assets ≡ length balances.items }
+    requires credits_place { (place + 1) * credits.now.assets ≤ length credits.now.cells.items }
+    requires covers { CoversBelow (length balances.items) balances.items debits.now place }
+    requires fits { (asset : ℕ) → asset < length balances.items → balance_after balances.items debits.now credits.now place asset < 2 ^ 64 }
+    ensures { IsMoved debits.now credits.now place balances.items result.items }
+{
+    let mut balances = balances;
+    for asset in 0..balances.len() {
+        let left = u128::from(balances[asset]) - debits.at(place, asset);
+        balances[asset] = (left + credits.at(place, asset)) as u64;
+    }
+    balances
+}
