@@ -282,6 +282,7 @@ fn whole(alloc: Global, payload: &[u8]) -> Result<BlockRead, ReadError>
 pub fn read_block(alloc: Global, payload: &[u8]) -> Result<BlockRead, ReadError>
     ensures found { IfOk result (λ read. IsBlock read.block × (payload.now ≡ block_bytes read.block)) }
     ensures only { (block : Block) → IsBlock block → payload.now ≡ block_bytes block → Gives (λ read. read.block) result (Ok block) }
+    ensures exact { Gives (λ read. read.block) result (block_at payload.now) }
     ensures body { IfOk result (λ read. drop read.body_at payload.now ≡ body_bytes read.block.payments) }
     ensures within { IfOk result (λ read. read.body_at ≤ length payload.now) }
 {
