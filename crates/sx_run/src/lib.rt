@@ -45,6 +45,3 @@ pub use laws::{one_reading, payments_conserve};
 pub use running::run;
 pub use status::Status;
 pub use text::{Text, status_line};
-
-#[cfg(test)]
-mod tests;

@@ -1,9 +1,11 @@
-use super::*;
+//! The top call, over a source and a sink in memory.
+
 use sha2::{Digest as Hasher, Sha256};
 use std::alloc::{AllocError, Global};
 use std::test::Fail;
 use std::thread::Threads;
 use sx_base::{AccountId, AssetId, MemSink, MemSource};
+use sx_run::{Digest, Invalid, Status, run, status_line};
 
 // One asset at the price 1; account 1 has 100, and account 2 has 5.
 #[rattlefmt::skip]
