@@ -1,0 +1,18 @@
+-- A record, and its one spelling.
+use Rattle.std.specs.Prelude.{◌≡◌, ℕ, ◌+◌, ◌≤◌, List, ◌++◌, length, Contains}
+use Rattle.byteorder.specs.Endian.{big_bytes}
+use Rattle.sx_record.specs.declared.frame.Record.{Record}
+
+-- how many bytes a payload may have, 64 MiB
+abbrev pub most_bytes : ℕ
+most_bytes = 67108864
+
+-- the tag, the length of the payload, and the payload
+abbrev pub record_bytes : ℕ → List ℕ → List ℕ
+record_bytes tag payload = big_bytes 1 tag ++ (big_bytes 4 (length payload) ++ payload)
+
+-- a record whose tag is at this offset, where these tags may stand
+pub record MayStand (tags : List ℕ) (at : ℕ) (found : Record) : Type 0 where
+  pub listed : Contains tags found.tag
+  pub place : found.at ≡ at + 5
+  pub fits : length found.payload ≤ most_bytes
