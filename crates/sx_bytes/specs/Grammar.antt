@@ -1,5 +1,5 @@
 -- How a format is said: reading from left to right, field by field, with the first fault.
-use Rattle.std.specs.Prelude.{◌≡◌, ℕ, zero, suc, Bool, true, ◌&&◌, Option, Some, None, List, [], ◌∷◌, Result, Ok, Err, if◌then◌else◌}
+use Rattle.std.specs.Prelude.{◌≡◌, ℕ, zero, suc, Bool, true, ◌&&◌, Option, Some, None, List, [], ◌∷◌, Result, Ok, Err, nat_le, if◌then◌else◌}
 use Rattle.sx_bytes.specs.declared.fault.Form.{Form}
 use Rattle.sx_bytes.specs.declared.fault.FormFault.{FormFault}
 use Rattle.sx_bytes.specs.declared.fault.ReadError.{ReadError}
@@ -17,6 +17,10 @@ abbrev pub ◌>>=◌ : {A B E : Type 0} → Result A E → (A → Result B E) �
 abbrev pub or_fault : {A : Type 0} → Result A Short → Result A FormFault
 or_fault (Ok x) = Ok x
 or_fault (Err e) = Err (fault_of_short e)
+
+-- whether a number is in a range, its ends among it
+abbrev pub between : ℕ → ℕ → ℕ → Bool
+between low high x = nat_le low x && nat_le x high
 
 -- a field of n bytes, read whole and then tested
 abbrev pub field_at : ℕ → (ℕ → Bool) → Form → Cursor → Result (ℕ × Cursor) FormFault
@@ -66,3 +70,8 @@ ordered_at entry precedes fault (suc n) before c = do
 abbrev pub Reads : {X Y : Type 0} → (X → Y) → Result (Y × Cursor) FormFault → Cursor → Result X ReadError → Type 0
 Reads view read new (Ok x) = read ≡ Ok (view x, new)
 Reads view read new (Err e) = Fails e read
+
+-- the same for a call that takes no memory
+abbrev pub Finds : {X Y : Type 0} → (X → Y) → Result (Y × Cursor) FormFault → Cursor → Result X FormFault → Type 0
+Finds view read new (Ok x) = read ≡ Ok (view x, new)
+Finds view read new (Err e) = read ≡ Err e

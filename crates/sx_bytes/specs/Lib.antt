@@ -2,3 +2,5 @@ pub mod Field
 pub mod Cursor
 pub mod Fault
 pub mod Grammar
+pub mod Written
+pub mod Laws

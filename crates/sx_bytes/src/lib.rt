@@ -2,7 +2,8 @@
 //!
 //! All numbers are unsigned, big-endian and of fixed width, so every value has one spelling. A
 //! [`Reader`] answers the exact number at its place or [`Short`], and a refusal leaves it where it
-//! was. A [`Writer`] appends exactly the bytes of what it is given, or nothing where memory runs
+//! was; [`Reader::field_u64`] and its kin test a range too, and answer a [`FormFault`] at the field.
+//! A [`Writer`] appends exactly the bytes of what it is given, or nothing where memory runs
 //! out. What a format finds wrong is a [`FormFault`]: which fault it is, and where it begins.
 //!
 //! [`field_laws`] states the law on which every format stands: the bytes of a field are the
@@ -14,6 +15,7 @@
 
 mod bytes;
 mod fault;
+mod fields;
 mod laws;
 mod memory;
 mod reader;

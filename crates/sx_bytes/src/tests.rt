@@ -28,6 +28,28 @@ fn reads_each_width(rt: HostRuntime) -> Result<(), Fail> {
 }
 
 #[test]
+fn a_field_is_read_whole_and_then_tested(rt: HostRuntime) -> Result<(), Fail> {
+    let mut reader = Reader::new(&FIELDS);
+    assert_eq!(rt; reader.field_u8(1, 1, Form::Tag)?, 1);
+    assert_eq!(rt; reader.field_u16(0, 2, Form::TooMany)?, 2);
+    assert_eq!(rt; reader.field_u32(3, 9, Form::TooMany)?, 3);
+    for (low, high) in [(0, 3), (5, u64::MAX), (6, 2)] {
+        let refused = reader.field_u64(low, high, Form::SeqRange);
+        let fault = Form::SeqRange;
+        assert_eq!(rt; refused, Err(FormFault { at: 7, fault }), "{low} to {high}");
+    }
+    assert_eq!(rt; reader.field_u64(4, 4, Form::SeqRange)?, 4);
+    assert_eq!(rt; reader.field_u128(5, 5, Form::ValueRange)?, 5);
+    let fault = Form::Short;
+    assert_eq!(rt;
+        reader.field_u32(0, 1, Form::TooMany),
+        Err(FormFault { at: 33, fault })
+    );
+    assert_eq!(rt; reader.place(), 31);
+    Ok(())
+}
+
+#[test]
 fn the_highest_byte_comes_first(rt: HostRuntime) -> Result<(), Fail> {
     let bytes = [0x01, 0x02, 0x03, 0x04, 0x05, 0x06, 0x07, 0x08];
     assert_eq!(rt; Reader::new(&bytes).get_u16()?, 0x0102);

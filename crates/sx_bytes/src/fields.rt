@@ -1,0 +1,103 @@
+//! Fields with a range: a number is read whole, and then tested.
+
+ghost use Rattle.std.specs.Prelude.{◌≡◌, ◌≤◌, IfOk};
+ghost use Rattle.sx_bytes.specs.Cursor.{Leaves};
+ghost use Rattle.sx_bytes.specs.Grammar.{between, field_at};
+
+use crate::fault::{Form, FormFault};
+use crate::reader::Reader;
+
+impl<'a> Reader<'a> {
+    // The fault of a field that was read from this place: the reader goes back there.
+    #[inline]
+    fn refuse(&mut self, place: usize, fault: Form) -> FormFault
+        requires { place ≤ self.old.place }
+        ensures fault { result ≡ record { at = place; fault = fault } }
+        ensures back { self.new ≡ record self.old { place = place } }
+    {
+        self.back(place);
+        let at = place as u64;
+        FormFault { at, fault }
+    }
+
+    /// The number of 8 bits at the place. Where it is not from `low` to `high`, the answer is
+    /// `fault` at the field. A refusal leaves the reader where it was.
+    #[inline]
+    pub fn field_u8(&mut self, low: u8, high: u8, fault: Form) -> Result<u8, FormFault>
+        ensures exact { Leaves (λ x. x) (field_at 1 (between low high) fault self.old) self.old self.new result }
+        ensures in_range { IfOk result (λ x. (low ≤ x) × (x ≤ high)) }
+        ensures same { self.new.bytes ≡ self.old.bytes }
+        ensures onward { self.old.place ≤ self.new.place }
+    {
+        let place = self.place();
+        let x = self.get_u8()?;
+        if x < low || high < x {
+            return Err(self.refuse(place, fault));
+        }
+        Ok(x)
+    }
+
+    /// The number of 16 bits at the place, as `field_u8` reads one.
+    #[inline]
+    pub fn field_u16(&mut self, low: u16, high: u16, fault: Form) -> Result<u16, FormFault>
+        ensures exact { Leaves (λ x. x) (field_at 2 (between low high) fault self.old) self.old self.new result }
+        ensures in_range { IfOk result (λ x. (low ≤ x) × (x ≤ high)) }
+        ensures same { self.new.bytes ≡ self.old.bytes }
+        ensures onward { self.old.place ≤ self.new.place }
+    {
+        let place = self.place();
+        let x = self.get_u16()?;
+        if x < low || high < x {
+            return Err(self.refuse(place, fault));
+        }
+        Ok(x)
+    }
+
+    /// The number of 32 bits at the place, as `field_u8` reads one.
+    #[inline]
+    pub fn field_u32(&mut self, low: u32, high: u32, fault: Form) -> Result<u32, FormFault>
+        ensures exact { Leaves (λ x. x) (field_at 4 (between low high) fault self.old) self.old self.new result }
+        ensures in_range { IfOk result (λ x. (low ≤ x) × (x ≤ high)) }
+        ensures same { self.new.bytes ≡ self.old.bytes }
+        ensures onward { self.old.place ≤ self.new.place }
+    {
+        let place = self.place();
+        let x = self.get_u32()?;
+        if x < low || high < x {
+            return Err(self.refuse(place, fault));
+        }
+        Ok(x)
+    }
+
+    /// The number of 64 bits at the place, as `field_u8` reads one.
+    #[inline]
+    pub fn field_u64(&mut self, low: u64, high: u64, fault: Form) -> Result<u64, FormFault>
+        ensures exact { Leaves (λ x. x) (field_at 8 (between low high) fault self.old) self.old self.new result }
+        ensures in_range { IfOk result (λ x. (low ≤ x) × (x ≤ high)) }
+        ensures same { self.new.bytes ≡ self.old.bytes }
+        ensures onward { self.old.place ≤ self.new.place }
+    {
+        let place = self.place();
+        let x = self.get_u64()?;
+        if x < low || high < x {
+            return Err(self.refuse(place, fault));
+        }
+        Ok(x)
+    }
+
+    /// The number of 128 bits at the place, as `field_u8` reads one.
+    #[inline]
+    pub fn field_u128(&mut self, low: u128, high: u128, fault: Form) -> Result<u128, FormFault>
+        ensures exact { Leaves (λ x. x) (field_at 16 (between low high) fault self.old) self.old self.new result }
+        ensures in_range { IfOk result (λ x. (low ≤ x) × (x ≤ high)) }
+        ensures same { self.new.bytes ≡ self.old.bytes }
+        ensures onward { self.old.place ≤ self.new.place }
+    {
+        let place = self.place();
+        let x = self.get_u128()?;
+        if x < low || high < x {
+            return Err(self.refuse(place, fault));
+        }
+        Ok(x)
+    }
+}

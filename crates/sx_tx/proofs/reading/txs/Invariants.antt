@@ -1,0 +1,9 @@
+use Rattle.std.proofs.Common.{◌≡◌, ◌-◌}
+use Rattle.sx_bytes.specs.Grammar.{many_at}
+use Rattle.sx_bytes.proofs.Loop.{with_front}
+use Rattle.sx_tx.specs.TransactionReading.{tx_at}
+use Rattle.sx_tx.proofs.reading.txs.Given as goal
+
+-- those read so far and those still to be read are all of them
+abbrev pub invariant-loop : goal.invariant-loop
+invariant-loop l = with_front l.txs.items (many_at tx_at (l.count - l.counter) l.from) ≡ many_at tx_at l.count l.fn.from

@@ -1,0 +1,33 @@
+-- Laws of transactions' lengths and of windows, for all values.
+use Rattle.std.specs.Prelude.{◌≡◌, ℕ, ◌+◌, ◌<◌, ◌≤◌, List, length}
+use Rattle.std.specs.Int.{IsBitSet}
+use Rattle.sx_tx.specs.declared.kind.Kind.{Kind}
+use Rattle.sx_tx.specs.declared.kind.Kind.TheVariants as kind
+use Rattle.sx_tx.specs.declared.tx.Tx.{Tx}
+use Rattle.sx_tx.specs.declared.window.Window.{Window}
+use Rattle.sx_tx.specs.Transactions.{tx_bytes, list_bytes}
+use Rattle.sx_tx.specs.Window.{Next}
+
+-- how many bytes a transaction of this kind takes
+abbrev pub length_of : Kind → ℕ
+length_of (kind.Pay to asset amount) = 34
+length_of (kind.Create id) = 25
+length_of (kind.Offer sell buy limit amount) = 35
+length_of (kind.Cancel sell buy limit seq) = 35
+
+abbrev pub KindIsLength : Type 0
+KindIsLength = (tx : Tx) → length (tx_bytes tx) ≡ length_of tx.kind
+
+-- a list of transactions fits the payload of a record
+abbrev pub FitsRecord : Type 0
+FitsRecord = (txs : List Tx) → length txs ≤ 1000000 → length (list_bytes txs) ≤ 67108864
+
+-- where bit i is the highest of the map, the number that it stands for is the last one afterwards
+abbrev pub HighestIsLast : Type 0
+HighestIsLast =
+    (window : Window) (map i : ℕ) → i < 64 → IsBitSet map i → ((k : ℕ) → i < k → k < 64 → ¬ IsBitSet map k) →
+    Next 1 window map ≡ record { last = window.last + 1 + i; used = 0 }
+
+-- where no number was used, the window stays
+abbrev pub NoneStays : Type 0
+NoneStays = (version : ℕ) (window : Window) → Next version window 0 ≡ window

@@ -1,0 +1,4 @@
+pub mod Transactions
+pub mod TransactionReading
+pub mod Window
+pub mod Laws

@@ -1,0 +1,243 @@
+//! Reading a transaction, or a payload of them, field by field from left to right. Each field is
+//! read whole and then tested.
+
+ghost use Rattle.std.specs.Prelude.{◌≡◌, ◌≤◌, List, IfOk, Ok};
+ghost use Rattle.sx_bytes.specs.declared.fault.ReadError.TheVariants as read_error;
+ghost use Rattle.sx_bytes.specs.Cursor.{Leaves};
+ghost use Rattle.sx_bytes.specs.Grammar.{Finds, Reads, Gives, many_at};
+ghost use Rattle.sx_tx.specs.declared.tx.Tx.{Tx};
+ghost use Rattle.sx_tx.specs.Transactions.{list_bytes, IsTxList};
+ghost use Rattle.sx_tx.specs.TransactionReading.{id_at, seq_at, asset_at, amount_at, limit_at, terms_at, pay_at, create_at, offer_at, cancel_at, kind_at, tx_at, list_at, candidates_at};
+
+use crate::kind::Kind;
+use crate::tx::Tx;
+use crate::tx_list::TxList;
+use std::alloc::Global;
+use sx_base::{AccountId, Amount, AssetId, Seq};
+use sx_bytes::{Form, FormFault, ReadError, Reader};
+use sx_price::Limit;
+
+/// How many transactions a list may have.
+const MOST_TXS: u32 = 1_000_000;
+
+// How many bytes the shortest transaction takes.
+const LEAST_BYTES: usize = 25;
+
+#[inline]
+#[tactic(auto, using(sx_bytes::proofs::Steps::number_onward))]
+fn id(from: &mut Reader) -> Result<AccountId, FormFault>
+    ensures exact { Finds (λ id. id.0) (id_at from.old) from.new result }
+    ensures same { from.new.bytes ≡ from.old.bytes }
+    ensures onward { from.old.place ≤ from.new.place }
+{
+    Ok(AccountId(from.get_u64()?))
+}
+
+#[inline]
+fn seq(from: &mut Reader) -> Result<Seq, FormFault>
+    ensures exact { Finds (λ x. x) (seq_at from.old) from.new result }
+    ensures same { from.new.bytes ≡ from.old.bytes }
+    ensures onward { from.old.place ≤ from.new.place }
+{
+    let number = from.field_u64(Seq::FIRST, Seq::LAST, Form::SeqRange)?;
+    Ok(Seq::new(number).unwrap())
+}
+
+#[inline]
+fn asset(from: &mut Reader) -> Result<AssetId, FormFault>
+    ensures exact { Finds (λ x. x) (asset_at from.old) from.new result }
+    ensures same { from.new.bytes ≡ from.old.bytes }
+    ensures onward { from.old.place ≤ from.new.place }
+{
+    let number = from.field_u8(0, AssetId::LIMIT - 1, Form::AssetRange)?;
+    Ok(AssetId::new(number).unwrap())
+}
+
+#[inline]
+fn amount(from: &mut Reader) -> Result<Amount, FormFault>
+    ensures exact { Finds (λ x. x) (amount_at from.old) from.new result }
+    ensures same { from.new.bytes ≡ from.old.bytes }
+    ensures onward { from.old.place ≤ from.new.place }
+{
+    let units = from.field_u64(Amount::LEAST, Amount::MOST, Form::AmountRange)?;
+    Ok(Amount::new(units).unwrap())
+}
+
+#[inline]
+fn limit(from: &mut Reader) -> Result<Limit, FormFault>
+    ensures exact { Finds (λ x. x) (limit_at from.old) from.new result }
+    ensures same { from.new.bytes ≡ from.old.bytes }
+    ensures onward { from.old.place ≤ from.new.place }
+{
+    let raw = from.field_u64(Limit::LEAST, Limit::MOST, Form::LimitRange)?;
+    Ok(Limit::new(raw).unwrap())
+}
+
+// What is sold, what is bought, and the limit.
+#[inline]
+#[tactic(auto, unfolding(crate::specs::TransactionReading::terms_at))]
+fn terms(from: &mut Reader) -> Result<(AssetId, AssetId, Limit), FormFault>
+    ensures exact { Finds (λ x. x) (terms_at from.old) from.new result }
+    ensures same { from.new.bytes ≡ from.old.bytes }
+    ensures onward { from.old.place ≤ from.new.place }
+{
+    let sell = asset(from)?;
+    let buy = asset(from)?;
+    let limit = limit(from)?;
+    Ok((sell, buy, limit))
+}
+
+#[inline]
+#[tactic(auto, unfolding(crate::specs::TransactionReading::pay_at))]
+fn pay(from: &mut Reader) -> Result<Kind, FormFault>
+    ensures exact { Finds (λ x. x) (pay_at from.old) from.new result }
+    ensures same { from.new.bytes ≡ from.old.bytes }
+    ensures onward { from.old.place ≤ from.new.place }
+{
+    let to = id(from)?;
+    let asset = asset(from)?;
+    let amount = amount(from)?;
+    Ok(Kind::Pay { to, asset, amount })
+}
+
+#[inline]
+#[tactic(auto, unfolding(crate::specs::TransactionReading::create_at))]
+fn create(from: &mut Reader) -> Result<Kind, FormFault>
+    ensures exact { Finds (λ x. x) (create_at from.old) from.new result }
+    ensures same { from.new.bytes ≡ from.old.bytes }
+    ensures onward { from.old.place ≤ from.new.place }
+{
+    let id = id(from)?;
+    Ok(Kind::Create { id })
+}
+
+#[inline]
+#[tactic(auto, unfolding(crate::specs::TransactionReading::offer_at))]
+fn offer(from: &mut Reader) -> Result<Kind, FormFault>
+    ensures exact { Finds (λ x. x) (offer_at from.old) from.new result }
+    ensures same { from.new.bytes ≡ from.old.bytes }
+    ensures onward { from.old.place ≤ from.new.place }
+{
+    let (sell, buy, limit) = terms(from)?;
+    let amount = amount(from)?;
+    Ok(Kind::Offer {
+        sell,
+        buy,
+        limit,
+        amount,
+    })
+}
+
+#[inline]
+#[tactic(auto, unfolding(crate::specs::TransactionReading::cancel_at))]
+fn cancel(from: &mut Reader) -> Result<Kind, FormFault>
+    ensures exact { Finds (λ x. x) (cancel_at from.old) from.new result }
+    ensures same { from.new.bytes ≡ from.old.bytes }
+    ensures onward { from.old.place ≤ from.new.place }
+{
+    let (sell, buy, limit) = terms(from)?;
+    let seq = seq(from)?;
+    Ok(Kind::Cancel {
+        sell,
+        buy,
+        limit,
+        seq,
+    })
+}
+
+#[inline]
+#[tactic(auto, unfolding(crate::specs::TransactionReading::kind_at))]
+fn kind(from: &mut Reader) -> Result<Kind, FormFault>
+    ensures exact { Finds (λ x. x) (kind_at from.old) from.new result }
+    ensures same { from.new.bytes ≡ from.old.bytes }
+    ensures onward { from.old.place ≤ from.new.place }
+{
+    match from.field_u8(1, 4, Form::Tag)? {
+        1 => pay(from),
+        2 => create(from),
+        3 => offer(from),
+        _ => cancel(from),
+    }
+}
+
+// A transaction. Where it refuses, the reader may stand anywhere behind its old place.
+#[inline]
+#[tactic(auto, unfolding(crate::specs::TransactionReading::tx_at))]
+fn tx(from: &mut Reader) -> Result<Tx, FormFault>
+    ensures exact { Finds (λ x. x) (tx_at from.old) from.new result }
+    ensures same { from.new.bytes ≡ from.old.bytes }
+    ensures onward { from.old.place ≤ from.new.place }
+{
+    let account = id(from)?;
+    let seq = seq(from)?;
+    let kind = kind(from)?;
+    Ok(Tx { account, seq, kind })
+}
+
+/// The transaction that the bytes at the place spell; the reader then stands behind it. An error is
+/// the first fault from left to right, its offset counted from the reader's first byte, and leaves
+/// the reader where it was. The faults are `SeqRange` of the transaction's own number or the one
+/// that a cancel names, `Tag` of a kind that is not 1 to 4, `AssetRange`, `LimitRange`,
+/// `AmountRange`, and `Short` where a field passes the end of the bytes. It takes no memory.
+pub fn read_tx(from: &mut Reader) -> Result<Tx, FormFault>
+    ensures { Leaves (λ x. x) (tx_at from.old) from.old from.new result }
+{
+    let place = from.place();
+    let read = tx(from);
+    if read.is_err() {
+        from.back(place);
+    }
+    read
+}
+
+// Memory grows with what the bytes left can hold, and not with what the count claims.
+fn txs(alloc: Global, from: &mut Reader, count: u32) -> Result<TxList, ReadError>
+    ensures { Reads (λ x. x) (many_at tx_at count from.old) from.new result }
+{
+    let room = from.left() / LEAST_BYTES;
+    let mut txs = Vec::with_capacity(alloc, room.min(count as usize))?;
+    for _ in 0..count {
+        let Tx { account, seq, kind } = tx(from)?;
+        txs.push(Tx { account, seq, kind })?;
+    }
+    Ok(TxList::of(txs))
+}
+
+#[tactic(auto, unfolding(crate::specs::TransactionReading::list_at))]
+fn list(alloc: Global, from: &mut Reader) -> Result<TxList, ReadError>
+    ensures { Reads (λ x. x) (list_at from.old) from.new result }
+{
+    let count = from.field_u32(0, MOST_TXS, Form::TooMany)?;
+    txs(alloc, from, count)
+}
+
+#[tactic(auto, unfolding(crate::specs::TransactionReading::candidates_at))]
+fn whole(alloc: Global, payload: &[u8]) -> Result<TxList, ReadError>
+    ensures { Gives (λ txs. txs) result (candidates_at payload.now) }
+{
+    let mut from = Reader::new(payload);
+    let txs = list(alloc, &mut from)?;
+    if from.left() != 0 {
+        let at = from.place() as u64;
+        let fault = Form::Rest;
+        return Err(ReadError::Form(FormFault { at, fault }));
+    }
+    Ok(txs)
+}
+
+/// The transactions that a payload of candidates spells, all of the payload: a count and so many
+/// transactions, in any order and with repeats. An error is the first fault from left to right, its
+/// offset counted from the payload's first byte, or `NoMemory`, which may come in place of any
+/// other answer. The faults are `TooMany` of a count above 1,000,000, those of `read_tx`, and
+/// `Rest` at the first byte behind the last transaction.
+pub fn read_candidates(alloc: Global, payload: &[u8]) -> Result<TxList, ReadError>
+    // What is read is spelled so.
+    ensures found { IfOk result (λ txs. IsTxList txs × (payload.now ≡ list_bytes txs)) }
+    // What is spelled so is read, unless memory runs out.
+    ensures only { (txs : List Tx) → IsTxList txs → payload.now ≡ list_bytes txs →
+        Gives (λ found. found) result (Ok txs) }
+    // Which fault it is.
+    ensures exact { Gives (λ txs. txs) result (candidates_at payload.now) }
+{
+    whole(alloc, payload)
+}
