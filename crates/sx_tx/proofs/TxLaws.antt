@@ -1,11 +1,10 @@
 -- What is read as a transaction is spelled so, and what is spelled so is read.
-use Rattle.std.proofs.Common.{◌≡◌, ℕ, zero, suc, ◌-◌, ◌^◌, ◌≤◌, true, List, ◌++◌, length, Result, Ok, refl, sym, ap, subst, ◌∙◌, append_assoc, arith}
+use Rattle.std.proofs.Common.{◌≡◌, ℕ, zero, suc, ◌-◌, ◌^◌, ◌≤◌, true, List, ◌++◌, length, Ok, refl, subst, ◌∙◌, append_assoc, arith}
 use Rattle.byteorder.specs.Endian.{big_bytes}
 use Rattle.sx_bytes.specs.declared.fault.Form.TheVariants as form
-use Rattle.sx_bytes.specs.declared.fault.FormFault.{FormFault}
 use Rattle.sx_bytes.specs.Field.{AreBytes}
 use Rattle.sx_bytes.specs.Cursor.{Cursor, rest}
-use Rattle.sx_bytes.specs.Grammar.{◌>>=◌, between, field_at}
+use Rattle.sx_bytes.specs.Grammar.{between, field_at}
 use Rattle.sx_bytes.proofs.Grammar.{bind_ok, Takes, Takes-then, Again, field_takes, field_again}
 use Rattle.sx_bytes.proofs.Steps.{bytes_behind, range_takes, range_again, again_then}
 use Rattle.sx_bytes.proofs.Parts.{TakesAll, ReadsAgain, made_is, two_take, two_again, three_take, three_again}

@@ -6,12 +6,12 @@
 //! first fault from left to right, with the reader back where it was. [`read_candidates`] does the
 //! same for a payload that is a count and so many transactions, in any order and with repeats.
 //! [`write_tx`] and [`write_candidates`] append the one spelling, or nothing where memory runs out.
-//! [`tx_laws`] and [`list_laws`] say that the two agree, that no two values share a spelling, and that no
-//! spelling begins another.
+//! [`tx_laws`] and [`list_laws`] say that the two agree, that no two values share a spelling, and
+//! that no spelling begins another.
 //!
 //! A [`Window`] is what is left of an account's numbers: the greatest one used so far, behind which
-//! 64 are open. [`Window::next`] is the window after a block, and [`window_laws`] says what it is in
-//! the words of bits.
+//! 64 are open. [`Window::next`] is the window after a block, and [`window_laws`] says what it is
+//! in the words of bits.
 //!
 //! Not here: whether an account, an asset or an offer is there, and what a transaction does.
 #![tactic(auto)]

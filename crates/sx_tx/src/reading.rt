@@ -197,6 +197,7 @@ fn txs(alloc: Global, from: &mut Reader, count: u32) -> Result<TxList, ReadError
     let room = from.left() / LEAST_BYTES;
     let mut txs = Vec::with_capacity(alloc, room.min(count as usize))?;
     for _ in 0..count {
+        // Taken apart, since the check knows how to move a kind only where one is named.
         let Tx { account, seq, kind } = tx(from)?;
         txs.push(Tx { account, seq, kind })?;
     }

@@ -164,13 +164,20 @@ fn numbers_out_of_range_are_refused_at_the_field(rt: HostRuntime) {
 // An offer that would buy less than one unit at its limit is dust.
 #[test]
 fn one_unit_at_a_limit_below_one_is_dust(rt: HostRuntime) -> Result<(), Fail> {
-    for (limit, dust) in [((1 << 24) - 1, true), (1 << 24, false)] {
-        let bytes = with_number(with_number(OFFER, 19, limit), 27, 1);
-        let Kind::Offer { limit, amount, .. } = read(&bytes).0?.kind else {
-            return Err("no offer".into());
-        };
+    for (raw, dust) in [((1 << 24) - 1, true), (1 << 24, false)] {
+        let (amount, limit) = (Amount::new(1)?, Limit::new(raw)?);
         let bought = u128::from(amount.get()) * u128::from(limit.get());
-        assert_eq!(rt; bought < 1 << 24, dust, "{limit:?}");
+        assert_eq!(rt; bought < 1 << 24, dust, "{raw}");
+        let (sell, buy) = (AssetId::new(31)?, AssetId::new(1)?);
+        let kind = Kind::Offer {
+            sell,
+            buy,
+            limit,
+            amount,
+        };
+        let bytes = with_number(with_number(OFFER, 19, raw), 27, 1);
+        let tx = Tx { kind, ..offer()? };
+        assert_eq!(rt; read(&bytes), (Ok(tx), 35), "{raw}");
     }
     Ok(())
 }

@@ -50,7 +50,8 @@ fn put_terms(
     limit: Limit,
     last: u64,
 ) -> Result<(), NoMemory>
-    ensures ok { OnOk result (to.new ≡ to.old ++ (big_bytes 1 kind ++ (terms_bytes sell buy limit ++ big_bytes 8 last))) }
+    ensures ok { let fields = terms_bytes sell buy limit ++ big_bytes 8 last in
+        OnOk result (to.new ≡ to.old ++ (big_bytes 1 kind ++ fields)) }
     ensures err { OnErr result (Begins to.old to.new) }
 {
     to.put_u8(kind)?;

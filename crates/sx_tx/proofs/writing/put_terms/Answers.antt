@@ -1,4 +1,4 @@
-use Rattle.std.proofs.Common.{◌≡◌, List, ℕ, ◌++◌, ap, sym, ◌∙◌, append_assoc}
+use Rattle.std.proofs.Common.{List, ℕ, ◌++◌}
 use Rattle.byteorder.specs.Endian.{big_bytes}
 use Rattle.sx_bytes.proofs.Written.{written_then}
 use Rattle.sx_tx.proofs.writing.put_terms.Goals as goal

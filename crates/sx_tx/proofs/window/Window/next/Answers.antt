@@ -1,6 +1,5 @@
 use Rattle.std.proofs.Common.{◌≡◌, ℕ, ◌+◌, arith, ap, sym, ◌∙◌}
 use Rattle.std.proofs.lemmas.Bool.{ne_eqb}
-use Rattle.sx_tx.specs.declared.window.Window.{Window}
 use Rattle.sx_tx.specs.Window.{behind_highest}
 use Rattle.sx_tx.proofs.WindowLaws.{highest_of}
 use Rattle.sx_tx.proofs.window.Window.next.Goals as goal
