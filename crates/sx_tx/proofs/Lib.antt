@@ -1,3 +1,4 @@
+pub mod FieldLaws
 pub mod WindowLaws
 pub mod TxLaws
 pub mod ListLaws

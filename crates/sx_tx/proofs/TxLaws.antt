@@ -13,39 +13,8 @@ use Rattle.sx_tx.specs.declared.kind.Kind.TheVariants as kind
 use Rattle.sx_tx.specs.declared.tx.Tx.{Tx}
 use Rattle.sx_tx.specs.Transactions.{terms_bytes, kind_bytes, tx_bytes, IsId, IsSeq, IsAsset, IsAmount, IsLimit, AreTerms, IsKind, IsTx}
 use Rattle.sx_tx.specs.Laws.{length_of, KindIsLength}
+use Rattle.sx_tx.proofs.FieldLaws.{id_takes, id_again, seq_takes, seq_again, asset_takes, asset_again, amount_takes, amount_again, limit_takes, limit_again}
 use Rattle.sx_tx.specs.TransactionReading.{id_at, seq_at, asset_at, amount_at, limit_at, terms_at, pay_at, create_at, offer_at, cancel_at, fields_at, kind_at, tx_at}
-
--- ---- fields
-
-id_takes : TakesAll id_at (big_bytes 8) IsId
-id_takes c next x bytes e = let t = field_takes 8 (λ _. true) form.Short c next x bytes e in (t.0, t.2)
-
-id_again : ReadsAgain id_at (big_bytes 8) IsId
-id_again c x after is within e = field_again 8 (λ _. true) form.Short c x after is refl within e
-
-seq_takes : TakesAll seq_at (big_bytes 8) IsSeq
-seq_takes c next x bytes e = let t = range_takes 8 1 (2 ^ 63 - 1) form.SeqRange c next x bytes e in (t.0, (t.1, omega (arith, t.2)))
-
-seq_again : ReadsAgain seq_at (big_bytes 8) IsSeq
-seq_again c x after is within e = range_again 8 1 (2 ^ 63 - 1) form.SeqRange c x after (omega arith) is.0 (omega (arith, is.1)) within e
-
-asset_takes : TakesAll asset_at (big_bytes 1) IsAsset
-asset_takes c next x bytes e = let t = range_takes 1 0 31 form.AssetRange c next x bytes e in (t.0, omega (arith, t.2))
-
-asset_again : ReadsAgain asset_at (big_bytes 1) IsAsset
-asset_again c x after is within e = range_again 1 0 31 form.AssetRange c x after (omega arith) (omega arith) (omega arith) within e
-
-amount_takes : TakesAll amount_at (big_bytes 8) IsAmount
-amount_takes c next x bytes e = let t = range_takes 8 1 (2 ^ 62) form.AmountRange c next x bytes e in (t.0, (t.1, t.2))
-
-amount_again : ReadsAgain amount_at (big_bytes 8) IsAmount
-amount_again c x after is within e = range_again 8 1 (2 ^ 62) form.AmountRange c x after (omega arith) is.0 is.1 within e
-
-limit_takes : TakesAll limit_at (big_bytes 8) IsLimit
-limit_takes c next x bytes e = let t = range_takes 8 1 (2 ^ 56 - 1) form.LimitRange c next x bytes e in (t.0, (t.1, omega (arith, t.2)))
-
-limit_again : ReadsAgain limit_at (big_bytes 8) IsLimit
-limit_again c x after is within e = range_again 8 1 (2 ^ 56 - 1) form.LimitRange c x after (omega arith) is.0 (omega (arith, is.1)) within e
 
 -- ---- the terms of an offer
 

@@ -16,6 +16,7 @@
 //! Not here: whether an account, an asset or an offer is there, and what a transaction does.
 #![tactic(auto)]
 
+mod fields;
 mod kind;
 mod laws;
 mod reading;
@@ -24,6 +25,7 @@ mod tx_list;
 mod window;
 mod writing;
 
+pub use fields::{read_amount, read_asset, read_id, read_limit, read_seq};
 pub use kind::Kind;
 pub use laws::{list_laws, tx_laws, window_laws};
 pub use reading::{read_candidates, read_tx};

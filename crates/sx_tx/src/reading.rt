@@ -7,13 +7,14 @@ ghost use Rattle.sx_bytes.specs.Cursor.{Leaves};
 ghost use Rattle.sx_bytes.specs.Grammar.{Finds, Reads, Gives, many_at};
 ghost use Rattle.sx_tx.specs.declared.tx.Tx.{Tx};
 ghost use Rattle.sx_tx.specs.Transactions.{list_bytes, IsTxList};
-ghost use Rattle.sx_tx.specs.TransactionReading.{id_at, seq_at, asset_at, amount_at, limit_at, terms_at, pay_at, create_at, offer_at, cancel_at, kind_at, tx_at, list_at, candidates_at};
+ghost use Rattle.sx_tx.specs.TransactionReading.{terms_at, pay_at, create_at, offer_at, cancel_at, kind_at, tx_at, list_at, candidates_at};
 
+use crate::fields::{read_amount, read_asset, read_id, read_limit, read_seq};
 use crate::kind::Kind;
 use crate::tx::Tx;
 use crate::tx_list::TxList;
 use std::alloc::Global;
-use sx_base::{AccountId, Amount, AssetId, Seq};
+use sx_base::AssetId;
 use sx_bytes::{Form, FormFault, ReadError, Reader};
 use sx_price::Limit;
 
@@ -23,56 +24,6 @@ const MOST_TXS: u32 = 1_000_000;
 // How many bytes the shortest transaction takes.
 const LEAST_BYTES: usize = 25;
 
-#[inline]
-#[tactic(auto, using(sx_bytes::proofs::Steps::number_onward))]
-fn id(from: &mut Reader) -> Result<AccountId, FormFault>
-    ensures exact { Finds (λ id. id.0) (id_at from.old) from.new result }
-    ensures same { from.new.bytes ≡ from.old.bytes }
-    ensures onward { from.old.place ≤ from.new.place }
-{
-    Ok(AccountId(from.get_u64()?))
-}
-
-#[inline]
-fn seq(from: &mut Reader) -> Result<Seq, FormFault>
-    ensures exact { Finds (λ x. x) (seq_at from.old) from.new result }
-    ensures same { from.new.bytes ≡ from.old.bytes }
-    ensures onward { from.old.place ≤ from.new.place }
-{
-    let number = from.field_u64(Seq::FIRST, Seq::LAST, Form::SeqRange)?;
-    Ok(Seq::new(number).unwrap())
-}
-
-#[inline]
-fn asset(from: &mut Reader) -> Result<AssetId, FormFault>
-    ensures exact { Finds (λ x. x) (asset_at from.old) from.new result }
-    ensures same { from.new.bytes ≡ from.old.bytes }
-    ensures onward { from.old.place ≤ from.new.place }
-{
-    let number = from.field_u8(0, AssetId::LIMIT - 1, Form::AssetRange)?;
-    Ok(AssetId::new(number).unwrap())
-}
-
-#[inline]
-fn amount(from: &mut Reader) -> Result<Amount, FormFault>
-    ensures exact { Finds (λ x. x) (amount_at from.old) from.new result }
-    ensures same { from.new.bytes ≡ from.old.bytes }
-    ensures onward { from.old.place ≤ from.new.place }
-{
-    let units = from.field_u64(Amount::LEAST, Amount::MOST, Form::AmountRange)?;
-    Ok(Amount::new(units).unwrap())
-}
-
-#[inline]
-fn limit(from: &mut Reader) -> Result<Limit, FormFault>
-    ensures exact { Finds (λ x. x) (limit_at from.old) from.new result }
-    ensures same { from.new.bytes ≡ from.old.bytes }
-    ensures onward { from.old.place ≤ from.new.place }
-{
-    let raw = from.field_u64(Limit::LEAST, Limit::MOST, Form::LimitRange)?;
-    Ok(Limit::new(raw).unwrap())
-}
-
 // What is sold, what is bought, and the limit.
 #[inline]
 #[tactic(auto, unfolding(crate::specs::TransactionReading::terms_at))]
@@ -81,9 +32,9 @@ fn terms(from: &mut Reader) -> Result<(AssetId, AssetId, Limit), FormFault>
     ensures same { from.new.bytes ≡ from.old.bytes }
     ensures onward { from.old.place ≤ from.new.place }
 {
-    let sell = asset(from)?;
-    let buy = asset(from)?;
-    let limit = limit(from)?;
+    let sell = read_asset(from)?;
+    let buy = read_asset(from)?;
+    let limit = read_limit(from)?;
     Ok((sell, buy, limit))
 }
 
@@ -94,9 +45,9 @@ fn pay(from: &mut Reader) -> Result<Kind, FormFault>
     ensures same { from.new.bytes ≡ from.old.bytes }
     ensures onward { from.old.place ≤ from.new.place }
 {
-    let to = id(from)?;
-    let asset = asset(from)?;
-    let amount = amount(from)?;
+    let to = read_id(from)?;
+    let asset = read_asset(from)?;
+    let amount = read_amount(from)?;
     Ok(Kind::Pay { to, asset, amount })
 }
 
@@ -107,7 +58,7 @@ fn create(from: &mut Reader) -> Result<Kind, FormFault>
     ensures same { from.new.bytes ≡ from.old.bytes }
     ensures onward { from.old.place ≤ from.new.place }
 {
-    let id = id(from)?;
+    let id = read_id(from)?;
     Ok(Kind::Create { id })
 }
 
@@ -119,7 +70,7 @@ fn offer(from: &mut Reader) -> Result<Kind, FormFault>
     ensures onward { from.old.place ≤ from.new.place }
 {
     let (sell, buy, limit) = terms(from)?;
-    let amount = amount(from)?;
+    let amount = read_amount(from)?;
     Ok(Kind::Offer {
         sell,
         buy,
@@ -136,7 +87,7 @@ fn cancel(from: &mut Reader) -> Result<Kind, FormFault>
     ensures onward { from.old.place ≤ from.new.place }
 {
     let (sell, buy, limit) = terms(from)?;
-    let seq = seq(from)?;
+    let seq = read_seq(from)?;
     Ok(Kind::Cancel {
         sell,
         buy,
@@ -168,8 +119,8 @@ fn tx(from: &mut Reader) -> Result<Tx, FormFault>
     ensures same { from.new.bytes ≡ from.old.bytes }
     ensures onward { from.old.place ≤ from.new.place }
 {
-    let account = id(from)?;
-    let seq = seq(from)?;
+    let account = read_id(from)?;
+    let seq = read_seq(from)?;
     let kind = kind(from)?;
     Ok(Tx { account, seq, kind })
 }

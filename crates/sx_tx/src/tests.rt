@@ -126,6 +126,24 @@ fn each_kind_is_read_and_written(rt: HostRuntime) -> Result<(), Fail> {
     Ok(())
 }
 
+// The fields of the payment and of the offer, one behind the other.
+#[test]
+fn fields_are_read_alone(rt: HostRuntime) -> Result<(), Fail> {
+    let mut from = Reader::new(&OFFER);
+    assert_eq!(rt; read_id(&mut from)?, AccountId(1));
+    assert_eq!(rt; read_seq(&mut from)?, Seq::new(258)?);
+    from.raw(1)?;
+    assert_eq!(rt; read_asset(&mut from)?, AssetId::new(31)?);
+    assert_eq!(rt; read_asset(&mut from)?, AssetId::new(1)?);
+    assert_eq!(rt; read_limit(&mut from)?, Limit::new(1 << 24)?);
+    assert_eq!(rt; read_amount(&mut from)?, Amount::new(1 << 62)?);
+    assert_eq!(rt;
+        (from.left(), read_id(&mut from).is_err(), from.place()),
+        (0, true, 35)
+    );
+    Ok(())
+}
+
 // The bytes with a number of eight bytes written over those from the place on.
 fn with_number(mut bytes: [u8; 35], place: usize, number: u64) -> [u8; 35] {
     if place <= 27 {
