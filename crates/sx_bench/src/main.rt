@@ -8,11 +8,16 @@
 //! It proves nothing of time. The scripts under `bench/` compare its figures with other programs.
 #![tactic(auto)]
 
+mod benchmark;
 mod candidates;
+mod drawing;
 mod report;
+mod state;
 
 use anyhow::{Context, Result, bail};
+use benchmark::{Benchmark, time};
 use candidates::Candidates;
+use state::State;
 use std::env;
 use std::io::Write;
 use std::rt::Env;
@@ -24,19 +29,17 @@ struct Request {
     wants_input: bool,
 }
 
-fn request_of(words: &[String]) -> Result<Option<Request>> {
-    match words {
-        [] => Ok(None),
-        [name, size] if name.as_str() == candidates::NAME => Ok(Some(Request {
-            size: size.parse::<u32>().context("the size")?,
+fn request_of(size: &str, rest: &[String]) -> Result<Request> {
+    let size = size.parse::<u32>().context("the size")?;
+    match rest {
+        [] => Ok(Request {
+            size,
             wants_input: false,
-        })),
-        [name, size, input] if name.as_str() == candidates::NAME && input.as_str() == "input" => {
-            Ok(Some(Request {
-                size: size.parse::<u32>().context("the size")?,
-                wants_input: true,
-            }))
-        }
+        }),
+        [word] if word.as_str() == "input" => Ok(Request {
+            size,
+            wants_input: true,
+        }),
         _ => bail!("usage: sx_bench, or sx_bench NAME SIZE, or sx_bench NAME SIZE input"),
     }
 }
@@ -49,24 +52,35 @@ fn words_of(rt: &(impl Env + AllocGlobal)) -> Result<Vec<String>> {
     Ok(words)
 }
 
-fn main(rt: HostRuntime) -> Result<()> {
-    let words = words_of(&rt)?;
-    let Some(request) = request_of(&words)? else {
-        println!(rt; "{} SIZE: {}", candidates::NAME, candidates::WHAT)?;
-        return Ok(());
-    };
-    let candidates = Candidates::new(rt.alloc(), request.size)?;
+// Times the call, or writes its input.
+fn serve(rt: &HostRuntime, name: &str, request: Request, benchmark: &impl Benchmark) -> Result<()> {
     if request.wants_input {
-        rt.stdout().write_all(candidates.bytes())?;
+        rt.stdout().write_all(benchmark.bytes())?;
         return Ok(());
     }
-    let nanoseconds = candidates.time(&rt)?;
-    report::print(
-        &rt,
-        candidates::NAME,
-        request.size,
-        candidates.bytes().len(),
-        nanoseconds,
-    )?;
+    let nanoseconds = time(rt, benchmark)?;
+    report::print(rt, name, request.size, benchmark.bytes().len(), nanoseconds)?;
     Ok(())
+}
+
+fn main(rt: HostRuntime) -> Result<()> {
+    let words = words_of(&rt)?;
+    match words.as_slice() {
+        [] => {
+            println!(rt; "{} SIZE: {}", candidates::NAME, candidates::WHAT)?;
+            println!(rt; "{} SIZE: {}", state::NAME, state::WHAT)?;
+            Ok(())
+        }
+        [name, size, rest @ ..] if name.as_str() == candidates::NAME => {
+            let request = request_of(size, rest)?;
+            let candidates = Candidates::new(rt.alloc(), request.size)?;
+            serve(&rt, candidates::NAME, request, &candidates)
+        }
+        [name, size, rest @ ..] if name.as_str() == state::NAME => {
+            let request = request_of(size, rest)?;
+            let state = State::new(rt.alloc(), request.size)?;
+            serve(&rt, state::NAME, request, &state)
+        }
+        _ => bail!("usage: sx_bench, or sx_bench NAME SIZE, or sx_bench NAME SIZE input"),
+    }
 }

@@ -1,8 +1,14 @@
 -- What a ledger keeps, over its parts: lists and whole numbers.
-use Rattle.std.specs.Prelude.{◌≡◌, ℕ, ◌+◌, ◌^◌, ◌<◌, ◌≤◌, List, length, map, sum_by, slice_index, All, Contains}
+use Rattle.std.specs.Prelude.{◌≡◌, ◌≢◌, ℕ, ◌+◌, ◌^◌, ◌<◌, ◌≤◌, Bool, IsTrue, List, length, map, slice_index, None, nat_le, ◌==◌, ◌&&◌, if◌then◌else◌}
+use Rattle.std.specs.List.{All, Contains, list_any, sum_by}
 use Rattle.std.specs.List.Sorted.{IsStrictlyIncreasing}
+use Rattle.sx_bytes.specs.Grammar.{in_order}
 use Rattle.sx_ledger.specs.declared.account.Account.{Account}
+use Rattle.sx_ledger.specs.declared.key.Key.{Key}
+use Rattle.sx_ledger.specs.declared.offer.Offer.{Offer}
 use Rattle.sx_ledger.specs.declared.parts.Parts.{Parts}
+use Rattle.sx_ledger.specs.Order.{key_of, key_before}
+use Rattle.sx_tx.specs.Transactions.{IsId, IsSeq, IsAmount, IsLimit}
 
 -- what an account holds of an asset
 abbrev pub balance_at : ℕ → Account → ℕ
@@ -15,13 +21,24 @@ ids accounts = map (λ account. account.id.0) accounts
 abbrev pub holds_id : Parts → ℕ → Type 0
 holds_id parts id = Contains (ids parts.accounts) id
 
+abbrev pub keys : List Offer → List Key
+keys offers = map key_of offers
+
+-- some offer has this key
+abbrev pub holds_key : Parts → Key → Type 0
+holds_key parts key = Contains (keys parts.offers) key
+
 -- how many assets there are
 abbrev pub assets_of : Parts → ℕ
 assets_of parts = length parts.prices
 
--- what there is of an asset: in all balances, and kept by rounding
+-- what an offer has of an asset
+abbrev pub offered : ℕ → Offer → ℕ
+offered asset offer = if offer.sell == asset then offer.amount else 0
+
+-- what there is of an asset: in all balances, on offer, and kept by rounding
 abbrev pub total_of : Parts → ℕ → ℕ
-total_of parts asset = sum_by (balance_at asset) parts.accounts + slice_index parts.rounding asset
+total_of parts asset = sum_by (balance_at asset) parts.accounts + (sum_by (offered asset) parts.offers + slice_index parts.rounding asset)
 
 -- a price, in units of 2 ^ -24
 abbrev pub IsPrice : ℕ → Type 0
@@ -29,10 +46,26 @@ IsPrice price = (2 ^ 8 ≤ price) × (price ≤ 2 ^ 40)
 
 -- an account with a balance of each of so many assets
 pub record IsAccount (assets : ℕ) (account : Account) : Type 0 where
-  pub id : account.id.0 < 2 ^ 64
-  pub last : account.last < 2 ^ 63
+  pub id : IsId account.id.0
+  pub last : account.window.last < 2 ^ 63
+  pub used : account.window.used ≡ 0
   pub balances : length account.balances ≡ assets
   pub in_range : All (λ balance. balance ≤ 2 ^ 62) account.balances
+
+-- the account of an offer is there, and has used the offer's number or a greater one
+abbrev pub has_owner : List Account → Offer → Bool
+has_owner accounts offer = list_any (λ account. (account.id.0 == offer.account.0) && nat_le offer.seq account.window.last) accounts
+
+-- an offer of two different assets out of so many, by one of these accounts
+pub record IsOffer (assets : ℕ) (accounts : List Account) (offer : Offer) : Type 0 where
+  pub sell : offer.sell < assets
+  pub buy : offer.buy < assets
+  pub differ : offer.buy ≢ offer.sell
+  pub limit : IsLimit offer.limit
+  pub account : IsId offer.account.0
+  pub seq : IsSeq offer.seq
+  pub amount : IsAmount offer.amount
+  pub owner : IsTrue (has_owner accounts offer)
 
 pub record IsLedger (parts : Parts) : Type 0 where
   pub version : parts.version ≡ 1
@@ -45,4 +78,7 @@ pub record IsLedger (parts : Parts) : Type 0 where
   pub few_accounts : length parts.accounts ≤ 65536
   pub accounts : All (IsAccount (assets_of parts)) parts.accounts
   pub by_id : IsStrictlyIncreasing (ids parts.accounts)
+  pub few_offers : length parts.offers ≤ 262144
+  pub offers : All (IsOffer (assets_of parts) parts.accounts) parts.offers
+  pub by_key : IsTrue (in_order key_before None (keys parts.offers))
   pub totals : (asset : ℕ) → asset < assets_of parts → total_of parts asset ≤ 2 ^ 62

@@ -1,4 +1,12 @@
+pub mod Order
 pub mod Ledger
 pub mod Spelling
 pub mod Reading
 pub mod Laws
+pub mod Static
+pub mod Effects
+pub mod Body
+pub mod Bounds
+pub mod Fills
+pub mod Trade
+pub mod EffectLaws

@@ -2,13 +2,14 @@ ghost use Rattle.std.specs.Prelude.{◌≡◌};
 
 use std::marker::Model;
 use sx_base::{AccountId, Balances};
+use sx_tx::Window;
 
-/// An account: who holds, the greatest sequence number used so far (0 where none was), and the
-/// whole units held of each asset, at the asset's number.
+/// An account: who holds, which of its numbers were used, and the whole units held of each asset,
+/// at the asset's number.
 #[derive(Debug, Drop)]
 pub struct Account {
     pub id: AccountId,
-    pub last: u64,
+    pub window: Window,
     pub balances: Balances,
 }
 

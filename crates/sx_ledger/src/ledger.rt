@@ -1,10 +1,12 @@
-ghost use Rattle.std.specs.Prelude.{◌≡◌, ◌<◌, ◌≤◌, ◌^◌, length, slice_index, slice_get, IfSome, IfNone};
-ghost use Rattle.sx_ledger.specs.Ledger.{IsLedger, assets_of, balance_at, ids, holds_id};
+ghost use Rattle.std.specs.Prelude.{◌≡◌, ◌<◌, ◌≤◌, ◌^◌, length, slice_index, slice_get, IfSome, Some};
+ghost use Rattle.sx_ledger.specs.Ledger.{IsLedger, assets_of, balance_at};
 
 use crate::account::Account;
+use crate::offer::Offer;
 use crate::parts::Parts;
 use std::marker::Model;
-use sx_base::{AccountId, AssetId};
+use sx_base::AssetId;
+use sx_price::Price;
 
 /// The state between two blocks. Contracts see its parts, which keep what `IsLedger` says.
 #[derive(Debug, Drop)]
@@ -40,9 +42,18 @@ impl Ledger {
         self.parts
     }
 
+    /// The parts that the ledger is made of.
+    pub fn parts(&self) -> &Parts
+        ensures parts { result.now ≡ self.now }
+        ensures kept { IsLedger self.now }
+    {
+        &self.parts
+    }
+
     /// The version of the state's form, which is 1.
     pub fn version(&self) -> u8
-        ensures { result ≡ self.now.version }
+        ensures version { result ≡ self.now.version }
+        ensures kept { IsLedger self.now }
     {
         self.parts.version
     }
@@ -66,7 +77,7 @@ impl Ledger {
     }
 
     /// The price of an asset, in units of `2^-24`.
-    pub fn price(&self, asset: AssetId) -> u64
+    pub fn price(&self, asset: AssetId) -> Price
         requires { asset < assets_of self.now }
         ensures price { result ≡ slice_index self.now.prices asset }
         ensures kept { IsLedger self.now }
@@ -78,17 +89,10 @@ impl Ledger {
     pub fn rounding(&self, asset: AssetId) -> u64
         requires { asset < assets_of self.now }
         ensures units { result ≡ slice_index self.now.rounding asset }
+        ensures in_range { result ≤ 2 ^ 62 }
         ensures kept { IsLedger self.now }
     {
         self.parts.rounding.items()[asset.get() as usize]
-    }
-
-    /// The price of each asset, in units of `2^-24`.
-    pub fn prices(&self) -> &[u64]
-        ensures prices { result.now ≡ self.now.prices }
-        ensures kept { IsLedger self.now }
-    {
-        self.parts.prices.items()
     }
 
     /// How many accounts there are, at most 65,536.
@@ -109,19 +113,6 @@ impl Ledger {
         &self.parts.accounts.items()[place as usize]
     }
 
-    /// The place of the account of this id, or `None` where there is no such account. It takes as
-    /// many steps as the number of accounts has binary digits.
-    pub fn find(&self, id: AccountId) -> Option<u32>
-        ensures found { IfSome result (λ place. slice_get (ids self.now.accounts) place ≡ Some id.0) }
-        ensures absent { IfNone result (holds_id self.now id.0 → ⊥) }
-    {
-        let entries = self.parts.accounts.items();
-        match entries.binary_search_by_key(&id.0, |account| account.id.0) {
-            Ok(place) => Some(place as u32),
-            Err(_) => None,
-        }
-    }
-
     /// The whole units of an asset that the account at a place holds.
     pub fn balance(&self, place: u32, asset: AssetId) -> u64
         requires place { place < length self.now.accounts }
@@ -132,11 +123,21 @@ impl Ledger {
         self.account(place).balances.items()[asset.get() as usize]
     }
 
-    /// The parts that the ledger is made of.
-    pub fn parts(&self) -> &Parts
-        ensures parts { result.now ≡ self.now }
+    /// How many offers there are, at most 262,144.
+    pub fn offers(&self) -> u32
+        ensures number { result ≡ length self.now.offers }
+        ensures few { result ≤ 262144 }
         ensures kept { IsLedger self.now }
     {
-        &self.parts
+        self.parts.offers.items().len() as u32
+    }
+
+    /// The offer at a place. The offers stand in the order of their keys, from place 0.
+    pub fn offer(&self, place: u32) -> &Offer
+        requires { place < length self.now.offers }
+        ensures offer { slice_get self.now.offers place ≡ Some result.now }
+        ensures kept { IsLedger self.now }
+    {
+        &self.parts.offers.items()[place as usize]
     }
 }

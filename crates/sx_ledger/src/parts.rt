@@ -1,10 +1,11 @@
 use crate::account::Accounts;
-use crate::prices::Prices;
+use crate::offer::Offers;
 use sx_base::Balances;
+use sx_price::Prices;
 
 /// What a ledger is made of: the version of its form, its height (how many blocks came before),
-/// the price of each asset in units of `2^-24`, the units of each asset kept by rounding, and the
-/// accounts by id.
+/// the price of each asset in units of `2^-24`, the units of each asset kept by rounding, the
+/// accounts by id, and the offers by what is sold, what is bought, limit, account and number.
 #[derive(Debug, Drop)]
 pub struct Parts {
     pub version: u8,
@@ -12,4 +13,5 @@ pub struct Parts {
     pub prices: Prices,
     pub rounding: Balances,
     pub accounts: Accounts,
+    pub offers: Offers,
 }

@@ -1,38 +1,141 @@
-//! What there is of each asset.
+//! What there is of each asset: in all balances, on offer, and kept by rounding.
 
-ghost use Rattle.std.specs.Prelude.{◌≡◌, ◌+◌, ◌<◌, ◌≤◌, length, sum_by, slice_index, All};
-ghost use Rattle.sx_ledger.specs.Ledger.{assets_of, balance_at};
+ghost use Rattle.std.specs.Prelude.{◌≡◌, ℕ, ◌+◌, ◌<◌, ◌≤◌, ◌^◌, All, length, sum_by, slice_index, nat_le};
+ghost use Rattle.std.specs.List.{list_all};
+ghost use Rattle.sx_ledger.specs.Ledger.{assets_of, balance_at, offered, total_of};
 ghost use Rattle.sx_ledger.specs.Reading.{totals_fit as all_fit};
 
 use crate::account::Account;
+use crate::ledger::Ledger;
+use crate::offer::Offer;
 use crate::parts::Parts;
+use sx_base::AssetId;
 
 // The most units that there are of an asset.
 const MOST_UNITS: u128 = 1 << 62;
 
-// What all accounts hold of an asset, and what is kept by rounding.
-fn total(accounts: &[Account], rounding: u64, asset: usize) -> u128
-    requires { All (λ account. asset < length account.balances) accounts.now }
-    ensures { result ≡ sum_by (balance_at asset) accounts.now + rounding }
+// The most assets that there are.
+const MOST_ASSETS: usize = 32;
+
+// Adds the balances of one account.
+fn add_balances(totals: &mut [u128], balances: &[u64])
+    requires one_each { length balances.now ≡ length totals.old }
+    requires room { All (λ total. total ≤ 2 ^ 127) totals.old }
+    ensures as_many { length totals.new ≡ length totals.old }
+    ensures added { (asset : ℕ) → asset < length totals.old → slice_index totals.new asset ≡ slice_index totals.old asset + slice_index balances.now asset }
 {
-    let mut total = u128::from(rounding);
-    for account in accounts {
-        total += u128::from(account.balances.items()[asset]);
+    for asset in 0..balances.len() {
+        totals[asset] += u128::from(balances[asset]);
     }
-    total
 }
 
-/// Whether the total of each asset is in range.
-pub fn totals_fit(parts: &Parts) -> bool
+// Adds the balances of all accounts.
+fn add_accounts(totals: &mut [u128], accounts: &[Account])
+    requires one_each { All (λ account. length account.balances ≡ length totals.old) accounts.now }
+    requires room { All (λ total. total ≤ 2 ^ 100) totals.old }
+    requires few { length accounts.now ≤ 65536 }
+    requires small { All (λ account. All (λ balance. balance ≤ 2 ^ 62) account.balances) accounts.now }
+    ensures as_many { length totals.new ≡ length totals.old }
+    ensures added { (asset : ℕ) → asset < length totals.old → slice_index totals.new asset ≡ slice_index totals.old asset + sum_by (balance_at asset) accounts.now }
+    ensures room { All (λ total. total ≤ 2 ^ 101) totals.new }
+{
+    for account in accounts {
+        add_balances(totals, account.balances.items());
+    }
+}
+
+// Adds what is on offer.
+fn add_offers(totals: &mut [u128], offers: &[Offer])
+    requires sold { All (λ offer. offer.sell < length totals.old) offers.now }
+    requires room { All (λ total. total ≤ 2 ^ 101) totals.old }
+    requires few { length offers.now ≤ 262144 }
+    ensures as_many { length totals.new ≡ length totals.old }
+    ensures added { (asset : ℕ) → asset < length totals.old → slice_index totals.new asset ≡ slice_index totals.old asset + sum_by (offered asset) offers.now }
+{
+    for offer in offers {
+        totals[usize::from(offer.sell.get())] += u128::from(offer.amount.get());
+    }
+}
+
+// Adds up what there is of each asset: one pass over the accounts, and one over the offers.
+fn add_all(totals: &mut [u128], parts: &Parts)
+    requires zero { All (λ total. total ≡ 0) totals.old }
+    requires assets { length totals.old ≡ assets_of parts.now }
     requires rounding { length parts.now.rounding ≡ assets_of parts.now }
+    requires kept { All (λ units. units ≤ 2 ^ 62) parts.now.rounding }
     requires balances { All (λ account. length account.balances ≡ assets_of parts.now) parts.now.accounts }
+    requires small { All (λ account. All (λ balance. balance ≤ 2 ^ 62) account.balances) parts.now.accounts }
+    requires few_accounts { length parts.now.accounts ≤ 65536 }
+    requires sold { All (λ offer. offer.sell < assets_of parts.now) parts.now.offers }
+    requires few_offers { length parts.now.offers ≤ 262144 }
+    ensures as_many { length totals.new ≡ length totals.old }
+    ensures totals { (asset : ℕ) → asset < assets_of parts.now → slice_index totals.new asset ≡ total_of parts.now asset }
+{
+    add_balances(totals, parts.rounding.items());
+    add_accounts(totals, parts.accounts.items());
+    add_offers(totals, parts.offers.items());
+}
+
+fn are_in_range(totals: &[u128]) -> bool
+    ensures { result ≡ list_all (λ total. nat_le total (2 ^ 62)) totals.now }
+{
+    totals.iter().all(|total| *total <= MOST_UNITS)
+}
+
+/// Whether the total of each asset is in range. One pass.
+pub fn totals_fit(parts: &Parts) -> bool
+    requires few_assets { assets_of parts.now ≤ 32 }
+    requires rounding { length parts.now.rounding ≡ assets_of parts.now }
+    requires kept { All (λ units. units ≤ 2 ^ 62) parts.now.rounding }
+    requires balances { All (λ account. length account.balances ≡ assets_of parts.now) parts.now.accounts }
+    requires small { All (λ account. All (λ balance. balance ≤ 2 ^ 62) account.balances) parts.now.accounts }
+    requires few_accounts { length parts.now.accounts ≤ 65536 }
+    requires sold { All (λ offer. offer.sell < assets_of parts.now) parts.now.offers }
+    requires few_offers { length parts.now.offers ≤ 262144 }
     ensures { result ≡ all_fit parts.now (assets_of parts.now) }
 {
-    let accounts = parts.accounts.items();
-    for (asset, rounding) in parts.rounding.items().iter().enumerate() {
-        if total(accounts, *rounding, asset) > MOST_UNITS {
-            return false;
+    let mut room = [0; MOST_ASSETS];
+    let totals = &mut room[..parts.prices.items().len()];
+    add_all(totals, parts);
+    are_in_range(totals)
+}
+
+// What all accounts hold of an asset.
+fn held(accounts: &[Account], asset: usize) -> u128
+    requires { All (λ account. asset < length account.balances) accounts.now }
+    ensures { result ≡ sum_by (balance_at asset) accounts.now }
+{
+    let mut held = 0;
+    for account in accounts {
+        held += u128::from(account.balances.items()[asset]);
+    }
+    held
+}
+
+// What is on offer of an asset.
+fn on_offer(offers: &[Offer], asset: AssetId) -> u128
+    ensures { result ≡ sum_by (offered asset) offers.now }
+{
+    let mut on_offer = 0;
+    for offer in offers {
+        if offer.sell == asset {
+            on_offer += u128::from(offer.amount.get());
         }
     }
-    true
+    on_offer
+}
+
+impl Ledger {
+    /// What there is of an asset, in whole units: in all balances, on offer, and kept by rounding.
+    /// It is at most `2^62`.
+    pub fn total(&self, asset: AssetId) -> u64
+        requires { asset < assets_of self.now }
+        ensures total { result ≡ total_of self.now asset }
+        ensures in_range { result ≤ 2 ^ 62 }
+    {
+        let parts = self.parts();
+        let held = held(parts.accounts.items(), usize::from(asset.get()));
+        let on_offer = on_offer(parts.offers.items(), asset);
+        (held + on_offer + u128::from(self.rounding(asset))) as u64
+    }
 }

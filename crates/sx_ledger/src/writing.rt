@@ -1,38 +1,58 @@
-//! Writing a state.
+//! Writing a state. What is written is the one spelling, and where memory runs out it is taken back.
 
 ghost use Rattle.std.specs.Prelude.{◌≡◌, ◌≤◌, ◌++◌, length, OnOk, OnErr};
 ghost use Rattle.std.specs.List.{flat_map};
 ghost use Rattle.byteorder.specs.Endian.{big_bytes};
+ghost use Rattle.sx_bytes.specs.Written.{Begins};
 ghost use Rattle.sx_ledger.specs.Ledger.{IsLedger};
-ghost use Rattle.sx_ledger.specs.Spelling.{Begins, account_bytes, state_bytes};
+ghost use Rattle.sx_ledger.specs.Spelling.{account_bytes, offer_bytes, state_bytes};
 
 use crate::account::Account;
 use crate::ledger::Ledger;
+use crate::offer::Offer;
 use crate::parts::Parts;
 use sx_bytes::{NoMemory, Writer};
+use sx_price::Price;
 
-#[tactic(auto, using(crate::proofs::Written::begins, crate::proofs::Written::begins_then))]
-fn put_numbers(to: &mut Writer, numbers: &[u64]) -> Result<(), NoMemory>
-    ensures ok { OnOk result (to.new ≡ to.old ++ flat_map (big_bytes 8) numbers.now) }
+// How many bytes the payload of a state has beside its assets, accounts and offers.
+const FRAME_BYTES: u32 = 18;
+
+const OFFER_BYTES: u32 = 34;
+
+#[tactic(auto, using(sx_bytes::proofs::Written::begins, sx_bytes::proofs::Written::begins_then))]
+fn put_prices(to: &mut Writer, prices: &[Price]) -> Result<(), NoMemory>
+    ensures ok { OnOk result (to.new ≡ to.old ++ flat_map (big_bytes 8) prices.now) }
     ensures err { OnErr result (Begins to.old to.new) }
 {
-    for number in numbers {
+    for price in prices {
+        to.put_u64(price.get())?;
+    }
+    Ok(())
+}
+
+// Balances, or roundings.
+#[tactic(auto, using(sx_bytes::proofs::Written::begins, sx_bytes::proofs::Written::begins_then))]
+fn put_units(to: &mut Writer, units: &[u64]) -> Result<(), NoMemory>
+    ensures ok { OnOk result (to.new ≡ to.old ++ flat_map (big_bytes 8) units.now) }
+    ensures err { OnErr result (Begins to.old to.new) }
+{
+    for number in units {
         to.put_u64(*number)?;
     }
     Ok(())
 }
 
-#[tactic(auto, using(crate::proofs::Written::begins, crate::proofs::Written::begins_then))]
+#[tactic(auto, using(sx_bytes::proofs::Written::begins, sx_bytes::proofs::Written::begins_then))]
 fn put_account(to: &mut Writer, account: &Account) -> Result<(), NoMemory>
     ensures ok { OnOk result (to.new ≡ to.old ++ account_bytes account.now) }
     ensures err { OnErr result (Begins to.old to.new) }
 {
     to.put_u64(account.id.0)?;
-    to.put_u64(account.last)?;
-    put_numbers(to, account.balances.items())
+    to.put_u64(account.window.last)?;
+    put_units(to, account.balances.items())
 }
 
-#[tactic(auto, using(crate::proofs::Written::begins, crate::proofs::Written::begins_then))]
+#[tactic(auto, using(sx_bytes::proofs::Written::begins, sx_bytes::proofs::Written::begins_then))]
 fn put_accounts(to: &mut Writer, accounts: &[Account]) -> Result<(), NoMemory>
     ensures ok { OnOk result (to.new ≡ to.old ++ flat_map account_bytes accounts.now) }
     ensures err { OnErr result (Begins to.old to.new) }
@@ -43,7 +63,31 @@ fn put_accounts(to: &mut Writer, accounts: &[Account]) -> Result<(), NoMemory>
     Ok(())
 }
 
-#[tactic(auto, using(crate::proofs::Written::begins, crate::proofs::Written::begins_then))]
+#[tactic(auto, using(sx_bytes::proofs::Written::begins, sx_bytes::proofs::Written::begins_then))]
+fn put_offer(to: &mut Writer, offer: &Offer) -> Result<(), NoMemory>
+    ensures ok { OnOk result (to.new ≡ to.old ++ offer_bytes offer.now) }
+    ensures err { OnErr result (Begins to.old to.new) }
+{
+    to.put_u8(offer.sell.get())?;
+    to.put_u8(offer.buy.get())?;
+    to.put_u64(offer.limit.get())?;
+    to.put_u64(offer.account.0)?;
+    to.put_u64(offer.seq.get())?;
+    to.put_u64(offer.amount.get())
+}
+
+#[tactic(auto, using(sx_bytes::proofs::Written::begins, sx_bytes::proofs::Written::begins_then))]
+fn put_offers(to: &mut Writer, offers: &[Offer]) -> Result<(), NoMemory>
+    ensures ok { OnOk result (to.new ≡ to.old ++ flat_map offer_bytes offers.now) }
+    ensures err { OnErr result (Begins to.old to.new) }
+{
+    for offer in offers {
+        put_offer(to, offer)?;
+    }
+    Ok(())
+}
+
+#[tactic(auto, using(sx_bytes::proofs::Written::begins, sx_bytes::proofs::Written::begins_then))]
 fn put_state(to: &mut Writer, parts: &Parts) -> Result<(), NoMemory>
     requires { IsLedger parts.now }
     ensures ok { OnOk result (to.new ≡ to.old ++ state_bytes parts.now) }
@@ -52,16 +96,18 @@ fn put_state(to: &mut Writer, parts: &Parts) -> Result<(), NoMemory>
     to.put_u8(parts.version)?;
     to.put_u64(parts.height)?;
     to.put_u8(parts.prices.items().len() as u8)?;
-    put_numbers(to, parts.prices.items())?;
-    put_numbers(to, parts.rounding.items())?;
+    put_prices(to, parts.prices.items())?;
+    put_units(to, parts.rounding.items())?;
     to.put_u32(parts.accounts.items().len() as u32)?;
     put_accounts(to, parts.accounts.items())?;
-    to.put_u32(0)
+    to.put_u32(parts.offers.items().len() as u32)?;
+    put_offers(to, parts.offers.items())
 }
 
 impl Ledger {
     /// Appends the payload of the state, which is its one spelling. Where memory runs out, what
     /// was written before stays as it was.
+    #[tactic(auto, using(sx_bytes::proofs::Written::begins_cut))]
     pub fn write_state(&self, to: &mut Writer) -> Result<(), NoMemory>
         ensures ok { OnOk result (to.new ≡ to.old ++ state_bytes self.now) }
         ensures err { OnErr result (to.new ≡ to.old) }
@@ -74,12 +120,13 @@ impl Ledger {
         written
     }
 
-    /// How many bytes the payload of the state has. It takes no memory.
+    /// How many bytes the payload of the state has, at most 26,739,218. It takes no memory.
     pub fn state_length(&self) -> u32
         ensures exact { result ≡ length (state_bytes self.now) }
-        ensures bound { result ≤ 67108864 }
+        ensures bound { result ≤ 26739218 }
     {
         let assets = self.assets();
-        18 + 16 * assets + self.accounts() * (16 + 8 * assets)
+        let accounts = self.accounts() * (16 + 8 * assets);
+        FRAME_BYTES + 16 * assets + accounts + OFFER_BYTES * self.offers()
     }
 }

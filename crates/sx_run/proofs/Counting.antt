@@ -1,16 +1,19 @@
 -- The sums at places are the debits and the credits of the accounts that stand there.
-use Rattle.std.proofs.Common.{◌≡◌, ℕ, ◌+◌, ◌<◌, max, Bool, cond, ◌==◌, ◌&&◌, List, [], ◌∷◌, length, get_or, drop, Some, slice_get, refl, sym, ap, ap₂, ◌∙◌}
+use Rattle.std.proofs.Common.{◌≡◌, ℕ, ◌+◌, ◌<◌, max, Bool, cond, ◌==◌, ◌&&◌, List, [], ◌∷◌, length, get_or, drop, map, Some, slice_get, refl, sym, ap, ap₂, ◌∙◌}
 use Rattle.std.specs.List.Sorted.{IsStrictlyIncreasing}
 use Rattle.std.proofs.lemmas.Bool.Decides.{same_from_decides, Decides-eqb, Decides-like}
 use Rattle.std.proofs.lemmas.List.{drop_more}
 use Rattle.std.proofs.lemmas.Option.{same_Some}
+use Rattle.sx_ledger.specs.declared.offer.Offer.{Offer}
 use Rattle.sx_ledger.specs.declared.parts.Parts.{Parts}
 use Rattle.sx_ledger.specs.Ledger.{ids}
 use Rattle.sx_run.specs.declared.payment.Payment.{Payment}
-use Rattle.sx_run.specs.Effects.{debits, credits, greatest_number}
+use Rattle.sx_ledger.specs.EffectLaws.{greatest_number}
+use Rattle.sx_ledger.specs.Effects.{debits, credits}
+use Rattle.sx_run.specs.Payments.{tx_of}
 use Rattle.sx_run.specs.Places.{StandAt}
 use Rattle.sx_run.specs.Sums.{units_at, number_at}
-use Rattle.sx_run.proofs.Standing.{same_place}
+use Rattle.sx_ledger.proofs.Standing.{same_place}
 
 -- ---- one payment more
 
@@ -52,22 +55,22 @@ units_at-flow parts up who F place id asset none step here (payment ∷ payments
     ap₂ (λ (t : Bool) (n : ℕ). cond (t && (payment.asset == asset)) payment.amount 0 + n) test rest ∙ sym (step payment payments)
 
 pub units_at-debits : (parts : Parts) → IsStrictlyIncreasing (ids parts.accounts) → (place id asset : ℕ) → slice_get (ids parts.accounts) place ≡ Some id
-    → (payments : List Payment) (places : List ℕ) → StandAt parts (λ payment. payment.account.0) payments places → units_at place asset places payments ≡ debits payments id asset
+    → (payments : List Payment) (places : List ℕ) → StandAt parts (λ payment. payment.account.0) payments places → units_at place asset places payments ≡ debits (map tx_of payments) id asset
 units_at-debits parts up place id asset here payments places e =
-    units_at-flow parts up (λ payment. payment.account.0) (λ payments. debits payments id asset) place id asset refl (λ _ _. refl) here payments places e
+    units_at-flow parts up (λ payment. payment.account.0) (λ payments. debits (map tx_of payments) id asset) place id asset refl (λ _ _. refl) here payments places e
 
-pub units_at-credits : (parts : Parts) → IsStrictlyIncreasing (ids parts.accounts) → (place id asset : ℕ) → slice_get (ids parts.accounts) place ≡ Some id
-    → (payments : List Payment) (places : List ℕ) → StandAt parts (λ payment. payment.to.0) payments places → units_at place asset places payments ≡ credits payments id asset
-units_at-credits parts up place id asset here payments places e =
-    units_at-flow parts up (λ payment. payment.to.0) (λ payments. credits payments id asset) place id asset refl (λ _ _. refl) here payments places e
+pub units_at-credits : (parts : Parts) → IsStrictlyIncreasing (ids parts.accounts) → (offers : List Offer) (place id asset : ℕ) → slice_get (ids parts.accounts) place ≡ Some id
+    → (payments : List Payment) (places : List ℕ) → StandAt parts (λ payment. payment.to.0) payments places → units_at place asset places payments ≡ credits offers (map tx_of payments) id asset
+units_at-credits parts up offers place id asset here payments places e =
+    units_at-flow parts up (λ payment. payment.to.0) (λ payments. credits offers (map tx_of payments) id asset) place id asset refl (λ _ _. refl) here payments places e
 
 pub number_at-greatest : (parts : Parts) → IsStrictlyIncreasing (ids parts.accounts) → (place id : ℕ) → slice_get (ids parts.accounts) place ≡ Some id
-    → (payments : List Payment) (places : List ℕ) → StandAt parts (λ payment. payment.account.0) payments places → number_at place places payments ≡ greatest_number payments id
+    → (payments : List Payment) (places : List ℕ) → StandAt parts (λ payment. payment.account.0) payments places → number_at place places payments ≡ greatest_number (map tx_of payments) id
 number_at-greatest parts up place id here [] [] e = refl
 number_at-greatest parts up place id here (payment ∷ payments) [] e = cc
 number_at-greatest parts up place id here [] (at ∷ places) e = cc
 number_at-greatest parts up place id here (payment ∷ payments) (at ∷ places) e =
     let there : slice_get (ids parts.accounts) at ≡ Some payment.account.0 = cc in
-    let rest : number_at place places payments ≡ greatest_number payments id = number_at-greatest parts up place id here payments places cc in
+    let rest : number_at place places payments ≡ greatest_number (map tx_of payments) id = number_at-greatest parts up place id here payments places cc in
     let test : (at == place) ≡ (payment.account.0 == id) = same_test (ids parts.accounts) up at place payment.account.0 id there here in
     ap₂ (λ (t : Bool) (n : ℕ). max (cond t payment.seq 0) n) test rest

@@ -1,5 +1,5 @@
 -- What is read as the header of a block is spelled so, and what is spelled so is read.
-use Rattle.std.proofs.Common.{◌≡◌, ℕ, zero, suc, ◌+◌, ◌*◌, ◌-◌, ◌^◌, ◌<◌, ◌≤◌, true, false, cond, ◌&&◌, leb, ltb, eqb, List, [], ◌∷◌, ◌++◌, length, take, drop, Result, Ok, Err, refl, sym, ap, subst, ◌∙◌, append_assoc, arith}
+use Rattle.std.proofs.Common.{◌≡◌, ℕ, zero, suc, ◌+◌, ◌*◌, ◌-◌, ◌^◌, ◌<◌, ◌≤◌, true, false, cond, ltb, eqb, List, [], ◌∷◌, ◌++◌, length, take, drop, Result, Ok, Err, refl, sym, ap, subst, ◌∙◌, append_assoc, arith}
 use Rattle.std.specs.Prelude.{replicate}
 use Rattle.std.specs.List.{flat_map, list_all, AllByRecursion}
 use Rattle.std.proofs.lemmas.Bool.{eqb-true, ltb-false, le-ltb}
@@ -9,15 +9,15 @@ use Rattle.sx_bytes.specs.declared.fault.Form.TheVariants as form
 use Rattle.sx_bytes.specs.declared.fault.FormFault.{FormFault}
 use Rattle.sx_bytes.specs.Field.{AreBytes}
 use Rattle.sx_bytes.specs.Cursor.{Cursor, rest, left, moved, raw_at}
-use Rattle.sx_bytes.specs.Grammar.{◌>>=◌, or_fault, field_at, many_at}
-use Rattle.sx_bytes.proofs.Grammar.{bind_ok, guard_ok, guard_short, or_fault_ok, AreBytes-take, AreBytes-drop, moved_takes, length-rest, Takes, Takes-then, Again, field_takes, field_again, many_takes, many_again, done}
+use Rattle.sx_bytes.specs.Grammar.{◌>>=◌, or_fault, between, field_at, many_at}
+use Rattle.sx_bytes.proofs.Grammar.{bind_ok, guard_ok, guard_short, or_fault_ok, AreBytes-take, AreBytes-drop, moved_takes, length-rest, Takes, Takes-then, Again, many_takes, many_again, done}
 use Rattle.sx_bytes.proofs.Ordered.{and_parts}
+use Rattle.sx_bytes.proofs.Steps.{bytes_behind, range_takes, range_again}
 use Rattle.sx_ledger.specs.Ledger.{IsPrice}
 use Rattle.sx_ledger.specs.Reading.{price_at}
 use Rattle.sx_run.specs.declared.block.Header.{Header}
 use Rattle.sx_run.specs.Block.{IsDigest}
 use Rattle.sx_run.specs.BlockReading.{digest_at, zeros_at, height_at, mu_at, assets_at, front_at, no_trade_at, header_at}
-use Rattle.sx_run.proofs.PaymentLaws.{bytes_behind, within_is, within_test}
 
 -- ---- bytes as they are
 
@@ -129,28 +129,27 @@ front_takes : (c next : Cursor) (x : ℕ × List ℕ × List ℕ × ℕ) → Are
     → Takes c (front_bytes x.0 x.1 x.2 x.3) next × IsFront x.0 x.1 x.2 x.3
 unfolding front_at
 front_takes c next x bytes e =
-    let v = bind_ok (field_at 1 (λ version. eqb version 1) form.Version c) at_version (x, next) e in
+    let v = bind_ok (field_at 1 (between 1 1) form.Version c) at_version (x, next) e in
     let h = bind_ok (height_at v.0.1) at_height (x, next) v.2 in
     let p = bind_ok (digest_at h.0.1) (at_parent h.0.0) (x, next) h.2 in
     let b = bind_ok (digest_at p.0.1) (at_body h.0.0 p.0.0) (x, next) p.2 in
     let m = bind_ok (mu_at b.0.1) (at_mu h.0.0 p.0.0 b.0.0) (x, next) b.2 in
-    let t0 = field_takes 1 (λ version. eqb version 1) form.Version c v.0.1 v.0.0 bytes v.1 in
+    let t0 = range_takes 1 1 1 form.Version c v.0.1 v.0.0 bytes v.1 in
     let bytes1 = bytes_behind c v.0.1 (big_bytes 1 v.0.0) t0.0 bytes in
-    let t1 = field_takes 8 (λ height. leb 0 height && leb height (2 ^ 63 - 1)) form.HeightRange v.0.1 h.0.1 h.0.0 bytes1 h.1 in
+    let t1 = range_takes 8 0 (2 ^ 63 - 1) form.HeightRange v.0.1 h.0.1 h.0.0 bytes1 h.1 in
     let bytes2 = bytes_behind v.0.1 h.0.1 (big_bytes 8 h.0.0) t1.0 bytes1 in
     let t2 = digest_takes h.0.1 p.0.1 p.0.0 bytes2 p.1 in
     let bytes3 = bytes_behind h.0.1 p.0.1 p.0.0 t2.0 bytes2 in
     let t3 = digest_takes p.0.1 b.0.1 b.0.0 bytes3 b.1 in
     let bytes4 = bytes_behind p.0.1 b.0.1 b.0.0 t3.0 bytes3 in
-    let t4 = field_takes 1 (λ j. leb 1 j && leb j 20) form.MuRange b.0.1 m.0.1 m.0.0 bytes4 m.1 in
-    let version : Takes c (big_bytes 1 1) v.0.1 = subst (λ (n : ℕ). Takes c (big_bytes 1 n) v.0.1) (eqb-true v.0.0 1 t0.1) t0.0 in
-    let height = within_is 0 h.0.0 (2 ^ 63 - 1) t1.1 in
-    let mu = within_is 1 m.0.0 20 t4.1 in
-    let is : IsFront h.0.0 p.0.0 b.0.0 m.0.0 = record { height_fits = omega (arith, height.1); parent_is = t2.1; body_is = t3.1; some_mu = mu.0; mu_fits = mu.1 } in
+    let t4 = range_takes 1 1 20 form.MuRange b.0.1 m.0.1 m.0.0 bytes4 m.1 in
+    let is_one : v.0.0 ≡ 1 = omega (arith, t0.1, t0.2) in
+    let version : Takes c (big_bytes 1 1) v.0.1 = subst (λ (n : ℕ). Takes c (big_bytes 1 n) v.0.1) is_one t0.0 in
+    let is : IsFront h.0.0 p.0.0 b.0.0 m.0.0 = record { height_fits = omega (arith, t1.2); parent_is = t2.1; body_is = t3.1; some_mu = t4.1; mu_fits = t4.2 } in
     same_front c next m.0.1 h.0.0 p.0.0 b.0.0 m.0.0 x m.2 (front_take c v.0.1 h.0.1 p.0.1 b.0.1 m.0.1 h.0.0 p.0.0 b.0.0 m.0.0 version t1.0 t2.0 t3.0 t4.0) is
 
 front_made : (c0 c1 c2 c3 c4 c5 : Cursor) (height : ℕ) (parent body : List ℕ) (mu : ℕ)
-    → field_at 1 (λ version. eqb version 1) form.Version c0 ≡ Ok (1, c1) → height_at c1 ≡ Ok (height, c2) → digest_at c2 ≡ Ok (parent, c3) → digest_at c3 ≡ Ok (body, c4) → mu_at c4 ≡ Ok (mu, c5)
+    → field_at 1 (between 1 1) form.Version c0 ≡ Ok (1, c1) → height_at c1 ≡ Ok (height, c2) → digest_at c2 ≡ Ok (parent, c3) → digest_at c3 ≡ Ok (body, c4) → mu_at c4 ≡ Ok (mu, c5)
     → front_at c0 ≡ Ok ((height, parent, body, mu), c5)
 unfolding front_at
 front_made c0 c1 c2 c3 c4 c5 height parent body mu e0 e1 e2 e3 e4 = rw (e0, e1, e2, e3, e4) refl
@@ -161,12 +160,12 @@ front_again c height parent body mu after is within e =
     let s3 : List ℕ = body ++ big_bytes 1 mu in
     let s2 : List ℕ = parent ++ s3 in
     let s1 : List ℕ = big_bytes 8 height ++ s2 in
-    let v = field_again 1 (λ version. eqb version 1) form.Version c 1 (s1 ++ after) (omega arith) refl within (e ∙ append_assoc (big_bytes 1 1) s1 after) in
-    let h = field_again 8 (λ height. leb 0 height && leb height (2 ^ 63 - 1)) form.HeightRange v.next height (s2 ++ after) (omega (arith, is.height_fits)) (within_test 0 height (2 ^ 63 - 1) (omega arith) (omega (arith, is.height_fits))) v.within
+    let v = range_again 1 1 1 form.Version c 1 (s1 ++ after) (omega arith) (omega arith) (omega arith) within (e ∙ append_assoc (big_bytes 1 1) s1 after) in
+    let h = range_again 8 0 (2 ^ 63 - 1) form.HeightRange v.next height (s2 ++ after) (omega arith) (omega arith) (omega (arith, is.height_fits)) v.within
     (v.rest_is ∙ append_assoc (big_bytes 8 height) s2 after) in
     let p = digest_again h.next parent (s3 ++ after) is.parent_is h.within (h.rest_is ∙ append_assoc parent s3 after) in
     let b = digest_again p.next body (big_bytes 1 mu ++ after) is.body_is p.within (p.rest_is ∙ append_assoc body (big_bytes 1 mu) after) in
-    let m = field_again 1 (λ j. leb 1 j && leb j 20) form.MuRange b.next mu after (omega (arith, is.mu_fits)) (within_test 1 mu 20 is.some_mu is.mu_fits) b.within b.rest_is in
+    let m = range_again 1 1 20 form.MuRange b.next mu after (omega arith) is.some_mu is.mu_fits b.within b.rest_is in
     record {
       next = m.next;
       is = front_made c v.next h.next p.next b.next m.next height parent body mu v.is h.is p.is b.is m.is;
@@ -187,28 +186,30 @@ abbrev at_dropped : ℕ → ℕ × Cursor → Result (ℕ × Cursor) FormFault
 at_dropped n dropped = zeros_at (4 * n) dropped.1 >>= at_potentials n
 
 abbrev at_trades : ℕ → ℕ × Cursor → Result (ℕ × Cursor) FormFault
-at_trades n trades = field_at 1 (λ flag. eqb flag 0) form.Tag trades.1 >>= at_dropped n
+at_trades n trades = field_at 1 (between 0 0) form.Tag trades.1 >>= at_dropped n
 
 no_trade_takes : (n : ℕ) (c next : Cursor) (x : ℕ) → AreBytes c.bytes → no_trade_at n c ≡ Ok (x, next) → Takes c (no_trade_bytes n) next
 unfolding no_trade_at
 no_trade_takes n c next x bytes e =
-    let t = bind_ok (field_at 2 (λ n. eqb n 0) form.TooMany c) (at_trades n) (x, next) e in
-    let d = bind_ok (field_at 1 (λ flag. eqb flag 0) form.Tag t.0.1) (at_dropped n) (x, next) t.2 in
+    let t = bind_ok (field_at 2 (between 0 0) form.TooMany c) (at_trades n) (x, next) e in
+    let d = bind_ok (field_at 1 (between 0 0) form.Tag t.0.1) (at_dropped n) (x, next) t.2 in
     let p = bind_ok (zeros_at (4 * n) d.0.1) (at_potentials n) (x, next) d.2 in
-    let t0 = field_takes 2 (λ n. eqb n 0) form.TooMany c t.0.1 t.0.0 bytes t.1 in
+    let t0 = range_takes 2 0 0 form.TooMany c t.0.1 t.0.0 bytes t.1 in
     let bytes1 = bytes_behind c t.0.1 (big_bytes 2 t.0.0) t0.0 bytes in
-    let t1 = field_takes 1 (λ flag. eqb flag 0) form.Tag t.0.1 d.0.1 d.0.0 bytes1 d.1 in
+    let t1 = range_takes 1 0 0 form.Tag t.0.1 d.0.1 d.0.0 bytes1 d.1 in
     let bytes2 = bytes_behind t.0.1 d.0.1 (big_bytes 1 d.0.0) t1.0 bytes1 in
     let t2 = zeros_takes (4 * n) d.0.1 p.0.1 p.0.0 bytes2 p.1 in
     let bytes3 = bytes_behind d.0.1 p.0.1 (replicate (4 * n) 0) t2.0 bytes2 in
     let t3 = zeros_takes (8 * n) p.0.1 next x bytes3 p.2 in
-    let trades : Takes c (big_bytes 2 0) t.0.1 = subst (λ (m : ℕ). Takes c (big_bytes 2 m) t.0.1) (eqb-true t.0.0 0 t0.1) t0.0 in
-    let dropped : Takes t.0.1 (big_bytes 1 0) d.0.1 = subst (λ (m : ℕ). Takes t.0.1 (big_bytes 1 m) d.0.1) (eqb-true d.0.0 0 t1.1) t1.0 in
+    let no_trades : t.0.0 ≡ 0 = omega (arith, t0.2) in
+    let none_dropped : d.0.0 ≡ 0 = omega (arith, t1.2) in
+    let trades : Takes c (big_bytes 2 0) t.0.1 = subst (λ (m : ℕ). Takes c (big_bytes 2 m) t.0.1) no_trades t0.0 in
+    let dropped : Takes t.0.1 (big_bytes 1 0) d.0.1 = subst (λ (m : ℕ). Takes t.0.1 (big_bytes 1 m) d.0.1) none_dropped t1.0 in
     Takes-then c t.0.1 next (big_bytes 2 0) (big_bytes 1 0 ++ (replicate (4 * n) 0 ++ replicate (8 * n) 0)) trades
     (Takes-then t.0.1 d.0.1 next (big_bytes 1 0) (replicate (4 * n) 0 ++ replicate (8 * n) 0) dropped
     (Takes-then d.0.1 p.0.1 next (replicate (4 * n) 0) (replicate (8 * n) 0) t2.0 t3.0))
 
-no_trade_made : (n : ℕ) (c0 c1 c2 c3 c4 : Cursor) → field_at 2 (λ n. eqb n 0) form.TooMany c0 ≡ Ok (0, c1) → field_at 1 (λ flag. eqb flag 0) form.Tag c1 ≡ Ok (0, c2)
+no_trade_made : (n : ℕ) (c0 c1 c2 c3 c4 : Cursor) → field_at 2 (between 0 0) form.TooMany c0 ≡ Ok (0, c1) → field_at 1 (between 0 0) form.Tag c1 ≡ Ok (0, c2)
     → zeros_at (4 * n) c2 ≡ Ok (4 * n, c3) → zeros_at (8 * n) c3 ≡ Ok (8 * n, c4) → no_trade_at n c0 ≡ Ok (8 * n, c4)
 unfolding no_trade_at
 no_trade_made n c0 c1 c2 c3 c4 e0 e1 e2 e3 = rw (e0, e1, e2, e3) refl
@@ -217,8 +218,8 @@ no_trade_again : (n : ℕ) (c : Cursor) (after : List ℕ) → c.place ≤ lengt
 no_trade_again n c after within e =
     let s2 : List ℕ = replicate (4 * n) 0 ++ replicate (8 * n) 0 in
     let s1 : List ℕ = big_bytes 1 0 ++ s2 in
-    let t = field_again 2 (λ n. eqb n 0) form.TooMany c 0 (s1 ++ after) (omega arith) refl within (e ∙ append_assoc (big_bytes 2 0) s1 after) in
-    let d = field_again 1 (λ flag. eqb flag 0) form.Tag t.next 0 (s2 ++ after) (omega arith) refl t.within (t.rest_is ∙ append_assoc (big_bytes 1 0) s2 after) in
+    let t = range_again 2 0 0 form.TooMany c 0 (s1 ++ after) (omega arith) (omega arith) (omega arith) within (e ∙ append_assoc (big_bytes 2 0) s1 after) in
+    let d = range_again 1 0 0 form.Tag t.next 0 (s2 ++ after) (omega arith) (omega arith) (omega arith) t.within (t.rest_is ∙ append_assoc (big_bytes 1 0) s2 after) in
     let p = zeros_again (4 * n) d.next (replicate (8 * n) 0 ++ after) d.within (d.rest_is ∙ append_assoc (replicate (4 * n) 0) (replicate (8 * n) 0) after) in
     let r = zeros_again (8 * n) p.next after p.within p.rest_is in
     record {
@@ -233,14 +234,12 @@ no_trade_again n c after within e =
 
 price_takes : (c next : Cursor) (x : ℕ) → AreBytes c.bytes → price_at c ≡ Ok (x, next) → Takes c (big_bytes 8 x) next × IsPrice x
 price_takes c next x bytes e =
-    let t = field_takes 8 (λ price. leb (2 ^ 8) price && leb price (2 ^ 40)) form.PriceRange c next x bytes e in
-    let p = within_is (2 ^ 8) x (2 ^ 40) t.1 in
-    (t.0, (p.0, p.1))
+    let t = range_takes 8 (2 ^ 8) (2 ^ 40) form.PriceRange c next x bytes e in
+    (t.0, (t.1, t.2))
 
 price_again : (c : Cursor) (x : ℕ) (after : List ℕ) → IsPrice x → c.place ≤ length c.bytes → rest c ≡ big_bytes 8 x ++ after → Again (price_at c) c x after
 price_again c x after is within e =
-    let top : x ≤ 2 ^ 40 = is.1 in
-    field_again 8 (λ price. leb (2 ^ 8) price && leb price (2 ^ 40)) form.PriceRange c x after (omega arith) (within_test (2 ^ 8) x (2 ^ 40) is.0 is.1) within e
+    range_again 8 (2 ^ 8) (2 ^ 40) form.PriceRange c x after (omega arith) is.0 is.1 within e
 
 -- ---- the header
 
@@ -300,17 +299,16 @@ header_takes c next x bytes e =
     let d = bind_ok (digest_at z.0.1) (at_after f.0.0.0 f.0.0.1 f.0.0.2 f.0.0.3 p.0.0) (x, next) z.2 in
     let t0 = front_takes c f.0.1 f.0.0 bytes f.1 in
     let bytes1 = bytes_behind c f.0.1 (front_bytes f.0.0.0 f.0.0.1 f.0.0.2 f.0.0.3) t0.0 bytes in
-    let t1 = field_takes 1 (λ n. leb 1 n && leb n 32) form.AssetCount f.0.1 a.0.1 a.0.0 bytes1 a.1 in
+    let t1 = range_takes 1 1 32 form.AssetCount f.0.1 a.0.1 a.0.0 bytes1 a.1 in
     let bytes2 = bytes_behind f.0.1 a.0.1 (big_bytes 1 a.0.0) t1.0 bytes1 in
     let t2 = many_takes price_at (big_bytes 8) IsPrice price_takes a.0.0 a.0.1 p.0.1 p.0.0 bytes2 p.1 in
     let bytes3 = bytes_behind a.0.1 p.0.1 (flat_map (big_bytes 8) p.0.0) t2.0 bytes2 in
     let t3 = no_trade_takes a.0.0 p.0.1 z.0.1 z.0.0 bytes3 z.1 in
     let bytes4 = bytes_behind p.0.1 z.0.1 (no_trade_bytes a.0.0) t3 bytes3 in
     let t4 = digest_takes z.0.1 d.0.1 d.0.0 bytes4 d.1 in
-    let n = within_is 1 a.0.0 32 t1.1 in
     let h : Header = record { height = f.0.0.0; parent = f.0.0.1; body = f.0.0.2; mu = f.0.0.3; prices = p.0.0; after = d.0.0 } in
     same_header c next d.0.1 h x d.2 (header_take c f.0.1 a.0.1 p.0.1 z.0.1 d.0.1 h a.0.0 t2.1 t0.0 t1.0 t2.0 t3 t4.0)
-    (record { front = t0.1; some_asset = subst (λ (m : ℕ). 1 ≤ m) (sym t2.1) n.0; few_assets = subst (λ (m : ℕ). m ≤ 32) (sym t2.1) n.1; prices = t2.2; after = t4.1 })
+    (record { front = t0.1; some_asset = subst (λ (m : ℕ). 1 ≤ m) (sym t2.1) t1.1; few_assets = subst (λ (m : ℕ). m ≤ 32) (sym t2.1) t1.2; prices = t2.2; after = t4.1 })
 
 header_made : (c0 c1 c2 c3 c4 c5 : Cursor) (h : Header) (filler : ℕ)
     → front_at c0 ≡ Ok ((h.height, h.parent, h.body, h.mu), c1) → assets_at c1 ≡ Ok (length h.prices, c2) → many_at price_at (length h.prices) c2 ≡ Ok (h.prices, c3)
@@ -325,7 +323,7 @@ header_again c h after is within e =
     let s2 : List ℕ = flat_map (big_bytes 8) h.prices ++ s3 in
     let s1 : List ℕ = big_bytes 1 n ++ s2 in
     let f = front_again c h.height h.parent h.body h.mu (s1 ++ after) is.front within (e ∙ append_assoc (front_bytes h.height h.parent h.body h.mu) s1 after) in
-    let a = field_again 1 (λ n. leb 1 n && leb n 32) form.AssetCount f.next n (s2 ++ after) (omega (arith, is.few_assets)) (within_test 1 n 32 is.some_asset is.few_assets) f.within (f.rest_is ∙ append_assoc (big_bytes 1 n) s2 after) in
+    let a = range_again 1 1 32 form.AssetCount f.next n (s2 ++ after) (omega arith) is.some_asset is.few_assets f.within (f.rest_is ∙ append_assoc (big_bytes 1 n) s2 after) in
     let p = many_again price_at (big_bytes 8) IsPrice price_again h.prices a.next (s3 ++ after) is.prices a.within (a.rest_is ∙ append_assoc (flat_map (big_bytes 8) h.prices) s3 after) in
     let z = no_trade_again n p.next (h.after ++ after) p.within (p.rest_is ∙ append_assoc (no_trade_bytes n) h.after after) in
     let d = digest_again z.next h.after after is.after z.within z.rest_is in

@@ -1,13 +1,12 @@
 pub mod Table
+pub mod Pushing
 pub mod Standing
 pub mod Counting
-pub mod Adding
+pub mod Paying
 pub mod Conserving
 pub mod Applying
-pub mod PaymentLaws
 pub mod HeaderLaws
 pub mod BlockLaws
 pub mod Framing
 pub mod Deciding
 pub mod Input
-pub mod Searching

@@ -1,30 +1,18 @@
 -- What stands at the places of a list of accounts, and where the accounts of payments stand.
-use Rattle.std.proofs.Common.{◌≡◌, ℕ, zero, suc, ◌+◌, ◌-◌, ◌<◌, ◌≤◌, List, [], ◌∷◌, ◌++◌, length, get_or, take, map, All, Contains, Option, Some, slice_get, option_map, IfSome, inl, inr, refl, sym, ap, ◌∙◌, arith}
+use Rattle.std.proofs.Common.{◌≡◌, ℕ, ◌+◌, ◌<◌, ◌≤◌, List, [], ◌∷◌, ◌++◌, length, get_or, take, map, All, Contains, Option, Some, slice_get, option_map, IfSome, sym, ap, ◌∙◌, arith}
 use Rattle.std.specs.List.Sorted.{IsStrictlyIncreasing}
-use Rattle.std.proofs.lemmas.Bool.{cases_order}
 use Rattle.std.proofs.lemmas.List.{length-map, map_more, map_push}
 use Rattle.std.proofs.lemmas.List.Elements.{All-nil, All-cons}
-use Rattle.std.proofs.lemmas.Option.{none-some, same_Some, slice_get-map, slice_get_within, get_or_from_slice_get}
+use Rattle.std.proofs.lemmas.Option.{slice_get-map, slice_get_within, get_or_from_slice_get}
 use Rattle.sx_ledger.specs.declared.account.Account.{Account}
 use Rattle.sx_ledger.specs.declared.parts.Parts.{Parts}
 use Rattle.sx_ledger.specs.Ledger.{ids}
+use Rattle.sx_ledger.proofs.Lookup.{entry_at}
+use Rattle.sx_ledger.proofs.Standing.{same_place}
 use Rattle.sx_run.specs.declared.payment.Payment.{Payment}
-use Rattle.sx_run.specs.Effects.{IsOpenTo}
-use Rattle.sx_run.specs.Places.{StandAt}
+use Rattle.sx_run.specs.Places.{IsOpenTo, StandAt}
 
 -- ---- one place
-
--- an entry with the id stands at the place
-pub record HasEntry (accounts : List Account) (place id : ℕ) : Type 0 where
-  pub entry : Account
-  pub there : slice_get accounts place ≡ Some entry
-  pub is : entry.id.0 ≡ id
-
-pub entry_at : (accounts : List Account) (place id : ℕ) → slice_get (ids accounts) place ≡ Some id → HasEntry accounts place id
-entry_at [] place id e = absurd (none-some id e)
-entry_at (account ∷ accounts) zero id e = record { entry = account; there = refl; is = same_Some _ _ e }
-entry_at (account ∷ accounts) (suc place) id e =
-    let found = entry_at accounts place id e in record { entry = found.entry; there = found.there; is = found.is }
 
 pub id_at : (accounts : List Account) (place : ℕ) (entry : Account) → slice_get accounts place ≡ Some entry → slice_get (ids accounts) place ≡ Some entry.id.0
 id_at accounts place entry e = slice_get-map (λ (account : Account). account.id.0) accounts place ∙ ap (option_map (λ (account : Account). account.id.0)) e
@@ -35,37 +23,10 @@ within accounts place id e = omega (arith, slice_get_within (ids accounts) place
 pub contains_at : (xs : List ℕ) (place x : ℕ) → slice_get xs place ≡ Some x → Contains xs x
 contains_at xs place x e = (place, slice_get_within xs place x e, get_or_from_slice_get xs place x x e)
 
--- ---- one place an id
-
-rises : (xs : List ℕ) → IsStrictlyIncreasing xs → (i k : ℕ) → i + k + 1 < length xs → get_or xs i 0 < get_or xs (i + k + 1) 0
-rises xs up i zero lt = let same : i + zero + 1 ≡ i + 1 = omega arith in rw same (up i (omega arith))
-rises xs up i (suc k) lt =
-    let before : get_or xs i 0 < get_or xs (i + k + 1) 0 = rises xs up i k (omega arith) in
-    let step : get_or xs (i + k + 1) 0 < get_or xs (i + k + 1 + 1) 0 = up (i + k + 1) (omega arith) in
-    let same : i + suc k + 1 ≡ i + k + 1 + 1 = omega arith in
-    rw same (omega arith)
-
--- numbers that rise are apart at two places
-apart_at : (xs : List ℕ) → IsStrictlyIncreasing xs → (p q x : ℕ) → p < q → slice_get xs p ≡ Some x → slice_get xs q ≡ Some x → ⊥
-apart_at xs up p q x lt here there =
-    let same : p + (q - p - 1) + 1 ≡ q = omega arith in
-    let in_range : q < length xs = slice_get_within xs q x there in
-    let rise : get_or xs p 0 < get_or xs (p + (q - p - 1) + 1) 0 = rises xs up p (q - p - 1) (omega arith) in
-    let rise_to : get_or xs p 0 < get_or xs q 0 = rw same at rise in
-    omega (arith, get_or_from_slice_get xs p x 0 here, get_or_from_slice_get xs q x 0 there)
-
-pub same_place : (xs : List ℕ) → IsStrictlyIncreasing xs → (p q x : ℕ) → slice_get xs p ≡ Some x → slice_get xs q ≡ Some x → p ≡ q
-same_place xs up p q x here there =
-    elim (cases_order p q) [
-      | inl e ↦ e
-      | inr (inl lt) ↦ absurd (apart_at xs up p q x lt here there)
-      | inr (inr gt) ↦ absurd (apart_at xs up q p x gt there here)
-    ]
-
 -- ---- the window of a place
 
 abbrev pub TakesNumber : ℕ → Account → Type 0
-TakesNumber number entry = (entry.last < number) × (number ≤ entry.last + 64)
+TakesNumber number entry = (entry.window.last < number) × (number ≤ entry.window.last + 64)
 
 -- an account is open to a number as its entry says
 pub takes_number : (parts : Parts) → IsStrictlyIncreasing (ids parts.accounts) → (place account number : ℕ) → slice_get (ids parts.accounts) place ≡ Some account
@@ -78,9 +39,9 @@ takes_number parts up place account number here open_to =
 pub open_to_number : (parts : Parts) (place account number : ℕ) → slice_get (ids parts.accounts) place ≡ Some account
     → IfSome (slice_get parts.accounts place) (TakesNumber number) → IsOpenTo parts account number
 open_to_number parts place account number here takes =
-    let found = entry_at parts.accounts place account here in
-    let both : TakesNumber number found.entry = rw found.there at takes in
-    record { place = place; entry = found.entry; there = found.there; id = found.is; above = both.0; within = both.1 }
+    let found = entry_at (λ (entry : Account). entry.id.0) parts.accounts place account here in
+    let both : TakesNumber number found.0 = rw found.1 at takes in
+    record { place = place; entry = found.0; there = found.1; id = sym found.2; above = both.0; within = both.1 }
 
 -- ---- the places of payments
 
@@ -92,10 +53,6 @@ StandAt-push parts who payments i payment places place lt is here before =
     ∙ ap (λ (xs : List (Option ℕ)). xs ++ slice_get (ids parts.accounts) place ∷ []) before
     ∙ ap (λ (x : Option ℕ). map (λ (payment : Payment). Some (who payment)) (take i payments) ++ x ∷ []) (here ∙ ap (λ (payment : Payment). Some (who payment)) is)
     ∙ sym (map_more (λ (payment : Payment). Some (who payment)) payments i payment lt)
-
-pub length-StandAt : (parts : Parts) (who : Payment → ℕ) (payments : List Payment) (places : List ℕ) → StandAt parts who payments places → length places ≡ length payments
-length-StandAt parts who payments places e =
-    sym (length-map places (λ (place : ℕ). slice_get (ids parts.accounts) place)) ∙ ap length e ∙ length-map payments (λ (payment : Payment). Some (who payment))
 
 pub All-StandAt : (parts : Parts) (who : Payment → ℕ) (payments : List Payment) (places : List ℕ) → StandAt parts who payments places → All (λ place. place < length parts.accounts) places
 All-StandAt parts who payments [] e = All-nil (λ place. place < length parts.accounts)

@@ -1,40 +1,16 @@
--- Reading a block of payments from left to right.
-use Rattle.std.specs.Prelude.{◌≡◌, ℕ, ◌*◌, ◌-◌, ◌^◌, true, List, None, Result, Ok, Err, nat_lt, nat_le, ◌==◌, ◌&&◌, if◌then◌else◌}
+-- Reading a block without trades from left to right.
+use Rattle.std.specs.Prelude.{◌≡◌, ℕ, ◌*◌, ◌-◌, ◌^◌, List, None, Result, Ok, Err, ◌==◌, if◌then◌else◌}
 use Rattle.std.specs.List.{list_all}
 use Rattle.sx_bytes.specs.declared.fault.Form.TheVariants as form
 use Rattle.sx_bytes.specs.declared.fault.FormFault.{FormFault}
 use Rattle.sx_bytes.specs.Cursor.{Cursor, left, raw_at}
-use Rattle.sx_bytes.specs.Grammar.{◌>>=◌, or_fault, field_at, many_at, ordered_at}
+use Rattle.sx_bytes.specs.Grammar.{◌>>=◌, or_fault, between, field_at, many_at, ordered_at}
+use Rattle.sx_ledger.specs.Body.{tx_before}
 use Rattle.sx_ledger.specs.Reading.{price_at}
 use Rattle.sx_run.specs.declared.block.Block.{Block}
 use Rattle.sx_run.specs.declared.block.Header.{Header}
-use Rattle.sx_run.specs.declared.payment.Payment.{Payment}
-use Rattle.sx_run.specs.Block.{precedes}
-
-abbrev pub id_at : Cursor → Result (ℕ × Cursor) FormFault
-id_at = field_at 8 (λ _. true) form.Short
-
-abbrev pub number_at : Cursor → Result (ℕ × Cursor) FormFault
-number_at = field_at 8 (λ n. nat_le 1 n && nat_lt n (2 ^ 63)) form.SeqRange
-
-abbrev pub kind_at : Cursor → Result (ℕ × Cursor) FormFault
-kind_at = field_at 1 (λ kind. kind == 1) form.Tag
-
-abbrev pub asset_at : Cursor → Result (ℕ × Cursor) FormFault
-asset_at = field_at 1 (λ n. nat_lt n 32) form.AssetRange
-
-abbrev pub amount_at : Cursor → Result (ℕ × Cursor) FormFault
-amount_at = field_at 8 (λ units. nat_le 1 units && nat_le units (2 ^ 62)) form.AmountRange
-
-unfoldable pub payment_at : Cursor → Result (Payment × Cursor) FormFault
-payment_at c = do
-  account ← id_at c
-  seq ← number_at account.1
-  kind ← kind_at seq.1
-  to ← id_at kind.1
-  asset ← asset_at to.1
-  amount ← amount_at asset.1
-  Ok (record { account = record { 0 = account.0 }; seq = seq.0; to = record { 0 = to.0 }; asset = asset.0; amount = amount.0 }, amount.1)
+use Rattle.sx_tx.specs.declared.tx.Tx.{Tx}
+use Rattle.sx_tx.specs.TransactionReading.{tx_at}
 
 abbrev pub digest_at : Cursor → Result (List ℕ × Cursor) FormFault
 digest_at c = or_fault (raw_at 32 c)
@@ -46,18 +22,18 @@ zeros_at n c = do
   if list_all (λ byte. byte == 0) x.0 then Ok (n, x.1) else Err (record { at = c.place; fault = form.Rest })
 
 abbrev pub height_at : Cursor → Result (ℕ × Cursor) FormFault
-height_at = field_at 8 (λ height. nat_le 0 height && nat_le height (2 ^ 63 - 1)) form.HeightRange
+height_at = field_at 8 (between 0 (2 ^ 63 - 1)) form.HeightRange
 
 abbrev pub mu_at : Cursor → Result (ℕ × Cursor) FormFault
-mu_at = field_at 1 (λ j. nat_le 1 j && nat_le j 20) form.MuRange
+mu_at = field_at 1 (between 1 20) form.MuRange
 
 abbrev pub assets_at : Cursor → Result (ℕ × Cursor) FormFault
-assets_at = field_at 1 (λ n. nat_le 1 n && nat_le n 32) form.AssetCount
+assets_at = field_at 1 (between 1 32) form.AssetCount
 
 -- what stands before the prices
 unfoldable pub front_at : Cursor → Result ((ℕ × List ℕ × List ℕ × ℕ) × Cursor) FormFault
 front_at c = do
-  version ← field_at 1 (λ version. version == 1) form.Version c
+  version ← field_at 1 (between 1 1) form.Version c
   height ← height_at version.1
   parent ← digest_at height.1
   body ← digest_at parent.1
@@ -67,8 +43,8 @@ front_at c = do
 -- no trade, nothing dropped, and potentials and roundings of 0 for so many assets
 unfoldable pub no_trade_at : ℕ → Cursor → Result (ℕ × Cursor) FormFault
 no_trade_at assets c = do
-  trades ← field_at 2 (λ n. n == 0) form.TooMany c
-  dropped ← field_at 1 (λ flag. flag == 0) form.Tag trades.1
+  trades ← field_at 2 (between 0 0) form.TooMany c
+  dropped ← field_at 1 (between 0 0) form.Tag trades.1
   potentials ← zeros_at (4 * assets) dropped.1
   zeros_at (8 * assets) potentials.1
 
@@ -81,23 +57,23 @@ header_at c = do
   after ← digest_at zeros.1
   Ok (record { height = front.0.0; parent = front.0.1; body = front.0.2; mu = front.0.3; prices = prices.0; after = after.0 }, after.1)
 
-unfoldable pub body_at : Cursor → Result (List Payment × Cursor) FormFault
+unfoldable pub body_at : Cursor → Result (List Tx × Cursor) FormFault
 body_at c = do
-  count ← field_at 4 (λ n. nat_le n 1000000) form.TooMany c
-  ordered_at payment_at precedes form.Order count.0 None count.1
+  count ← field_at 4 (between 0 1000000) form.TooMany c
+  ordered_at tx_at tx_before form.Order count.0 None count.1
 
 -- a whole payload, from its first byte
 unfoldable pub block_at : List ℕ → Result Block FormFault
 block_at bytes = do
   header ← header_at (record { bytes = bytes; place = 0 })
   body ← body_at header.1
-  if left body.1 == 0 then Ok (record { header = header.0; payments = body.0 }) else Err (record { at = body.1.place; fault = form.Rest })
+  if left body.1 == 0 then Ok (record { header = header.0; txs = body.0 }) else Err (record { at = body.1.place; fault = form.Rest })
 
--- the header, then the list of payments from that place on, and nothing more
+-- the header, then the list of transactions from that place on, and nothing more
 pub record BodyStandsAt (bytes : List ℕ) (place : ℕ) (block : Block) : Type 0 where
   pub behind : Cursor
   pub end : Cursor
   pub header : header_at (record { bytes = bytes; place = 0 }) ≡ Ok (block.header, behind)
   pub at : behind.place ≡ place
-  pub body : body_at behind ≡ Ok (block.payments, end)
+  pub body : body_at behind ≡ Ok (block.txs, end)
   pub whole : left end ≡ 0

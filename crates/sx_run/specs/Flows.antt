@@ -1,22 +1,23 @@
--- What payments take from the accounts of a ledger and give to them, place by place.
+-- What transactions take from the accounts of a ledger and give to them, place by place.
 use Rattle.std.specs.Prelude.{◌≡◌, ℕ, ◌<◌, ◌^◌, List, length, slice_get, slice_index, Some, All}
 use Rattle.sx_ledger.specs.declared.account.Account.{Account}
 use Rattle.sx_ledger.specs.declared.parts.Parts.{Parts}
+use Rattle.sx_ledger.specs.EffectLaws.{greatest_number}
+use Rattle.sx_ledger.specs.Effects.{credits, debits}
 use Rattle.sx_ledger.specs.Ledger.{assets_of}
 use Rattle.sx_run.specs.declared.flows.Flows.{Flows}
-use Rattle.sx_run.specs.declared.payment.Payment.{Payment}
-use Rattle.sx_run.specs.Effects.{credits, debits, greatest_number}
 use Rattle.sx_run.specs.Sums.{HasShape, sum_at}
+use Rattle.sx_tx.specs.declared.tx.Tx.{Tx}
 
 -- the tables have the debits, the credits and the greatest number of the account at each place
-pub record HasFlows (parts : Parts) (payments : List Payment) (flows : Flows) : Type 0 where
+pub record HasFlows (parts : Parts) (txs : List Tx) (flows : Flows) : Type 0 where
   pub debits_shape : HasShape flows.debits (length parts.accounts) (assets_of parts)
   pub credits_shape : HasShape flows.credits (length parts.accounts) (assets_of parts)
   pub one_number : length flows.numbers.items ≡ length parts.accounts
   pub in_range : All (λ number. number < 2 ^ 63) flows.numbers.items
   pub debits : (place : ℕ) (entry : Account) (asset : ℕ) → slice_get parts.accounts place ≡ Some entry → asset < assets_of parts
-      → sum_at flows.debits place asset ≡ debits payments entry.id.0 asset
+      → sum_at flows.debits place asset ≡ debits txs entry.id.0 asset
   pub credits : (place : ℕ) (entry : Account) (asset : ℕ) → slice_get parts.accounts place ≡ Some entry → asset < assets_of parts
-      → sum_at flows.credits place asset ≡ credits payments entry.id.0 asset
+      → sum_at flows.credits place asset ≡ credits parts.offers txs entry.id.0 asset
   pub numbers : (place : ℕ) (entry : Account) → slice_get parts.accounts place ≡ Some entry
-      → slice_index flows.numbers.items place ≡ greatest_number payments entry.id.0
+      → slice_index flows.numbers.items place ≡ greatest_number txs entry.id.0

@@ -1,4 +1,5 @@
 pub mod Effects
+pub mod Payments
 pub mod Places
 pub mod Sums
 pub mod Flows

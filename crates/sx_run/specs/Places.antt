@@ -1,7 +1,8 @@
 -- Where the accounts of payments stand in a ledger's list of accounts.
-use Rattle.std.specs.Prelude.{◌≡◌, ℕ, List, map, slice_get, Some}
+use Rattle.std.specs.Prelude.{◌≡◌, ℕ, ◌+◌, ◌<◌, ◌≤◌, List, map, slice_get, Some}
+use Rattle.sx_ledger.specs.declared.account.Account.{Account}
 use Rattle.sx_ledger.specs.declared.parts.Parts.{Parts}
-use Rattle.sx_ledger.specs.Ledger.{ids}
+use Rattle.sx_ledger.specs.Ledger.{assets_of, holds_id, ids}
 use Rattle.sx_run.specs.declared.payment.Payment.{Payment}
 use Rattle.sx_run.specs.declared.places.Ends.{Ends}
 use Rattle.sx_run.specs.declared.places.Places.{Places}
@@ -18,3 +19,18 @@ pub record ArePlaced (parts : Parts) (payments : List Payment) (places : Places)
 pub record IsPlaced (parts : Parts) (payment : Payment) (ends : Ends) : Type 0 where
   pub payer : slice_get (ids parts.accounts) ends.payer ≡ Some payment.account.0
   pub payee : slice_get (ids parts.accounts) ends.payee ≡ Some payment.to.0
+
+-- the account is there, and the number is in its window: above its last, by at most 64
+pub record IsOpenTo (parts : Parts) (account number : ℕ) : Type 0 where
+  pub place : ℕ
+  pub entry : Account
+  pub there : slice_get parts.accounts place ≡ Some entry
+  pub id : entry.id.0 ≡ account
+  pub above : entry.window.last < number
+  pub within : number ≤ entry.window.last + 64
+
+-- the payment may be applied; it is so exactly where the static list has no reason against it
+pub record MayPay (parts : Parts) (payment : Payment) : Type 0 where
+  pub account : IsOpenTo parts payment.account.0 payment.seq
+  pub asset : payment.asset < assets_of parts
+  pub payee : holds_id parts payment.to.0

@@ -34,7 +34,7 @@ input_of parts block = state_record parts ++ block_record block
 
 -- the state after the block
 abbrev pub output_of : Parts → Block → List ℕ
-output_of parts block = state_record (ledger_after parts block.payments)
+output_of parts block = state_record (ledger_after parts block.txs)
 
 -- the bytes of a source, where it tells them
 abbrev pub IsInput : Option (List ℕ) → List ℕ → Type 0

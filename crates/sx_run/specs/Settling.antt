@@ -6,6 +6,7 @@ use Rattle.sx_run.specs.declared.flows.Flows.{Flows}
 use Rattle.sx_run.specs.declared.overdraft.Overdraft.{Overdraft}
 use Rattle.sx_run.specs.declared.sums.Sums.{Sums}
 use Rattle.sx_run.specs.Sums.{sum_at}
+use Rattle.sx_tx.specs.declared.window.Window.{Window}
 
 -- no sum of a place passes the balance there, for assets from 0 up to a limit
 abbrev pub CoversBelow : ℕ → List ℕ → Sums → ℕ → Type 0
@@ -37,10 +38,14 @@ pub record IsMoved (taken given : Sums) (place : ℕ) (before after : List ℕ) 
   pub as_many : length after ≡ length before
   pub each : (asset : ℕ) → asset < length before → slice_index after asset ≡ balance_after before taken given place asset
 
+-- the window after a greatest number, or at its old last one where that is 0, since no number was used
+abbrev pub window_after : ℕ → Window → Window
+window_after number window = record { last = (if number == 0 then window.last else number); used = 0 }
+
 -- an account became the one after the debits, the credits and the greatest number of its place
 pub record IsSettled (flows : Flows) (place : ℕ) (before after : Account) : Type 0 where
   pub id : after.id ≡ before.id
-  pub last : after.last ≡ (if slice_index flows.numbers.items place == 0 then before.last else slice_index flows.numbers.items place)
+  pub window : after.window ≡ window_after (slice_index flows.numbers.items place) before.window
   pub balances : IsMoved flows.debits flows.credits place before.balances after.balances
 
 -- the debits and credits of an account's place can be applied

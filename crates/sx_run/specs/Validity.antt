@@ -1,5 +1,5 @@
 -- Which block of payments is valid for a ledger, and the first reason why one is not.
-use Rattle.std.specs.Prelude.{◌≡◌, ◌≢◌, ℕ, ◌+◌, ◌^◌, ◌<◌, List, All}
+use Rattle.std.specs.Prelude.{◌≡◌, ◌≢◌, ℕ, ◌+◌, ◌^◌, ◌<◌, List, [], All}
 use Rattle.sha2.specs.Sha256.{sha256}
 use Rattle.sx_ledger.specs.declared.parts.Parts.{Parts}
 use Rattle.sx_ledger.specs.Ledger.{IsLedger}
@@ -7,9 +7,11 @@ use Rattle.sx_ledger.specs.Spelling.{state_bytes}
 use Rattle.sx_run.specs.declared.block.Block.{Block}
 use Rattle.sx_run.specs.declared.invalid.Invalid.{Invalid}
 use Rattle.sx_run.specs.declared.invalid.Invalid.TheVariants.{WrongParent, WrongBody, Overdrawn, WrongAfter}
-use Rattle.sx_run.specs.declared.payment.Payment.{Payment}
-use Rattle.sx_run.specs.Block.{record_bytes, body_bytes, block_bytes, IsBlock}
-use Rattle.sx_run.specs.Effects.{Passes, ledger_after, NoneOverdrawn, IsFirstOverdrawn}
+use Rattle.sx_record.specs.Frame.{record_bytes}
+use Rattle.sx_run.specs.Block.{block_bytes, IsBlock}
+use Rattle.sx_run.specs.Effects.{IsPay, Passes, ledger_after, NoneOverdrawn, IsFirstOverdrawn}
+use Rattle.sx_tx.specs.declared.tx.Tx.{Tx}
+use Rattle.sx_tx.specs.Transactions.{list_bytes}
 
 -- tag 1 is a state's, tag 3 a block's
 abbrev pub state_record : Parts → List ℕ
@@ -22,43 +24,45 @@ block_record block = record_bytes 3 (block_bytes block)
 abbrev pub ledger_digest : Parts → List ℕ
 ledger_digest parts = sha256 (state_record parts)
 
--- SHA-256 of the list of payments, its number included
-abbrev pub body_digest : List Payment → List ℕ
-body_digest payments = sha256 (body_bytes payments)
+-- SHA-256 of the list of transactions, their number included
+abbrev pub body_digest : List Tx → List ℕ
+body_digest txs = sha256 (list_bytes txs)
 
--- A ledger and a block of payments on top of it, of the form that is replayed so far: the block has
--- the next height and the ledger's prices, and each payment passes.
+-- A ledger and a block on top of it, of the form that is replayed so far: the ledger has no offers, the
+-- block has the next height and the ledger's prices, and each transaction is a payment that passes.
 pub record IsReplayable (parts : Parts) (block : Block) : Type 0 where
   pub ledger : IsLedger parts
   pub form : IsBlock block
+  pub no_offers : parts.offers ≡ []
   pub room : parts.height + 1 < 2 ^ 63
   pub height : block.header.height ≡ parts.height + 1
   pub prices : block.header.prices ≡ parts.prices
-  pub passes : All (Passes parts) block.payments
+  pub payments : All IsPay block.txs
+  pub passes : All (Passes parts) block.txs
 
 abbrev pub HasParent : Parts → Block → Type 0
 HasParent parts block = block.header.parent ≡ ledger_digest parts
 
 abbrev pub HasBody : Block → Type 0
-HasBody block = block.header.body ≡ body_digest block.payments
+HasBody block = block.header.body ≡ body_digest block.txs
 
 abbrev pub HasAfter : Parts → Block → Type 0
-HasAfter parts block = block.header.after ≡ ledger_digest (ledger_after parts block.payments)
+HasAfter parts block = block.header.after ≡ ledger_digest (ledger_after parts block.txs)
 
 -- this is the first reason, in the order of their numbers, why the block is refused
 abbrev pub Refuses : Parts → Block → Invalid → Type 0
 Refuses parts block (WrongParent said real) = (said ≡ block.header.parent) × (real ≡ ledger_digest parts) × (said ≢ real)
 Refuses parts block (WrongBody said real) =
-    HasParent parts block × (said ≡ block.header.body) × (real ≡ body_digest block.payments) × (said ≢ real)
+    HasParent parts block × (said ≡ block.header.body) × (real ≡ body_digest block.txs) × (said ≢ real)
 Refuses parts block (Overdrawn account asset opening taken) =
-    HasParent parts block × HasBody block × IsFirstOverdrawn parts block.payments account.0 asset opening taken
+    HasParent parts block × HasBody block × IsFirstOverdrawn parts block.txs account.0 asset opening taken
 Refuses parts block (WrongAfter said real) =
-    HasParent parts block × HasBody block × NoneOverdrawn parts block.payments
-    × (said ≡ block.header.after) × (real ≡ ledger_digest (ledger_after parts block.payments)) × (said ≢ real)
+    HasParent parts block × HasBody block × NoneOverdrawn parts block.txs
+    × (said ≡ block.header.after) × (real ≡ ledger_digest (ledger_after parts block.txs)) × (said ≢ real)
 
 -- none of the reasons holds
 pub record IsValid (parts : Parts) (block : Block) : Type 0 where
   pub parent : HasParent parts block
   pub body : HasBody block
-  pub covered : NoneOverdrawn parts block.payments
+  pub covered : NoneOverdrawn parts block.txs
   pub after : HasAfter parts block

@@ -1,5 +1,5 @@
--- What two payloads say, as a state and a block of payments on top of it.
-use Rattle.std.specs.Prelude.{◌≡◌, ◌≢◌, Option, ℕ, ◌+◌, ◌^◌, ◌<◌, List, All}
+-- What two payloads say, as a state and a block on top of it.
+use Rattle.std.specs.Prelude.{◌≡◌, ◌≢◌, Option, ℕ, ◌+◌, ◌^◌, ◌<◌, List, [], map, All}
 use Rattle.sx_ledger.specs.declared.parts.Parts.{Parts}
 use Rattle.sx_ledger.specs.Ledger.{IsLedger}
 use Rattle.sx_ledger.specs.Spelling.{state_bytes}
@@ -7,10 +7,10 @@ use Rattle.sx_run.specs.declared.block.Block.{Block}
 use Rattle.sx_run.specs.declared.invalid.Invalid.TheVariants.{WrongAfter}
 use Rattle.sx_run.specs.declared.judging.Verdict.{Verdict}
 use Rattle.sx_run.specs.declared.judging.Verdict.TheVariants.{Valid, Refused}
-use Rattle.sx_run.specs.declared.places.Places.{Places}
+use Rattle.sx_run.specs.declared.judging.Ready.{Ready}
 use Rattle.sx_run.specs.Block.{block_bytes, IsBlock}
-use Rattle.sx_run.specs.Effects.{Passes}
-use Rattle.sx_run.specs.Places.{ArePlaced}
+use Rattle.sx_run.specs.Payments.{tx_of}
+use Rattle.sx_run.specs.Places.{ArePlaced, MayPay}
 use Rattle.sx_run.specs.Replay.{output_of, IsReplayed, IsRefused, IsRead}
 use Rattle.sx_run.specs.Validity.{IsReplayable, IsValid, Refuses, ledger_digest, state_record}
 
@@ -28,21 +28,23 @@ SpellsNone state block = (parts : Parts) (said : Block) → IsReplayable parts s
 abbrev pub IsNoLedger : List ℕ → Type 0
 IsNoLedger state = (parts : Parts) → IsLedger parts → state ≡ state_bytes parts → ⊥
 
--- a payload is no block of payments
+-- a payload is no block without trades
 abbrev pub IsNoBlock : List ℕ → Type 0
 IsNoBlock block = (said : Block) → IsBlock said → block ≡ block_bytes said → ⊥
 
--- the block has the next height and the prices of the ledger
+-- the ledger has no offers, and the block has the next height and the prices of the ledger
 pub record IsNext (parts : Parts) (block : Block) : Type 0 where
+  pub no_offers : parts.offers ≡ []
   pub room : parts.height + 1 < 2 ^ 63
   pub height : block.header.height ≡ parts.height + 1
   pub prices : block.header.prices ≡ parts.prices
 
--- the block may be replayed on the ledger, and its payments stand at these places
-pub record IsReady (parts : Parts) (block : Block) (places : Places) : Type 0 where
+-- the block may be replayed on the ledger: it is these payments, and their accounts stand at these places
+pub record IsReady (parts : Parts) (block : Block) (ready : Ready) : Type 0 where
   pub next : IsNext parts block
-  pub passes : All (Passes parts) block.payments
-  pub placed : ArePlaced parts block.payments places
+  pub same : block.txs ≡ map tx_of ready.payments.items
+  pub may_pay : All (MayPay parts) ready.payments.items
+  pub placed : ArePlaced parts ready.payments.items ready.places
 
 -- the record of this ledger where it has the digest that is said, and the refusal otherwise
 abbrev pub Closes : Parts → List ℕ → Verdict → Type 0

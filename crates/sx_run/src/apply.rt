@@ -1,7 +1,7 @@
-ghost use Rattle.std.specs.Prelude.{◌≡◌, ◌+◌, ◌<◌, ◌≤◌, ◌^◌, All, length, IfOk};
-ghost use Rattle.sx_run.specs.Effects.{Passes};
-ghost use Rattle.sx_run.specs.Places.{ArePlaced};
+ghost use Rattle.std.specs.Prelude.{◌≡◌, ◌+◌, ◌<◌, ◌≤◌, ◌^◌, [], All, length, map, IfOk};
 ghost use Rattle.sx_run.specs.Applied.{IsApplied};
+ghost use Rattle.sx_run.specs.Payments.{tx_of};
+ghost use Rattle.sx_run.specs.Places.{ArePlaced, MayPay};
 
 use crate::flows::flows_of;
 use crate::overdraft::{Overdraft, first_overdraft};
@@ -30,10 +30,11 @@ pub fn apply(
     places: &Places,
 ) -> Result<Applied, NoMemory>
     requires placed { ArePlaced ledger payments.now places.now }
-    requires passes { All (Passes ledger) payments.now }
+    requires may_pay { All (MayPay ledger) payments.now }
+    requires no_offers { ledger.offers ≡ [] }
     requires below_last { ledger.height + 1 < 2 ^ 63 }
     requires few { length payments.now ≤ 1000000 }
-    ensures { IfOk result (IsApplied ledger payments.now) }
+    ensures { IfOk result (IsApplied ledger (map tx_of payments.now)) }
 {
     let flows = flows_of(alloc, &ledger, payments, places)?;
     let Parts {
@@ -42,6 +43,7 @@ pub fn apply(
         prices,
         rounding,
         accounts,
+        offers,
     } = ledger.into_parts();
     let accounts = accounts.into_items();
     if let Some(overdraft) = first_overdraft(&accounts, &flows.debits) {
@@ -54,5 +56,6 @@ pub fn apply(
         prices,
         rounding,
         accounts: Accounts::of(after),
+        offers,
     })))
 }

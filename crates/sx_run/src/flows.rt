@@ -1,7 +1,7 @@
-ghost use Rattle.std.specs.Prelude.{◌≤◌, All, length, IfOk};
-ghost use Rattle.sx_run.specs.Effects.{Passes};
+ghost use Rattle.std.specs.Prelude.{◌≤◌, All, length, map, IfOk};
 ghost use Rattle.sx_run.specs.Flows.{HasFlows};
-ghost use Rattle.sx_run.specs.Places.{ArePlaced};
+ghost use Rattle.sx_run.specs.Payments.{tx_of};
+ghost use Rattle.sx_run.specs.Places.{ArePlaced, MayPay};
 
 use crate::payment::Payment;
 use crate::places::Places;
@@ -27,9 +27,9 @@ pub fn flows_of(
     places: &Places,
 ) -> Result<Flows, NoMemory>
     requires placed { ArePlaced ledger.now payments.now places.now }
-    requires passes { All (Passes ledger.now) payments.now }
+    requires may_pay { All (MayPay ledger.now) payments.now }
     requires few { length payments.now ≤ 1000000 }
-    ensures { IfOk result (HasFlows ledger.now payments.now) }
+    ensures { IfOk result (HasFlows ledger.now (map tx_of payments.now)) }
 {
     let accounts = ledger.parts().accounts.items().len();
     let assets = ledger.parts().prices.items().len();

@@ -1,6 +1,6 @@
 ghost use Rattle.std.specs.Prelude.{◌≡◌, ◌^◌, ◌<◌, length};
 ghost use Rattle.sha2.specs.Sha256.{sha256};
-ghost use Rattle.sx_run.specs.Block.{record_bytes};
+ghost use Rattle.sx_record.specs.Frame.{record_bytes};
 
 use crate::digest::Digest;
 use sha2::{Digest as Hasher, Sha256};

@@ -1,12 +1,14 @@
-//! A state and a block of payments are judged: is the block of the form that is replayed, and if
+//! A state and a block are judged: is the block of the form that is replayed, and if
 //! so, is it valid for the state?
 
-ghost use Rattle.std.specs.Prelude.{◌≡◌, ◌+◌, ◌<◌, ◌≤◌, ◌^◌, length, drop, IfOk, OnOk, IsErrOf, IsTrue, ◌↔◌};
+ghost use Rattle.std.specs.Prelude.{◌≡◌, ◌<◌, ◌≤◌, ◌^◌, length, drop, IfOk, IsErrOf, IsTrue, ◌↔◌};
 ghost use Rattle.sx_ledger.specs.Ledger.{IsLedger};
 ghost use Rattle.sx_ledger.specs.Spelling.{state_bytes};
-ghost use Rattle.sx_run.specs.Block.{body_bytes, block_bytes, IsBlock};
+ghost use Rattle.sx_ledger.specs.declared.parts.Parts.{Parts};
+ghost use Rattle.sx_run.specs.Block.{block_bytes, IsBlock};
 ghost use Rattle.sx_run.specs.Validity.{IsReplayable, HasParent, HasBody, state_record};
 ghost use Rattle.sx_run.specs.Verdict.{IsNoLedger, IsNoBlock, SpellsNone, IsNext, IsReady, Closes, Decides, Judges};
+ghost use Rattle.sx_tx.specs.Transactions.{list_bytes};
 
 use crate::apply::{Applied, apply};
 use crate::block::Block;
@@ -14,6 +16,7 @@ use crate::block_reading::{BlockRead, read_block};
 use crate::digest::Digest;
 use crate::hashing::{digest_of, record_digest};
 use crate::invalid::Invalid;
+use crate::payment::{Payment, payments_of};
 use crate::places::{Places, places_of};
 use crate::stop::Stop;
 use crate::stream::Input;
@@ -31,6 +34,7 @@ pub enum Verdict {
 fn ledger_of(alloc: Global, state: &[u8]) -> Result<Ledger, Stop>
     ensures ledger { IfOk result (λ ledger. IsLedger ledger) }
     ensures spelled { IfOk result (λ ledger. state.now ≡ state_bytes ledger) }
+    ensures only { IfOk result (λ ledger. (parts : Parts) → IsLedger parts → state.now ≡ state_bytes parts → parts ≡ ledger) }
     ensures not_built { IsErrOf result Stop.NotBuilt → IsNoLedger state.now }
     ensures calm { IsErrOf result Stop.ReadFault → ⊥ }
 {
@@ -44,7 +48,7 @@ fn ledger_of(alloc: Global, state: &[u8]) -> Result<Ledger, Stop>
 fn block_of(alloc: Global, payload: &[u8]) -> Result<BlockRead, Stop>
     ensures block { IfOk result (λ read. IsBlock read.block) }
     ensures spelled { IfOk result (λ read. payload.now ≡ block_bytes read.block) }
-    ensures body { IfOk result (λ read. drop read.body_at payload.now ≡ body_bytes read.block.payments) }
+    ensures body { IfOk result (λ read. drop read.body_at payload.now ≡ list_bytes read.block.txs) }
     ensures within { IfOk result (λ read. read.body_at ≤ length payload.now) }
     ensures not_built { IsErrOf result Stop.NotBuilt → IsNoBlock payload.now }
     ensures calm { IsErrOf result Stop.ReadFault → ⊥ }
@@ -59,22 +63,33 @@ fn block_of(alloc: Global, payload: &[u8]) -> Result<BlockRead, Stop>
 fn is_next(ledger: &Ledger, block: &Block) -> bool
     ensures { IsTrue result ↔ IsNext ledger.now block.now }
 {
-    ledger.height() < u64::MAX >> 1
-        && block.header.height == ledger.height() + 1
-        && block.header.prices.items() == ledger.prices()
+    if ledger.offers() != 0 || ledger.height() >= u64::MAX >> 1 {
+        return false;
+    }
+    block.header.height == ledger.height() + 1 && block.header.prices == ledger.parts().prices
 }
 
-// Where the accounts of the payments stand, if the block may be replayed on the ledger.
-fn places(alloc: Global, ledger: &Ledger, block: &Block) -> Result<Places, Stop>
-    ensures ready { IfOk result (λ places. IsReady ledger.now block.now places) }
+// The payments of a block that may be replayed on a ledger, and where their accounts stand.
+#[derive(Debug, Drop)]
+struct Ready {
+    payments: Vec<Payment>,
+    places: Places,
+}
+
+// The payments of the block and their places, if it may be replayed on the ledger.
+fn ready_of(alloc: Global, ledger: &Ledger, block: &Block) -> Result<Ready, Stop>
+    ensures ready { IfOk result (IsReady ledger.now block.now) }
     ensures not_built { IsErrOf result Stop.NotBuilt → IsReplayable ledger.now block.now → ⊥ }
     ensures calm { IsErrOf result Stop.ReadFault → ⊥ }
 {
     if !is_next(ledger, block) {
         return Err(Stop::NotBuilt);
     }
-    match places_of(alloc, ledger, block.payments.items())? {
-        Some(places) => Ok(places),
+    let Some(payments) = payments_of(alloc, block.txs.items())? else {
+        return Err(Stop::NotBuilt);
+    };
+    match places_of(alloc, ledger, &payments)? {
+        Some(places) => Ok(Ready { payments, places }),
         None => Err(Stop::NotBuilt),
     }
 }
@@ -103,19 +118,14 @@ fn close(alloc: Global, after: &Ledger, said: Digest) -> Result<Verdict, NoMemor
 }
 
 // The overdrafts, and then the ledger after the block.
-fn settle(
-    alloc: Global,
-    ledger: Ledger,
-    block: &Block,
-    places: &Places,
-) -> Result<Verdict, NoMemory>
-    requires ready { IsReady ledger block.now places.now }
-    requires few { length block.now.payments ≤ 1000000 }
+fn settle(alloc: Global, ledger: Ledger, block: &Block, ready: &Ready) -> Result<Verdict, NoMemory>
+    requires ready { IsReady ledger block.now ready.now }
+    requires few { length block.now.txs ≤ 1000000 }
     requires parent { HasParent ledger block.now }
     requires body { HasBody block.now }
     ensures { IfOk result (Decides ledger block.now) }
 {
-    match apply(alloc, ledger, block.payments.items(), places)? {
+    match apply(alloc, ledger, &ready.payments, &ready.places)? {
         Applied::After(after) => close(alloc, &after, block.header.after),
         Applied::Overdrawn(overdraft) => Ok(Verdict::Refused(Invalid::Overdrawn {
             account: overdraft.account,
@@ -131,19 +141,19 @@ fn decide(
     alloc: Global,
     ledger: Ledger,
     block: &Block,
-    places: &Places,
+    ready: &Ready,
     input: &Input,
     body: &[u8],
 ) -> Result<Verdict, NoMemory>
-    requires ready { IsReady ledger block.now places.now }
-    requires few { length block.now.payments ≤ 1000000 }
-    requires state { input.now.state.items ≡ state_bytes ledger }
-    requires fits { length input.now.state.items < 2 ^ 32 }
-    requires body { body.now ≡ body_bytes block.now.payments }
+    requires ready { IsReady ledger block.now ready.now }
+    requires few { length block.now.txs ≤ 1000000 }
+    requires state { input.now.state ≡ state_bytes ledger }
+    requires fits { length input.now.state < 2 ^ 32 }
+    requires body { body.now ≡ list_bytes block.now.txs }
     ensures { IfOk result (Decides ledger block.now) }
 {
     let said = block.header.parent;
-    let real = record_digest(1, &input.state);
+    let real = record_digest(1, input.state.items());
     if said != real {
         return Ok(Verdict::Refused(Invalid::WrongParent { said, real }));
     }
@@ -152,20 +162,20 @@ fn decide(
     if said != real {
         return Ok(Verdict::Refused(Invalid::WrongBody { said, real }));
     }
-    settle(alloc, ledger, block, places)
+    settle(alloc, ledger, block, ready)
 }
 
 /// Judges the payloads of a state and a block. `NotBuilt` comes exactly where they are no ledger
 /// and block of the form that is replayed.
 pub fn judge(alloc: Global, input: &Input) -> Result<Verdict, Stop>
-    ensures verdict { IfOk result (Judges input.now.state.items input.now.block.items) }
-    ensures not_built { IsErrOf result Stop.NotBuilt → SpellsNone input.now.state.items input.now.block.items }
+    ensures verdict { IfOk result (Judges input.now.state input.now.block) }
+    ensures not_built { IsErrOf result Stop.NotBuilt → SpellsNone input.now.state input.now.block }
     ensures calm { IsErrOf result Stop.ReadFault → ⊥ }
 {
-    let ledger = ledger_of(alloc, &input.state)?;
-    let read = block_of(alloc, &input.block)?;
-    let places = places(alloc, &ledger, &read.block)?;
-    let body = &input.block[read.body_at..];
-    let verdict = decide(alloc, ledger, &read.block, &places, input, body)?;
+    let ledger = ledger_of(alloc, input.state.items())?;
+    let read = block_of(alloc, input.block.items())?;
+    let ready = ready_of(alloc, &ledger, &read.block)?;
+    let body = &input.block.items()[read.body_at..];
+    let verdict = decide(alloc, ledger, &read.block, &ready, input, body)?;
     Ok(verdict)
 }

@@ -5,16 +5,17 @@
 //! sink's count of faults rose; which input is a ledger and a block of payments on top of it; which
 //! reason refuses a block first; what is written for a valid one, namely the record of the ledger
 //! after the block; and that nothing is written otherwise. What the block leaves is
-//! `ledger_after`: plain sums of debits and credits over the list of payments.
+//! `ledger_after`: plain sums of debits and credits over the list of transactions.
 //!
-//! So far there is one command, `replay`, of one block, and blocks hold payments alone. An input
-//! that says more is answered with [`Status::NotBuilt`].
+//! So far there is one command, `replay`, of one block without trades, on a ledger without offers,
+//! and all its transactions are payments that pass. An input that says more is answered with
+//! [`Status::NotBuilt`].
 //!
 //! Not promised: how long a run takes, that two ledgers with one digest are one, and what a source
 //! gave or a sink received that tells nothing of its bytes.
 //!
 //! The way of the data: `stream` (bytes to records), `block_reading` (record to block), `judging`
-//! (block and ledger to a verdict, over `places`, `flows`, `overdraft`, `settling` and `apply`),
+//! (block and ledger to a verdict, over `payment`, `places`, `flows`, `overdraft`, `settling` and `apply`),
 //! `running` (verdict to bytes and status), `text` (status to a line).
 #![tactic(auto)]
 

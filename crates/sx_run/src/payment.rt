@@ -1,7 +1,13 @@
-ghost use Rattle.std.specs.Prelude.{◌≡◌};
+//! Transactions that are all payments, as a list of payments.
 
-use std::marker::Model;
+ghost use Rattle.std.specs.Prelude.{◌≡◌, All, map, IfOk, IfSome, IfNone};
+ghost use Rattle.sx_run.specs.Effects.{IsPay};
+ghost use Rattle.sx_run.specs.Payments.{tx_of};
+
+use std::alloc::Global;
 use sx_base::{AccountId, Amount, AssetId, Seq};
+use sx_bytes::NoMemory;
+use sx_tx::{Kind, Tx};
 
 /// A payment: transaction `seq` of `account` gives `amount` units of `asset` to the account `to`.
 #[derive(Clone, Copy, Debug, PartialEq, Eq)]
@@ -13,40 +19,34 @@ pub struct Payment {
     pub amount: Amount,
 }
 
-/// A list of payments. Contracts see the list.
-#[derive(Debug, Drop)]
-pub struct Payments {
-    entries: Vec<Payment>,
+/// The payments that these transactions are, or `None` exactly where some transaction is none.
+pub fn payments_of(alloc: Global, txs: &[Tx]) -> Result<Option<Vec<Payment>>, NoMemory>
+    ensures same { IfOk result (λ found. IfSome found (λ payments. txs.now ≡ map tx_of payments.items)) }
+    ensures other { IfOk result (λ found. IfNone found (All IsPay txs.now → ⊥)) }
+{
+    let mut payments = Vec::with_capacity(alloc, txs.len())?;
+    for tx in txs {
+        let Some(payment) = payment_of(tx) else {
+            return Ok(None);
+        };
+        payments.push(payment)?;
+    }
+    Ok(Some(payments))
 }
 
-impl Model for Payments {
-    ghost use Rattle.std.specs.Prelude.{List};
-    ghost use Rattle.sx_run.specs.declared.payment.Payment.{Payment};
-
-    ghost Value = { List Payment };
-
-    ghost view = { λ p. p.entries.items };
-}
-
-impl Payments {
-    /// The list of these payments. It takes no memory.
-    pub fn of(items: Vec<Payment>) -> Payments
-        ensures { result ≡ items.items }
-    {
-        Payments { entries: items }
-    }
-
-    /// The payments.
-    pub fn items(&self) -> &[Payment]
-        ensures { result.now ≡ self.now }
-    {
-        &self.entries
-    }
-
-    /// Gives the vector back. It takes no memory.
-    pub fn into_items(self) -> Vec<Payment>
-        ensures { result.items ≡ self }
-    {
-        self.entries
+/// The payment that a transaction is, if it is one.
+fn payment_of(tx: &Tx) -> Option<Payment>
+    ensures same { IfSome result (λ payment. tx.now ≡ tx_of payment) }
+    ensures other { IfNone result (IsPay tx.now → ⊥) }
+{
+    match tx.kind {
+        Kind::Pay { to, asset, amount } => Some(Payment {
+            account: tx.account,
+            seq: tx.seq,
+            to,
+            asset,
+            amount,
+        }),
+        _ => None,
     }
 }

@@ -1,14 +1,13 @@
 ghost use Rattle.std.specs.Prelude.{◌≡◌, ◌+◌, ◌<◌, ◌≤◌, ◌↔◌, All, length, IsTrue, IfOk, IfSome, IfNone, slice_get, Some, Contains};
 ghost use Rattle.std.specs.List.Sorted.{IsStrictlyIncreasing};
 ghost use Rattle.sx_ledger.specs.Ledger.{IsLedger, ids, holds_id};
-ghost use Rattle.sx_run.specs.Effects.{IsOpenTo, Passes};
-ghost use Rattle.sx_run.specs.Places.{ArePlaced, IsPlaced};
+ghost use Rattle.sx_run.specs.Places.{ArePlaced, IsPlaced, MayPay};
 
 use crate::payment::Payment;
 use std::alloc::Global;
 use sx_base::AccountId;
 use sx_bytes::NoMemory;
-use sx_ledger::Ledger;
+use sx_ledger::{AccountIndex, Ledger};
 
 /// Where the payer and the payee of each payment stand in the list of accounts.
 #[derive(Debug, Drop)]
@@ -24,7 +23,7 @@ struct Ends {
     payee: u32,
 }
 
-/// The places of the accounts of these payments, or `None` where some payment does not pass. An
+/// The places of the accounts of these payments, or `None` where some payment may not be applied. An
 /// account is looked up once for all its payments that stand together.
 pub fn places_of(
     alloc: Global,
@@ -32,10 +31,10 @@ pub fn places_of(
     payments: &[Payment],
 ) -> Result<Option<Places>, NoMemory>
     ensures placed { IfOk result (λ found. IfSome found (λ places. ArePlaced ledger.now payments.now places)) }
-    ensures passes { IfOk result (λ found. IfSome found (λ _. All (Passes ledger.now) payments.now)) }
-    ensures refused { IfOk result (λ found. IfNone found (All (Passes ledger.now) payments.now → ⊥)) }
+    ensures may_pay { IfOk result (λ found. IfSome found (λ _. All (MayPay ledger.now) payments.now)) }
+    ensures refused { IfOk result (λ found. IfNone found (All (MayPay ledger.now) payments.now → ⊥)) }
 {
-    let index = index_of(alloc, ledger)?;
+    let index = ledger.index(alloc)?;
     let mut payers = Vec::with_capacity(alloc, payments.len())?;
     let mut payees = Vec::with_capacity(alloc, payments.len())?;
     let mut near = 0;
@@ -50,34 +49,13 @@ pub fn places_of(
     Ok(Some(Places { payers, payees }))
 }
 
-/// The ids of the accounts, which lie close together to be searched.
-fn index_of(alloc: Global, ledger: &Ledger) -> Result<Vec<u64>, NoMemory>
-    ensures { IfOk result (λ index. index.items ≡ ids ledger.now.accounts) }
-{
-    let accounts = ledger.parts().accounts.items();
-    Ok(accounts.iter().map(|account| account.id.0).collect(alloc)?)
-}
-
-/// The place of an id among those of the accounts, by a binary search.
-fn find_in(index: &[u64], id: u64) -> Option<u32>
-    requires rising { IsStrictlyIncreasing index.now }
-    requires few { length index.now ≤ 65536 }
-    ensures found { IfSome result (λ place. slice_get index.now place ≡ Some id) }
-    ensures absent { IfNone result (Contains index.now id → ⊥) }
-{
-    match index.binary_search(&id) {
-        Ok(place) => Some(place as u32),
-        Err(_) => None,
-    }
-}
-
-/// Where the accounts of a payment stand, or `None` where it does not pass. The payer is tried at
+/// Where the accounts of a payment stand, or `None` where it may not be applied. The payer is tried at
 /// the place `near` first.
-fn ends_of(ledger: &Ledger, index: &[u64], payment: &Payment, near: u32) -> Option<Ends>
+fn ends_of(ledger: &Ledger, index: &AccountIndex, payment: &Payment, near: u32) -> Option<Ends>
     requires { index.now ≡ ids ledger.now.accounts }
     ensures placed { IfSome result (λ ends. IsPlaced ledger.now payment.now ends) }
-    ensures passes { IfSome result (λ _. Passes ledger.now payment.now) }
-    ensures refused { IfNone result (Passes ledger.now payment.now → ⊥) }
+    ensures may_pay { IfSome result (λ _. MayPay ledger.now payment.now) }
+    ensures refused { IfNone result (MayPay ledger.now payment.now → ⊥) }
 {
     let payer = find_near(ledger, payment.account, near)?;
     if !is_open(ledger, payer, payment.seq.get()) {
@@ -86,17 +64,17 @@ fn ends_of(ledger: &Ledger, index: &[u64], payment: &Payment, near: u32) -> Opti
     if u32::from(payment.asset.get()) >= ledger.assets() {
         return None;
     }
-    let payee = find_in(index, payment.to.0)?;
+    let payee = index.find(payment.to)?;
     Some(Ends { payer, payee })
 }
 
 /// Whether the account at a place may use a number: above its last, by at most 64.
 fn is_open(ledger: &Ledger, place: u32, number: u64) -> bool
     requires { place < length ledger.now.accounts }
-    ensures open { IsTrue result ↔ IfSome (slice_get ledger.now.accounts place) (λ entry. (entry.last < number) × (number ≤ entry.last + 64)) }
+    ensures open { IsTrue result ↔ IfSome (slice_get ledger.now.accounts place) (λ entry. (entry.window.last < number) × (number ≤ entry.window.last + 64)) }
     ensures kept { IsLedger ledger.now }
 {
-    let last = ledger.account(place).last;
+    let last = ledger.account(place).window.last;
     last < number && number - last <= 64
 }
 

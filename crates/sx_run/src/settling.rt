@@ -1,4 +1,4 @@
-ghost use Rattle.std.specs.Prelude.{◌≡◌, ℕ, ◌+◌, ◌*◌, ◌<◌, ◌≤◌, ◌^◌, ◌==◌, if◌then◌else◌, All, length, slice_get, Some, IfOk, IfSome};
+ghost use Rattle.std.specs.Prelude.{◌≡◌, ℕ, ◌+◌, ◌*◌, ◌<◌, ◌≤◌, ◌^◌, All, length, slice_get, Some, IfOk, IfSome};
 ghost use Rattle.sx_ledger.specs.declared.account.Account.{Account};
 ghost use Rattle.sx_run.specs.Settling.{CanSettle, CoversBelow, balance_after, IsMoved, IsSettled};
 ghost use Rattle.sx_run.specs.Sums.{HasShape};
@@ -9,6 +9,7 @@ use std::alloc::Global;
 use sx_base::Balances;
 use sx_bytes::NoMemory;
 use sx_ledger::Account;
+use sx_tx::Window;
 
 /// The accounts after the debits, the credits and the greatest number of each place.
 pub fn settled(
@@ -32,8 +33,8 @@ pub fn settled(
     Ok(after)
 }
 
-/// The account of a place after the debits and the credits there, with the greatest number used,
-/// or 0 where none was.
+/// The account of a place after the debits and the credits there. The greatest number used there is
+/// its last one then, and 0 says that none was used.
 fn settled_account(account: Account, place: usize, flows: &Flows) -> Account
     requires number { place < length flows.now.numbers.items }
     requires debits { flows.now.debits.assets ≡ length account.balances }
@@ -43,13 +44,17 @@ fn settled_account(account: Account, place: usize, flows: &Flows) -> Account
     requires can { CanSettle flows.now place account }
     ensures { IsSettled flows.now place account result }
 {
-    let Account { id, last, balances } = account;
+    let Account {
+        id,
+        window,
+        balances,
+    } = account;
     let number = flows.numbers[place];
-    let last = if number == 0 { last } else { number };
+    let last = if number == 0 { window.last } else { number };
     let after = moved(balances.into_items(), place, &flows.debits, &flows.credits);
     Account {
         id,
-        last,
+        window: Window { last, used: 0 },
         balances: Balances::of(after),
     }
 }

@@ -8,6 +8,6 @@ returns-clause-body c = record {
   end = c.body.new.from;
   header = ap header_at (sym c.new-reader.ensures) ∙ c.in_ok-header.ensures;
   at = sym c.place-body_at.ensures.place;
-  body = c.in_ok-payments.ensures;
+  body = c.in_ok-txs.ensures;
   whole = sym c.left.ensures ∙ c.if-left-ne0.false;
 }

@@ -41,7 +41,7 @@ returns c =
           ∙ units_at-debits parts up place entry.id.0 asset (id_at parts.accounts place entry there) payments places.payers.items c.requires.placed.payers;
       credits = λ place entry asset there lt.
           gives place asset (slice_get_within parts.accounts place entry there) lt
-          ∙ units_at-credits parts up place entry.id.0 asset (id_at parts.accounts place entry there) payments places.payees.items c.requires.placed.payees;
+          ∙ units_at-credits parts up parts.offers place entry.id.0 asset (id_at parts.accounts place entry there) payments places.payees.items c.requires.placed.payees;
       numbers = λ place entry there.
           uses place (slice_get_within parts.accounts place entry there)
           ∙ number_at-greatest parts up place entry.id.0 (id_at parts.accounts place entry there) payments places.payers.items c.requires.placed.payers;

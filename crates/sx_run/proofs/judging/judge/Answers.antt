@@ -6,23 +6,23 @@ use Rattle.sx_run.specs.Block.{block_bytes}
 use Rattle.sx_run.proofs.Deciding.{none_of_form, judged}
 use Rattle.sx_run.proofs.judging.judge.Goals as goal
 
-pub returns-in_err-places-clause-not_built : goal.returns-in_err-places-clause-not_built
-returns-in_err-places-clause-not_built c = λ e.
-    let state : c.args.input.now.state.items ≡ state_bytes c.in_ok-ledger.ledger = sym c.deref.ensures.value ∙ c.in_ok-ledger.ensures.spelled in
-    let block : c.args.input.now.block.items ≡ block_bytes c.in_ok-read.read.block = sym c.deref-2.ensures.value ∙ c.in_ok-read.ensures.spelled in
-    none_of_form c.args.input.now.state.items c.args.input.now.block.items c.in_ok-ledger.ledger c.in_ok-read.read.block
-    c.in_ok-ledger.ensures.ledger state c.in_ok-read.ensures.block block (c.in_err-places.ensures.not_built (let q = err_from_is_err_and c.from_residual-in_err-places.result c.from_residual-in_err-places.ensures.1 in cc))
+pub returns-in_err-ready-clause-not_built : goal.returns-in_err-ready-clause-not_built
+returns-in_err-ready-clause-not_built c = λ e.
+    let block : c.args.input.now.block ≡ block_bytes c.in_ok-read.read.block = sym c.items-2.ensures ∙ c.in_ok-read.ensures.spelled in
+    none_of_form c.args.input.now.state c.args.input.now.block c.in_ok-ledger.ledger c.in_ok-read.read.block
+    (rw c.items.ensures at c.in_ok-ledger.ensures.only) c.in_ok-read.ensures.block block
+    (c.in_err-ready.ensures.not_built (let q = err_from_is_err_and c.from_residual-in_err-ready.result c.from_residual-in_err-ready.ensures.1 in cc))
 
 pub decide-requires-clause-fits : goal.decide-requires-clause-fits
 decide-requires-clause-fits c =
-    let state : c.args.input.now.state.items ≡ state_bytes c.in_ok-ledger.ledger = sym c.deref.ensures.value ∙ c.in_ok-ledger.ensures.spelled in
+    let state : c.args.input.now.state ≡ state_bytes c.in_ok-ledger.ledger = sym c.items.ensures ∙ c.in_ok-ledger.ensures.spelled in
     let fits = state_fits c.in_ok-ledger.ledger c.in_ok-ledger.ensures.ledger in
-    let len : length c.args.input.now.state.items ≡ length (state_bytes c.in_ok-ledger.ledger) = ap length state in
+    let len : length c.args.input.now.state ≡ length (state_bytes c.in_ok-ledger.ledger) = ap length state in
     omega (arith, fits, len)
 
 pub returns-clause-verdict : goal.returns-clause-verdict
 returns-clause-verdict c =
-    let state : c.args.input.now.state.items ≡ state_bytes c.in_ok-ledger.ledger = sym c.deref.ensures.value ∙ c.in_ok-ledger.ensures.spelled in
-    let block : c.args.input.now.block.items ≡ block_bytes c.in_ok-read.read.block = sym c.deref-2.ensures.value ∙ c.in_ok-read.ensures.spelled in
-    judged c.args.input.now.state.items c.args.input.now.block.items c.in_ok-ledger.ledger c.in_ok-read.read.block c.in_ok-places.places c.in_ok-verdict.verdict
-    c.in_ok-ledger.ensures.ledger state c.in_ok-read.ensures.block block c.in_ok-places.ensures.ready c.in_ok-verdict.ensures
+    let state : c.args.input.now.state ≡ state_bytes c.in_ok-ledger.ledger = sym c.items.ensures ∙ c.in_ok-ledger.ensures.spelled in
+    let block : c.args.input.now.block ≡ block_bytes c.in_ok-read.read.block = sym c.items-2.ensures ∙ c.in_ok-read.ensures.spelled in
+    judged c.args.input.now.state c.args.input.now.block c.in_ok-ledger.ledger c.in_ok-read.read.block c.in_ok-ready.ready c.in_ok-verdict.verdict
+    c.in_ok-ledger.ensures.ledger state c.in_ok-read.ensures.block block c.in_ok-ready.ensures.ready c.in_ok-verdict.ensures

@@ -1,5 +1,5 @@
-use Rattle.sx_run.proofs.Conserving.{totals_stay}
+use Rattle.sx_run.proofs.Conserving as conserving
 use Rattle.sx_run.proofs.laws.payments_conserve.Goals as goal
 
 pub returns : goal.returns
-returns c = totals_stay
+returns c = conserving.payments_conserve

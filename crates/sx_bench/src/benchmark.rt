@@ -1,0 +1,32 @@
+use anyhow::{Result, ensure};
+use std::alloc::Global;
+use std::rt::Clock;
+use std::time::Instant;
+use sx_bytes::Writer;
+
+// How many times the call is run. The least time counts.
+const ROUNDS: u32 = 5;
+
+/// A call that reads an input and writes it again.
+pub trait Benchmark {
+    /// The bytes of the input.
+    fn bytes(&self) -> &[u8];
+
+    /// Runs the call once. The answer is what it wrote.
+    fn run(&self, alloc: Global) -> Result<Writer>;
+}
+
+/// The least time of several runs, in nanoseconds.
+pub fn time(rt: &(impl Clock + AllocGlobal), benchmark: &impl Benchmark) -> Result<u128> {
+    let mut least = u128::MAX;
+    for _ in 0..ROUNDS {
+        let start = Instant::now(rt)?;
+        let again = benchmark.run(rt.alloc())?;
+        least = least.min(start.elapsed(rt)?.as_nanos());
+        ensure!(
+            again.bytes() == benchmark.bytes(),
+            "other bytes were written"
+        );
+    }
+    Ok(least)
+}

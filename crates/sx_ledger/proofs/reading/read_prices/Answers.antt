@@ -1,0 +1,18 @@
+use Rattle.std.proofs.lemmas.Result.{err_from_is_err_and}
+use Rattle.sx_bytes.specs.declared.fault.ReadError.TheVariants as read_error
+use Rattle.sx_bytes.specs.Grammar.{many_at}
+use Rattle.sx_bytes.proofs.Loop.{goes_on, ends, is_done}
+use Rattle.sx_ledger.specs.Reading.{price_at}
+use Rattle.sx_ledger.proofs.reading.read_prices.Goals as goal
+
+pub returns-in_err-price : goal.returns-in_err-price
+returns-in_err-price c =
+    let p = err_from_is_err_and c.from_residual-in_err-price.result c.from_residual-in_err-price.ensures.1 in
+    rw (p.1, p.2) (ends price_at (read_error.Form c.in_err-price.field-0.0) c.loop.prices.items c.args.assets c.loop.counter c.loop.from (many_at price_at c.args.assets c.args.from.now) c.loop-test.true c.in_err-price.ensures.0 c.loop.invariant)
+
+pub loop-preserved : goal.loop-preserved
+loop-preserved c =
+    rw c.in_ok-push.ensures.items (goes_on price_at c.loop.prices.items c.args.assets c.loop.counter c.loop.from c.in_ok-price.field-0 c.price.new.from (many_at price_at c.args.assets c.args.from.now) c.loop-test.true c.in_ok-price.ensures c.loop.invariant)
+
+pub returns : goal.returns
+returns c = rw c.of.ensures (is_done price_at c.loop.prices.items c.args.assets c.loop.counter c.loop.from (many_at price_at c.args.assets c.args.from.now) c.loop-test.false c.loop.invariant)

@@ -1,0 +1,35 @@
+ghost use Rattle.sx_ledger.specs.EffectLaws.{
+  DebitsAppend,
+  CreditsAppend,
+  DebitsPermuted,
+  CreditsPermuted,
+  MustWithinMay,
+  LowWithinHigh,
+  UnnamedStays,
+  LastIsGreatest,
+  BodyConserves,
+};
+
+/// The debits and the credits of two lists of transactions together are the sums of both, and in
+/// another order they are the same.
+pub fn posting_laws()
+    ensures debits_append { DebitsAppend }
+    ensures credits_append { CreditsAppend }
+    ensures debits_permuted { DebitsPermuted }
+    ensures credits_permuted { CreditsPermuted }
+{}
+
+/// The offers of a pair that must trade have at most what those have that may trade, and so the
+/// least value of a pair is at most the greatest.
+pub fn bound_laws()
+    ensures must_within_may { MustWithinMay }
+    ensures low_within_high { LowWithinHigh }
+{}
+
+/// An account that no transaction names stays as it was, the last number of an account is the
+/// greatest one that it used, and the body of a block makes and loses nothing of any asset.
+pub fn body_laws()
+    ensures unnamed_stays { UnnamedStays }
+    ensures last_is_greatest { LastIsGreatest }
+    ensures conserves { BodyConserves }
+{}

@@ -1,0 +1,63 @@
+//! The ids of accounts, to look many of them up.
+
+ghost use Rattle.std.specs.Prelude.{◌≡◌, ◌≤◌, length, slice_get, IfOk, IfSome, IfNone, Some, Contains};
+ghost use Rattle.std.specs.List.Sorted.{IsStrictlyIncreasing};
+ghost use Rattle.sx_ledger.specs.Ledger.{ids};
+
+use crate::account::Account;
+use crate::ledger::Ledger;
+use std::alloc::Global;
+use std::marker::Model;
+use sx_base::AccountId;
+use sx_bytes::NoMemory;
+
+/// The ids of accounts, which lie close together to be searched. Contracts see the list.
+#[derive(Debug, Drop)]
+pub struct AccountIndex {
+    entries: Vec<u64>,
+}
+
+impl Model for AccountIndex {
+    ghost use Rattle.std.specs.Prelude.{ℕ, ◌≤◌, List, length};
+    ghost use Rattle.std.specs.List.Sorted.{IsStrictlyIncreasing};
+
+    ghost Value = { List ℕ };
+
+    ghost view = { λ index. index.entries.items };
+
+    ghost invariant = { λ index. IsStrictlyIncreasing index.entries.items × (length index.entries.items ≤ 65536) };
+}
+
+impl AccountIndex {
+    /// The ids of accounts that stand by id, at most 65,536.
+    pub fn of(alloc: Global, accounts: &[Account]) -> Result<AccountIndex, NoMemory>
+        requires by_id { IsStrictlyIncreasing (ids accounts.now) }
+        requires few { length accounts.now ≤ 65536 }
+        ensures { IfOk result (λ index. index ≡ ids accounts.now) }
+    {
+        let entries = accounts.iter().map(|account| account.id.0).collect(alloc)?;
+        Ok(AccountIndex { entries })
+    }
+
+    /// The place of the account of this id, or `None` where there is no such account. The search takes
+    /// as many steps as the number of accounts has binary digits.
+    pub fn find(&self, id: AccountId) -> Option<u32>
+        ensures found { IfSome result (λ place. slice_get self.now place ≡ Some id.0) }
+        ensures absent { IfNone result (Contains self.now id.0 → ⊥) }
+        ensures by_id { IsStrictlyIncreasing self.now }
+    {
+        match self.entries.binary_search(&id.0) {
+            Ok(place) => Some(place as u32),
+            Err(_) => None,
+        }
+    }
+}
+
+impl Ledger {
+    /// The ids of the accounts, to look many of them up.
+    pub fn index(&self, alloc: Global) -> Result<AccountIndex, NoMemory>
+        ensures { IfOk result (λ index. index ≡ ids self.now.accounts) }
+    {
+        AccountIndex::of(alloc, self.parts().accounts.items())
+    }
+}

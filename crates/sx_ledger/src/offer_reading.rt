@@ -1,0 +1,152 @@
+//! Reading the offers of a state.
+
+ghost use Rattle.std.specs.Prelude.{◌≡◌, ◌≤◌, None, length};
+ghost use Rattle.std.specs.List.Sorted.{IsStrictlyIncreasing};
+ghost use Rattle.sx_bytes.specs.Grammar.{Finds, Reads, may_follow};
+ghost use Rattle.sx_ledger.specs.Ledger.{ids};
+ghost use Rattle.sx_ledger.specs.Order.{key_before};
+ghost use Rattle.sx_ledger.specs.Reading.{sell_at, buy_at, offer_at, next_offer_at, offers_at, offer_list_at};
+
+use crate::account::Account;
+use crate::finding::has_owner;
+use crate::index::AccountIndex;
+use crate::key::Key;
+use crate::offer::{Offer, Offers};
+use crate::reading::refusal;
+use std::alloc::Global;
+use sx_base::AssetId;
+use sx_bytes::{Form, FormFault, ReadError, Reader};
+use sx_tx::{read_amount, read_id, read_limit, read_seq};
+
+const MOST_OFFERS: u32 = 262_144;
+
+// How many bytes an offer takes.
+const OFFER_BYTES: usize = 34;
+
+// What is sold, one of so many assets.
+#[inline]
+fn sell(from: &mut Reader, assets: u8) -> Result<AssetId, FormFault>
+    requires some { 1 ≤ assets }
+    requires few { assets ≤ 32 }
+    ensures { Finds (λ x. x) (sell_at assets from.old) from.new result }
+{
+    let number = from.field_u8(0, assets - 1, Form::AssetRange)?;
+    Ok(AssetId::new(number).unwrap())
+}
+
+// What is bought, another one.
+#[inline]
+fn buy(from: &mut Reader, assets: u8, sell: AssetId) -> Result<AssetId, FormFault>
+    requires some { 1 ≤ assets }
+    requires few { assets ≤ 32 }
+    ensures { Finds (λ x. x) (buy_at assets sell from.old) from.new result }
+{
+    let at = from.place() as u64;
+    let number = from.field_u8(0, assets - 1, Form::AssetRange)?;
+    if number == sell.get() {
+        let fault = Form::AssetRange;
+        return Err(FormFault { at, fault });
+    }
+    Ok(AssetId::new(number).unwrap())
+}
+
+#[inline]
+#[tactic(auto, unfolding(crate::specs::Reading::offer_at))]
+fn offer(from: &mut Reader, assets: u8) -> Result<Offer, FormFault>
+    requires some { 1 ≤ assets }
+    requires few { assets ≤ 32 }
+    ensures { Finds (λ x. x) (offer_at assets from.old) from.new result }
+{
+    let sell = sell(from, assets)?;
+    let buy = buy(from, assets, sell)?;
+    let limit = read_limit(from)?;
+    let account = read_id(from)?;
+    let seq = read_seq(from)?;
+    let amount = read_amount(from)?;
+    Ok(Offer {
+        sell,
+        buy,
+        limit,
+        account,
+        seq,
+        amount,
+    })
+}
+
+// Whether an offer of this key may stand behind the one before it.
+fn follows(before: Option<Key>, key: &Key) -> bool
+    ensures { result ≡ may_follow key_before before key.now }
+{
+    match before {
+        None => true,
+        Some(before) => before < *key,
+    }
+}
+
+#[tactic(auto, unfolding(crate::specs::Reading::next_offer_at))]
+fn next_offer(
+    from: &mut Reader,
+    assets: u8,
+    index: &AccountIndex,
+    accounts: &[Account],
+    before: Option<Key>,
+) -> Result<Offer, ReadError>
+    requires some { 1 ≤ assets }
+    requires few { assets ≤ 32 }
+    requires indexed { index.now ≡ ids accounts.now }
+    ensures { Reads (λ x. x) (next_offer_at accounts.now assets before from.old) from.new result }
+{
+    let at = from.place();
+    let offer = offer(from, assets)?;
+    if !follows(before, &offer.key()) {
+        return Err(refusal(at, Form::Order));
+    }
+    if !has_owner(index, accounts, &offer) {
+        return Err(refusal(at, Form::Owner));
+    }
+    Ok(offer)
+}
+
+// Memory grows with what the bytes left can hold, and not with what the count claims.
+fn offers(
+    alloc: Global,
+    from: &mut Reader,
+    assets: u8,
+    index: &AccountIndex,
+    accounts: &[Account],
+    count: u32,
+) -> Result<Offers, ReadError>
+    requires some { 1 ≤ assets }
+    requires few { assets ≤ 32 }
+    requires indexed { index.now ≡ ids accounts.now }
+    ensures { Reads (λ x. x) (offers_at accounts.now assets count None from.old) from.new result }
+{
+    let room = from.left() / OFFER_BYTES;
+    let mut offers = Vec::with_capacity(alloc, room.min(count as usize))?;
+    let mut before = None;
+    for _ in 0..count {
+        let offer = next_offer(from, assets, index, accounts, before)?;
+        before = Some(offer.key());
+        offers.push(offer)?;
+    }
+    Ok(Offers::of(offers))
+}
+
+/// The offers at the place, by these accounts: their number, and so many offers.
+#[tactic(auto, unfolding(crate::specs::Reading::offer_list_at))]
+pub fn offer_list(
+    alloc: Global,
+    from: &mut Reader,
+    assets: u8,
+    accounts: &[Account],
+) -> Result<Offers, ReadError>
+    requires some { 1 ≤ assets }
+    requires few { assets ≤ 32 }
+    requires by_id { IsStrictlyIncreasing (ids accounts.now) }
+    requires few_accounts { length accounts.now ≤ 65536 }
+    ensures { Reads (λ x. x) (offer_list_at accounts.now assets from.old) from.new result }
+{
+    let count = from.field_u32(0, MOST_OFFERS, Form::TooMany)?;
+    let index = AccountIndex::of(alloc, accounts)?;
+    offers(alloc, from, assets, &index, accounts, count)
+}
