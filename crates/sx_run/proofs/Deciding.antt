@@ -70,7 +70,7 @@ none_of_form state block parts said only is block_is none = λ other_parts other
 -- a ledger and a block that are ready are of the form
 pub is_replayable : (parts : Parts) (block : Block) (found : Ready) → IsLedger parts → IsBlock block → IsReady parts block found → IsReplayable parts block
 is_replayable parts block found ledger is ready =
-    let payments = found.payments.items in
+    let payments = found.payments in
     record {
       ledger = ledger;
       form = is;

@@ -10,3 +10,4 @@ pub mod BlockLaws
 pub mod Framing
 pub mod Deciding
 pub mod Input
+pub mod Among

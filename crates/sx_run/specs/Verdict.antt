@@ -42,9 +42,9 @@ pub record IsNext (parts : Parts) (block : Block) : Type 0 where
 -- the block may be replayed on the ledger: it is these payments, and their accounts stand at these places
 pub record IsReady (parts : Parts) (block : Block) (ready : Ready) : Type 0 where
   pub next : IsNext parts block
-  pub same : block.txs ≡ map tx_of ready.payments.items
-  pub may_pay : All (MayPay parts) ready.payments.items
-  pub placed : ArePlaced parts ready.payments.items ready.places
+  pub same : block.txs ≡ map tx_of ready.payments
+  pub may_pay : All (MayPay parts) ready.payments
+  pub placed : ArePlaced parts ready.payments ready.places
 
 -- the record of this ledger where it has the digest that is said, and the refusal otherwise
 abbrev pub Closes : Parts → List ℕ → Verdict → Type 0

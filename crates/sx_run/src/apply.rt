@@ -5,7 +5,7 @@ ghost use Rattle.sx_run.specs.Places.{ArePlaced, MayPay};
 
 use crate::flows::flows_of;
 use crate::overdraft::{Overdraft, first_overdraft};
-use crate::payment::Payment;
+use crate::payment::Payments;
 use crate::places::Places;
 use crate::settling::settled;
 use std::alloc::Global;
@@ -26,7 +26,7 @@ pub enum Applied {
 pub fn apply(
     alloc: Global,
     ledger: Ledger,
-    payments: &[Payment],
+    payments: &Payments,
     places: &Places,
 ) -> Result<Applied, NoMemory>
     requires placed { ArePlaced ledger payments.now places.now }

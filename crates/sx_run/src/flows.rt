@@ -3,7 +3,7 @@ ghost use Rattle.sx_run.specs.Flows.{HasFlows};
 ghost use Rattle.sx_run.specs.Payments.{tx_of};
 ghost use Rattle.sx_run.specs.Places.{ArePlaced, MayPay};
 
-use crate::payment::Payment;
+use crate::payment::Payments;
 use crate::places::Places;
 use crate::sums::{Sums, greatest_of, sums_of};
 use std::alloc::Global;
@@ -23,7 +23,7 @@ pub struct Flows {
 pub fn flows_of(
     alloc: Global,
     ledger: &Ledger,
-    payments: &[Payment],
+    payments: &Payments,
     places: &Places,
 ) -> Result<Flows, NoMemory>
     requires placed { ArePlaced ledger.now payments.now places.now }

@@ -16,7 +16,7 @@ use crate::block_reading::{BlockRead, read_block};
 use crate::digest::Digest;
 use crate::hashing::{digest_of, record_digest};
 use crate::invalid::Invalid;
-use crate::payment::{Payment, payments_of};
+use crate::payment::Payments;
 use crate::places::{Places, places_of};
 use crate::stop::Stop;
 use crate::stream::Input;
@@ -71,13 +71,13 @@ fn is_next(ledger: &Ledger, block: &Block) -> bool
 
 // The payments of a block that may be replayed on a ledger, and where their accounts stand.
 #[derive(Debug, Drop)]
-struct Ready {
-    payments: Vec<Payment>,
+struct Ready<'a> {
+    payments: Payments<'a>,
     places: Places,
 }
 
 // The payments of the block and their places, if it may be replayed on the ledger.
-fn ready_of(alloc: Global, ledger: &Ledger, block: &Block) -> Result<Ready, Stop>
+fn ready_of<'a>(alloc: Global, ledger: &Ledger, block: &'a Block) -> Result<Ready<'a>, Stop>
     ensures ready { IfOk result (IsReady ledger.now block.now) }
     ensures not_built { IsErrOf result Stop.NotBuilt → IsReplayable ledger.now block.now → ⊥ }
     ensures calm { IsErrOf result Stop.ReadFault → ⊥ }
@@ -85,7 +85,7 @@ fn ready_of(alloc: Global, ledger: &Ledger, block: &Block) -> Result<Ready, Stop
     if !is_next(ledger, block) {
         return Err(Stop::NotBuilt);
     }
-    let Some(payments) = payments_of(alloc, block.txs.items())? else {
+    let Some(payments) = Payments::of(block.txs.items()) else {
         return Err(Stop::NotBuilt);
     };
     match places_of(alloc, ledger, &payments)? {

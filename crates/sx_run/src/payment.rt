@@ -1,12 +1,11 @@
-//! Transactions that are all payments, as a list of payments.
+//! Transactions that are all payments, seen as a list of payments.
 
-ghost use Rattle.std.specs.Prelude.{◌≡◌, All, map, IfOk, IfSome, IfNone};
+ghost use Rattle.std.specs.Prelude.{◌≡◌, ◌<◌, All, get_or, length, map, IfSome, IfNone};
 ghost use Rattle.sx_run.specs.Effects.{IsPay};
-ghost use Rattle.sx_run.specs.Payments.{tx_of};
+ghost use Rattle.sx_run.specs.Payments.{payment_in, tx_of};
 
-use std::alloc::Global;
+use std::marker::Model;
 use sx_base::{AccountId, Amount, AssetId, Seq};
-use sx_bytes::NoMemory;
 use sx_tx::{Kind, Tx};
 
 /// A payment: transaction `seq` of `account` gives `amount` units of `asset` to the account `to`.
@@ -19,25 +18,63 @@ pub struct Payment {
     pub amount: Amount,
 }
 
-/// The payments that these transactions are, or `None` exactly where some transaction is none.
-pub fn payments_of(alloc: Global, txs: &[Tx]) -> Result<Option<Vec<Payment>>, NoMemory>
-    ensures same { IfOk result (λ found. IfSome found (λ payments. txs.now ≡ map tx_of payments.items)) }
-    ensures other { IfOk result (λ found. IfNone found (All IsPay txs.now → ⊥)) }
-{
-    let mut payments = Vec::with_capacity(alloc, txs.len())?;
-    for tx in txs {
-        let Some(payment) = payment_of(tx) else {
-            return Ok(None);
-        };
-        payments.push(payment)?;
+/// Transactions that are all payments. Contracts see the payments.
+#[derive(Debug, Drop)]
+pub struct Payments<'a> {
+    txs: &'a [Tx],
+}
+
+impl<'a> Model for Payments<'a> {
+    ghost use Rattle.std.specs.Prelude.{List, All};
+    ghost use Rattle.sx_run.specs.declared.payment.Payment.{Payment};
+    ghost use Rattle.sx_run.specs.Effects.{IsPay};
+    ghost use Rattle.sx_run.specs.Payments.{payments_among};
+
+    ghost Value = { List Payment };
+
+    ghost view = { λ p. payments_among p.txs.now };
+
+    ghost invariant = { λ p. All IsPay p.txs.now };
+}
+
+impl<'a> Payments<'a> {
+    /// The payments that these transactions are, or `None` exactly where some transaction is none. It
+    /// takes no memory.
+    #[tactic(auto, using(crate::proofs::Among::txs_are))]
+    pub fn of(txs: &'a [Tx]) -> Option<Payments<'a>>
+        ensures same { IfSome result (λ payments. txs.now ≡ map tx_of payments) }
+        ensures other { IfNone result (All IsPay txs.now → ⊥) }
+    {
+        for tx in txs {
+            if payment_of(tx).is_none() {
+                return None;
+            }
+        }
+        Some(Payments { txs })
     }
-    Ok(Some(payments))
+
+    /// How many there are.
+    #[tactic(auto, using(crate::proofs::Among::as_many))]
+    pub fn len(&self) -> usize
+        ensures { result ≡ length self.now }
+    {
+        self.txs.len()
+    }
+
+    /// The payment at a place.
+    #[tactic(auto, using(crate::proofs::Among::as_many))]
+    pub fn at(&self, place: usize) -> Payment
+        requires { place < length self.now }
+        ensures { result ≡ get_or self.now place result }
+    {
+        let txs = self.txs;
+        payment_of(&txs[place]).unwrap()
+    }
 }
 
 /// The payment that a transaction is, if it is one.
 fn payment_of(tx: &Tx) -> Option<Payment>
-    ensures same { IfSome result (λ payment. tx.now ≡ tx_of payment) }
-    ensures other { IfNone result (IsPay tx.now → ⊥) }
+    ensures same { result ≡ payment_in tx.now tx.now.kind }
 {
     match tx.kind {
         Kind::Pay { to, asset, amount } => Some(Payment {

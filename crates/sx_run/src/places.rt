@@ -3,7 +3,7 @@ ghost use Rattle.std.specs.List.Sorted.{IsStrictlyIncreasing};
 ghost use Rattle.sx_ledger.specs.Ledger.{IsLedger, ids, holds_id};
 ghost use Rattle.sx_run.specs.Places.{ArePlaced, IsPlaced, MayPay};
 
-use crate::payment::Payment;
+use crate::payment::{Payment, Payments};
 use std::alloc::Global;
 use sx_base::AccountId;
 use sx_bytes::NoMemory;
@@ -28,7 +28,7 @@ struct Ends {
 pub fn places_of(
     alloc: Global,
     ledger: &Ledger,
-    payments: &[Payment],
+    payments: &Payments,
 ) -> Result<Option<Places>, NoMemory>
     ensures placed { IfOk result (λ found. IfSome found (λ places. ArePlaced ledger.now payments.now places)) }
     ensures may_pay { IfOk result (λ found. IfSome found (λ _. All (MayPay ledger.now) payments.now)) }
@@ -38,8 +38,9 @@ pub fn places_of(
     let mut payers = Vec::with_capacity(alloc, payments.len())?;
     let mut payees = Vec::with_capacity(alloc, payments.len())?;
     let mut near = 0;
-    for payment in payments {
-        let Some(ends) = ends_of(ledger, &index, payment, near) else {
+    for at in 0..payments.len() {
+        let payment = payments.at(at);
+        let Some(ends) = ends_of(ledger, &index, &payment, near) else {
             return Ok(None);
         };
         payers.push(ends.payer)?;

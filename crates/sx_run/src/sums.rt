@@ -1,7 +1,7 @@
 ghost use Rattle.std.specs.Prelude.{◌≡◌, ℕ, ◌+◌, ◌*◌, ◌<◌, ◌≤◌, ◌^◌, All, length, slice_index, IfOk};
 ghost use Rattle.sx_run.specs.Sums.{HasShape, HasSums, number_at, sum_at};
 
-use crate::payment::Payment;
+use crate::payment::Payments;
 use std::alloc::Global;
 use sx_bytes::NoMemory;
 
@@ -52,7 +52,7 @@ pub fn sums_of(
     alloc: Global,
     accounts: usize,
     assets: usize,
-    payments: &[Payment],
+    payments: &Payments,
     places: &[u32],
 ) -> Result<Sums, NoMemory>
     requires few_accounts { accounts ≤ 65536 }
@@ -65,9 +65,10 @@ pub fn sums_of(
     ensures sums { IfOk result (λ sums. HasSums sums accounts assets places.now payments.now) }
 {
     let mut sums = Sums::zero(alloc, accounts, assets)?;
-    for (payment, place) in payments.iter().zip(places) {
+    for at in 0..places.len() {
+        let payment = payments.at(at);
         sums.add(
-            *place as usize,
+            places[at] as usize,
             usize::from(payment.asset.get()),
             payment.amount.get(),
         );
@@ -80,7 +81,7 @@ pub fn sums_of(
 pub fn greatest_of(
     alloc: Global,
     accounts: usize,
-    payments: &[Payment],
+    payments: &Payments,
     places: &[u32],
 ) -> Result<Vec<u64>, NoMemory>
     requires one_place { length places.now ≡ length payments.now }
@@ -90,8 +91,9 @@ pub fn greatest_of(
     ensures in_range { IfOk result (λ numbers. All (λ number. number < 2 ^ 63) numbers.items) }
 {
     let mut numbers = vec![in alloc; 0; accounts]?;
-    for (payment, place) in payments.iter().zip(places) {
-        let number = &mut numbers[*place as usize];
+    for at in 0..places.len() {
+        let payment = payments.at(at);
+        let number = &mut numbers[places[at] as usize];
         *number = (*number).max(payment.seq.get());
     }
     Ok(numbers)

@@ -2,12 +2,10 @@ use Rattle.std.proofs.Common.{◌≡◌, ℕ, ◌<◌, ◌^◌, max, All, length
 use Rattle.sx_run.specs.Sums.{number_at}
 use Rattle.sx_run.proofs.sums.greatest_of.Given as goal
 
-abbrev pub invariant-loop-payment : goal.invariant-loop-payment
-invariant-loop-payment l = record {
-  can_next : (goal.iterator-loop-payment).can_next l.payment-iterator;
-  is_finite : (goal.iterator-loop-payment).is_finite l.payment-iterator;
+abbrev pub invariant-loop-at : goal.invariant-loop-at
+invariant-loop-at l = record {
   as_many : length l.numbers.items ≡ l.fn.accounts;
   greatest : (place : ℕ) → place < l.fn.accounts →
-      max (slice_index l.numbers.items place) (number_at place (drop (length l.yielded) l.fn.places) (drop (length l.yielded) l.fn.payments)) ≡ number_at place l.fn.places l.fn.payments;
+      max (slice_index l.numbers.items place) (number_at place (drop l.at l.fn.places) (drop l.at l.fn.payments)) ≡ number_at place l.fn.places l.fn.payments;
   in_range : All (λ number. number < 2 ^ 63) l.numbers.items;
 }
