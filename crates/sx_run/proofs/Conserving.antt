@@ -16,9 +16,10 @@ use Rattle.sx_ledger.proofs.Flowing as flowing
 use Rattle.sx_run.specs.declared.payment.Payment.{Payment}
 use Rattle.sx_run.specs.Conservation.{PaymentsConserve}
 use Rattle.sx_run.specs.Effects.{NoneOverdrawn, Passes, ledger_after}
-use Rattle.sx_run.specs.Payments.{tx_of}
+use Rattle.sx_run.specs.Payments.{payments_among, tx_of}
 use Rattle.sx_tx.specs.declared.tx.Tx.{Tx}
-use Rattle.sx_run.proofs.Paying.{accounts_are, offers_are, payments_in}
+use Rattle.sx_run.proofs.Among.{txs_are}
+use Rattle.sx_run.proofs.Paying.{accounts_are, offers_are}
 
 -- what payments take of an asset is what they give
 taken_is_given : (offers : List Offer) (asset : ℕ) (payments : List Payment)
@@ -89,8 +90,7 @@ totals_stay parts payments asset keeps pass covered lt =
 -- the same of transactions that are all payments
 pub payments_conserve : PaymentsConserve
 payments_conserve parts txs asset keeps are pass covered lt =
-    let found = payments_in txs are in
-    let payments = found.0 in
-    let same = found.1 in
+    let payments = payments_among txs in
+    let same : txs ≡ map tx_of payments = txs_are txs are in
     subst (λ (ts : List Tx). total_of (ledger_after parts ts) asset ≡ total_of parts asset) (sym same)
     (totals_stay parts payments asset keeps (subst (All (Passes parts)) same pass) (subst (NoneOverdrawn parts) same covered) lt)

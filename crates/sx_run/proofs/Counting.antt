@@ -23,12 +23,6 @@ pub units_at-drop : (place asset : ℕ) (places : List ℕ) (payments : List Pay
 units_at-drop place asset places payments i at payment in_places in_payments at_is payment_is =
     ap₂ (units_at place asset) (drop_more places i at in_places ∙ ap (λ (x : ℕ). x ∷ drop (i + 1) places) (sym at_is)) (drop_more payments i payment in_payments ∙ ap (λ (x : Payment). x ∷ drop (i + 1) payments) (sym payment_is))
 
-pub number_at-drop : (place : ℕ) (places : List ℕ) (payments : List Payment) (i at : ℕ) (payment : Payment) → i < length places → i < length payments
-    → at ≡ get_or places i at → payment ≡ get_or payments i payment
-    → number_at place (drop i places) (drop i payments) ≡ max (cond (at == place) payment.seq 0) (number_at place (drop (i + 1) places) (drop (i + 1) payments))
-number_at-drop place places payments i at payment in_places in_payments at_is payment_is =
-    ap₂ (number_at place) (drop_more places i at in_places ∙ ap (λ (x : ℕ). x ∷ drop (i + 1) places) (sym at_is)) (drop_more payments i payment in_payments ∙ ap (λ (x : Payment). x ∷ drop (i + 1) payments) (sym payment_is))
-
 -- ---- places for ids
 
 -- two places are one exactly where the ids there are one

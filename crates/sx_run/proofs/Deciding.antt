@@ -21,7 +21,7 @@ use Rattle.sx_run.specs.Effects.{IsPay, Passes, ledger_after, NoneOverdrawn, IsF
 use Rattle.sx_run.specs.Payments.{tx_of}
 use Rattle.sx_run.specs.Places.{MayPay}
 use Rattle.sx_run.specs.Validity.{IsReplayable, HasParent, HasBody, Refuses, state_record, ledger_digest}
-use Rattle.sx_run.specs.Verdict.{Closes, Decides, Judges, SpellsNone, IsNoLedger, IsNext, IsNoBlock, IsReady}
+use Rattle.sx_run.specs.Verdict.{Closes, Decides, Judges, SpellsNone, IsNext, IsReady}
 use Rattle.sx_run.proofs.BlockLaws.{block_again}
 use Rattle.sx_run.proofs.Paying.{all_may_pay, all_pass, all_pay}
 
@@ -48,13 +48,6 @@ pub one_block : (p q : Block) → IsBlock p → IsBlock q → block_bytes p ≡ 
 one_block p q is_p is_q e =
     let same : Ok p ≡ Ok q = sym (block_again p is_p) ∙ ap block_at e ∙ block_again q is_q in
     cc
-
--- no ledger, no block, or a ledger and a block that are not of the form
-pub none_without_ledger : (state block : List ℕ) → IsNoLedger state → SpellsNone state block
-none_without_ledger state block none = λ parts said form state_is block_is. none parts form.ledger state_is
-
-pub none_without_block : (state block : List ℕ) → IsNoBlock block → SpellsNone state block
-none_without_block state block none = λ parts said form state_is block_is. none said form.form block_is
 
 -- the ledger of a payload, where it is the only one
 abbrev pub IsOnly : List ℕ → Parts → Type 0

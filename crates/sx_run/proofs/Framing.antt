@@ -8,7 +8,7 @@ use Rattle.sx_record.specs.Frame.{most_bytes, record_bytes}
 use Rattle.sx_record.specs.Reading.{record_at}
 use Rattle.sx_record.specs.Stream.{Took, Reads}
 use Rattle.sx_record.proofs.Spelling.{reads_back, no_prefix, ends_only_at_end}
-use Rattle.sx_run.specs.Stream.{HasNoRecord, HasMore, IsAtEnd, TookBoth, HasNotBoth}
+use Rattle.sx_run.specs.Stream.{HasNoRecord, HasMore, IsAtEnd, HasNotBoth}
 
 -- ---- one record
 
@@ -57,10 +57,6 @@ none_listed a tag (i, lt, is) = absurd (omega arith)
 pub records_same : (tag : ℕ) (p q x y : List ℕ) → tag < 256 → length p ≤ most_bytes → length q ≤ most_bytes → record_bytes tag p ++ x ≡ record_bytes tag q ++ y → (p ≡ q) × (x ≡ y)
 records_same tag p q x y small small_p small_q e = let same = no_prefix tag tag p q x y small small small_p small_q e in (same.1, same.2)
 
-pub not_both_first : (a : Option (List ℕ)) → HasNoRecord a 1 → HasNotBoth a
-not_both_first None none = tt
-not_both_first (Some bytes) none = λ state block small_state small_block e. none state (record_bytes 3 block) small_state e
-
 -- what is behind the first record is the second one, wherever both are there
 second : (bytes rest s state block : List ℕ) → bytes ≡ record_bytes 1 s ++ rest → length s ≤ most_bytes → length state ≤ most_bytes → bytes ≡ record_bytes 1 state ++ record_bytes 3 block → rest ≡ record_bytes 3 block
 second bytes rest s state block parts small small_state e = (records_same 1 s state rest (record_bytes 3 block) (omega arith) small small_state (sym parts ∙ e)).1
@@ -83,13 +79,3 @@ not_both_end (Some bytes) (Some mid) (Some last) s k took small took_block small
     let rest : took.0 ≡ record_bytes 3 block = second bytes took.0 s state block took.1 small small_state e in
     let two : record_bytes 3 k ++ took_block.0 ≡ record_bytes 3 block ++ [] = sym took_block.1 ∙ mid_is ∙ rest ∙ sym (append-nil (record_bytes 3 block)) in
     more (last_is ∙ (records_same 3 k block took_block.0 [] (omega arith) small_k small_block two).1)
-
-pub both_taken : (a b c d : Option (List ℕ)) (s k : List ℕ) → Took a b (record_bytes 1 s) → Took b c (record_bytes 3 k) → IsAtEnd c d → TookBoth a d s k
-both_taken None b c d s k took took_block end = tt
-both_taken (Some bytes) None c d s k took took_block end = absurd (let e : Some took.0 ≡ None = sym took.2 in cc)
-both_taken (Some bytes) (Some mid) None d s k took took_block end = absurd (let e : Some took_block.0 ≡ None = sym took_block.2 in cc)
-both_taken (Some bytes) (Some mid) (Some last) d s k took took_block end =
-    let mid_is : mid ≡ took.0 = cc in
-    let last_is : took_block.0 ≡ last = cc in
-    let block_is : mid ≡ record_bytes 3 k = took_block.1 ∙ ap (λ (r : List ℕ). record_bytes 3 k ++ r) (last_is ∙ end.0) ∙ append-nil (record_bytes 3 k) in
-    (took.1 ∙ ap (λ (r : List ℕ). record_bytes 1 s ++ r) (sym mid_is ∙ block_is), end.1)

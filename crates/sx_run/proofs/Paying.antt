@@ -5,7 +5,6 @@ use Rattle.std.specs.List.Sorted.{IsStrictlyIncreasing}
 use Rattle.std.proofs.lemmas.Bool.{leb-false, lt-leb, ltb-false, le-ltb, not-false}
 use Rattle.std.proofs.lemmas.List.Elements.{All-nil, All-cons, All-head, All-tail, All-map}
 use Rattle.std.proofs.lemmas.Option.{slice_get-get_or}
-use Rattle.sx_base.specs.declared.account_id.AccountId.{AccountId}
 use Rattle.sx_ledger.specs.declared.account.Account.{Account}
 use Rattle.sx_ledger.specs.declared.offer.Offer.{Offer}
 use Rattle.sx_ledger.specs.declared.parts.Parts.{Parts}
@@ -17,29 +16,12 @@ use Rattle.sx_ledger.specs.Static.{has_account, last_of}
 use Rattle.sx_ledger.proofs.Lookup.{entry_at, is_known, known, last_is}
 use Rattle.sx_ledger.proofs.Standing.{stands}
 use Rattle.sx_run.specs.declared.payment.Payment.{Payment}
-use Rattle.sx_run.specs.Effects.{IsPay, IsPayKind, Passes}
+use Rattle.sx_run.specs.Effects.{IsPay, Passes}
 use Rattle.sx_run.specs.Payments.{tx_of}
 use Rattle.sx_run.specs.Places.{MayPay}
 use Rattle.sx_run.proofs.Standing.{contains_at}
-use Rattle.sx_tx.specs.declared.kind.Kind.{Kind}
-use Rattle.sx_tx.specs.declared.kind.Kind.TheVariants as kind
-use Rattle.sx_tx.specs.declared.tx.Tx.{Tx}
 
 -- ---- transactions that are payments
-
--- the transaction of this account, number and kind is a payment
-paid_by : (account : AccountId) (seq : ℕ) (what : Kind) → IsPayKind what → (payment : Payment) × (record { account = account; seq = seq; kind = what } ≡ tx_of payment)
-paid_by account seq (kind.Pay to asset amount) is = (record { account = account; seq = seq; to = to; asset = asset; amount = amount }, refl)
-paid_by account seq (kind.Create id) is = absurd is
-paid_by account seq (kind.Offer sell buy limit amount) is = absurd is
-paid_by account seq (kind.Cancel sell buy limit number) is = absurd is
-
-pub payments_in : (txs : List Tx) → All IsPay txs → (payments : List Payment) × (txs ≡ map tx_of payments)
-payments_in [] are = ([], refl)
-payments_in (tx ∷ txs) are =
-    let one = paid_by tx.account tx.seq tx.kind (All-head IsPay tx txs are) in
-    let others = payments_in txs (All-tail IsPay tx txs are) in
-    (one.0 ∷ others.0, ap (λ (t : Tx). t ∷ txs) one.1 ∙ ap (λ (ts : List Tx). tx_of one.0 ∷ ts) others.1)
 
 pub all_pay : (payments : List Payment) → All IsPay (map tx_of payments)
 all_pay [] = All-nil IsPay

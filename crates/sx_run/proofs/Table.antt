@@ -1,6 +1,5 @@
 -- The places of a table of sums, which is kept row after row.
-use Rattle.std.proofs.Common.{◌≡◌, ℕ, suc, ◌+◌, ◌*◌, ◌<◌, ◌≤◌, max, Bool, true, false, cond, ◌==◌, ◌&&◌, List, length, get_or, set, inl, inr, refl, sym, ap, ◌∙◌, arith, suc-mul, mul-le-mul_right, add-zero, le_refl, eq-eqb, ne_eqb}
-use Rattle.std.proofs.lemmas.List.{get_or-set_same, get_or-set_other}
+use Rattle.std.proofs.Common.{◌≡◌, ℕ, suc, ◌+◌, ◌*◌, ◌<◌, ◌≤◌, Bool, true, false, cond, ◌==◌, ◌&&◌, inl, inr, refl, sym, ap, ◌∙◌, arith, suc-mul, mul-le-mul_right, add-zero, le_refl, eq-eqb, ne_eqb}
 use Rattle.std.proofs.lemmas.Bool.{cases_eq, cases_order, and_right}
 use Rattle.sx_run.specs.declared.sums.Sums.{Sums}
 use Rattle.sx_run.specs.Sums.{sum_at}
@@ -35,12 +34,3 @@ added_at old new at x units here elsewhere place asset in_row =
 pub cond_zero-le : (test : Bool) (n : ℕ) → cond test n 0 ≤ n
 cond_zero-le true n = le_refl n
 cond_zero-le false n = omega arith
-
--- what a write of a greater number at one place leaves at every place
-pub raised_at : (numbers : List ℕ) (at number new : ℕ) → at < length numbers → new ≡ max (get_or numbers at 0) number
-    → (place : ℕ) → get_or (set numbers at new) place 0 ≡ max (get_or numbers place 0) (cond (at == place) number 0)
-raised_at numbers at number new in_range is place =
-    elim (cases_eq at place) [
-      | inl e ↦ rw (eq-eqb at place e, ← e) (get_or-set_same numbers at new 0 in_range ∙ is)
-      | inr other ↦ rw (ne_eqb at place other) (get_or-set_other numbers at place new 0 (λ same. other (sym same)) ∙ omega arith)
-    ]
