@@ -5,7 +5,7 @@ use Rattle.sx_bytes.specs.declared.fault.FormFault.{FormFault}
 use Rattle.sx_bytes.specs.Field.{AreBytes}
 use Rattle.sx_bytes.specs.Cursor.{Cursor, rest}
 use Rattle.sx_bytes.specs.Grammar.{◌>>=◌}
-use Rattle.sx_bytes.specs.Laws.{ReadIsSpelled, SpelledIsRead, OneSpelling, NoPrefix}
+use Rattle.sx_bytes.specs.Laws.{DecodesOnlyEncodings, DecodesEveryEncoding, IsInjective, IsPrefixFree}
 use Rattle.sx_bytes.proofs.Grammar.{bind_ok, Takes, Takes-then, Again, done}
 use Rattle.sx_bytes.proofs.Steps.{bytes_behind, takes_moved, again_moved}
 
@@ -77,13 +77,13 @@ three_again r1 r2 r3 join s1 s2 s3 P1 P2 P3 again1 again2 again3 c x y w after p
 
 -- ---- the laws of a format
 
-pub read_is_spelled : {X : Type 0} (read : Reading X) (spelling : X → List ℕ) (Is : X → Type 0) → TakesAll read spelling Is → ReadIsSpelled read spelling Is
+pub read_is_spelled : {X : Type 0} (read : Reading X) (spelling : X → List ℕ) (Is : X → Type 0) → TakesAll read spelling Is → DecodesOnlyEncodings read spelling Is
 read_is_spelled read spelling Is takes c next x bytes e = let t = takes c next x bytes e in (t.1, takes_moved c next (spelling x) t.0, t.0.parts)
 
-pub spelled_is_read : {X : Type 0} (read : Reading X) (spelling : X → List ℕ) (Is : X → Type 0) → ReadsAgain read spelling Is → SpelledIsRead read spelling Is
+pub spelled_is_read : {X : Type 0} (read : Reading X) (spelling : X → List ℕ) (Is : X → Type 0) → ReadsAgain read spelling Is → DecodesEveryEncoding read spelling Is
 spelled_is_read read spelling Is again c x after is within e = again_moved (read c) c x (spelling x) after within e (again c x after is within e)
 
-pub no_prefix : {X : Type 0} (read : Reading X) (spelling : X → List ℕ) (Is : X → Type 0) → ReadsAgain read spelling Is → NoPrefix spelling Is
+pub no_prefix : {X : Type 0} (read : Reading X) (spelling : X → List ℕ) (Is : X → Type 0) → ReadsAgain read spelling Is → IsPrefixFree spelling Is
 no_prefix read spelling Is again p q x y is_p is_q e =
     let c : Cursor = record { bytes = spelling p ++ x; place = 0 } in
     let a = again c p x is_p (omega arith) refl in
@@ -91,5 +91,5 @@ no_prefix read spelling Is again p q x y is_p is_q e =
     let both = made_is p q a.next b.next (sym a.is ∙ b.is) in
     (both.0, sym a.rest_is ∙ ap rest both.1 ∙ b.rest_is)
 
-pub one_spelling : {X : Type 0} (read : Reading X) (spelling : X → List ℕ) (Is : X → Type 0) → ReadsAgain read spelling Is → OneSpelling spelling Is
+pub one_spelling : {X : Type 0} (read : Reading X) (spelling : X → List ℕ) (Is : X → Type 0) → ReadsAgain read spelling Is → IsInjective spelling Is
 one_spelling read spelling Is again p q is_p is_q e = (no_prefix read spelling Is again p q [] [] is_p is_q (ap (λ (t : List ℕ). t ++ []) e)).0

@@ -13,7 +13,7 @@
 //! above, in the words of `specs/Grammar`.
 #![tactic(auto)]
 
-mod bytes;
+mod list_of;
 mod fault;
 mod fields;
 mod laws;
@@ -21,7 +21,7 @@ mod memory;
 mod reader;
 mod writer;
 
-pub use bytes::Bytes;
+pub use list_of::{Bytes, ListOf};
 pub use fault::{Form, FormFault, ReadError, Short};
 pub use laws::field_laws;
 pub use memory::NoMemory;

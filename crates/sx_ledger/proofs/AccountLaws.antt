@@ -15,12 +15,12 @@ use Rattle.sx_bytes.proofs.Ordered.{and_parts}
 use Rattle.sx_bytes.proofs.Parts.{TakesAll, ReadsAgain, three_take, three_again}
 use Rattle.sx_bytes.proofs.Steps.{range_takes, range_again}
 use Rattle.sx_tx.specs.Transactions.{IsId}
-use Rattle.sx_tx.specs.TransactionReading.{id_at}
+use Rattle.sx_tx.specs.TransactionDecoding.{id_at}
 use Rattle.sx_tx.proofs.FieldLaws.{id_takes, id_again}
 use Rattle.sx_ledger.specs.declared.account.Account.{Account}
 use Rattle.sx_ledger.specs.Ledger.{ids, IsPrice, IsAccount}
-use Rattle.sx_ledger.specs.Spelling.{account_bytes}
-use Rattle.sx_ledger.specs.Reading.{price_at, units_at, last_at, account_at, next_account_at, accounts_at, account_list_at}
+use Rattle.sx_ledger.specs.Encoding.{account_bytes}
+use Rattle.sx_ledger.specs.Decoding.{price_at, units_at, last_at, account_at, next_account_at, accounts_at, account_list_at}
 use Rattle.sx_ledger.proofs.Chained.{AreNumbers, numbers_take, numbers_again, guard_takes, guard_again, chained_takes, chained_again}
 use Rattle.sx_ledger.proofs.Each.{IsTaken, each_takes, each_again}
 

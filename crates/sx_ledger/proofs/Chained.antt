@@ -10,7 +10,7 @@ use Rattle.sx_bytes.specs.Grammar.{◌>>=◌, many_at}
 use Rattle.sx_bytes.proofs.Grammar.{bind_ok, guard_ok, Takes, Takes-then, Again, many_takes, many_again}
 use Rattle.sx_bytes.proofs.Parts.{Reading, TakesAll, ReadsAgain}
 use Rattle.sx_bytes.proofs.Steps.{bytes_behind, again_then}
-use Rattle.sx_ledger.specs.Reading.{guarded}
+use Rattle.sx_ledger.specs.Decoding.{guarded}
 
 module _ {X Y : Type 0} (first : Reading X) (others : X → Reading Y) (s1 : X → List ℕ) (s2 : Y → List ℕ) (P : X → Type 0) (Q : X → Y → Type 0) (of : Y → X) where
   -- what is read first, and by it the whole

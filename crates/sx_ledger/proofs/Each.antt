@@ -13,7 +13,7 @@ use Rattle.sx_bytes.proofs.Grammar.{bind_ok, Takes, Takes-none, Takes-then, Agai
 use Rattle.sx_bytes.proofs.Loop.{with_front, regroup}
 use Rattle.sx_bytes.proofs.Ordered.{and_parts}
 use Rattle.sx_bytes.proofs.Steps.{bytes_behind}
-use Rattle.sx_ledger.specs.Reading.{each_at}
+use Rattle.sx_ledger.specs.Decoding.{each_at}
 
 -- an entry, where the mark of the one before it is known
 abbrev pub Entry : Type 0 → Type 0 → Type 0

@@ -12,7 +12,7 @@ use Rattle.sx_bytes.proofs.Parts.{Reading, made_is}
 use Rattle.sx_bytes.proofs.Steps.{between_is}
 use Rattle.sx_ledger.specs.declared.account.Account.{Account}
 use Rattle.sx_ledger.specs.Ledger.{ids}
-use Rattle.sx_ledger.specs.Reading.{price_at, units_at, each_at, account_at, next_account_at, accounts_at, account_list_at, head_at}
+use Rattle.sx_ledger.specs.Decoding.{price_at, units_at, each_at, account_at, next_account_at, accounts_at, account_list_at, head_at}
 use Rattle.sx_ledger.proofs.AccountLaws.{increasing_from_order}
 use Rattle.sx_ledger.proofs.Chained.{guard_takes}
 use Rattle.sx_ledger.proofs.Each.{Entry}

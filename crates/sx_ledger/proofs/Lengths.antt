@@ -9,8 +9,8 @@ use Rattle.sx_ledger.specs.declared.account.Account.{Account}
 use Rattle.sx_ledger.specs.declared.offer.Offer.{Offer}
 use Rattle.sx_ledger.specs.declared.parts.Parts.{Parts}
 use Rattle.sx_ledger.specs.Ledger.{assets_of, IsAccount, IsLedger}
-use Rattle.sx_ledger.specs.Spelling.{account_bytes, offer_bytes, state_bytes}
-use Rattle.sx_ledger.specs.Laws.{FitsRecord}
+use Rattle.sx_ledger.specs.Encoding.{account_bytes, offer_bytes, state_bytes}
+use Rattle.sx_ledger.specs.Laws.{EveryStateFits}
 
 -- texts of one length
 length-texts : {X : Type 0} (spell : X → List ℕ) (k : ℕ) (xs : List X) → AllByRecursion (λ x. length (spell x) ≡ k) xs → length (flat_map spell xs) ≡ length xs * k
@@ -59,7 +59,7 @@ length-state_bytes parts is =
     let from_prices = length-append prices (rounding ++ (big_bytes 4 (length parts.accounts) ++ (accounts ++ (big_bytes 4 (length parts.offers) ++ offers)))) in
     omega (arith, is.one_rounding)
 
-pub state_fits : FitsRecord
+pub state_fits : EveryStateFits
 state_fits parts is =
     let n = assets_of parts in
     let most : length parts.accounts * (16 + 8 * n) ≤ 65536 * (16 + 8 * n) = mul-le-mul_right (16 + 8 * n) is.few_accounts in

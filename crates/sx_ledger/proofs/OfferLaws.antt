@@ -14,15 +14,15 @@ use Rattle.sx_bytes.proofs.Grammar.{bind_ok, guard_ok, Takes, Again}
 use Rattle.sx_bytes.proofs.Parts.{Reading, TakesAll, ReadsAgain, three_at, three_take, three_again}
 use Rattle.sx_bytes.proofs.Steps.{range_takes, range_again}
 use Rattle.sx_tx.specs.Transactions.{IsId, IsSeq, IsAmount, IsLimit}
-use Rattle.sx_tx.specs.TransactionReading.{id_at, seq_at, amount_at, limit_at}
+use Rattle.sx_tx.specs.TransactionDecoding.{id_at, seq_at, amount_at, limit_at}
 use Rattle.sx_tx.proofs.FieldLaws.{id_takes, id_again, seq_takes, seq_again, amount_takes, amount_again, limit_takes, limit_again}
 use Rattle.sx_ledger.specs.declared.account.Account.{Account}
 use Rattle.sx_ledger.specs.declared.key.Key.{Key}
 use Rattle.sx_ledger.specs.declared.offer.Offer.{Offer}
 use Rattle.sx_ledger.specs.Ledger.{keys, has_owner, IsOffer}
 use Rattle.sx_ledger.specs.Order.{key_of, key_before}
-use Rattle.sx_ledger.specs.Spelling.{offer_bytes}
-use Rattle.sx_ledger.specs.Reading.{guarded, sell_at, buy_at, offer_at, next_offer_at, offers_at, offer_list_at}
+use Rattle.sx_ledger.specs.Encoding.{offer_bytes}
+use Rattle.sx_ledger.specs.Decoding.{guarded, sell_at, buy_at, offer_at, next_offer_at, offers_at, offer_list_at}
 use Rattle.sx_ledger.proofs.Chained.{guard_takes, guard_again, chained_takes, chained_again}
 use Rattle.sx_ledger.proofs.Each.{IsTaken, each_takes, each_again}
 

@@ -9,14 +9,14 @@ use Rattle.sx_bytes.specs.declared.fault.ReadError.{ReadError}
 use Rattle.sx_bytes.specs.Field.{AreBytes}
 use Rattle.sx_bytes.specs.Cursor.{Cursor, rest, left}
 use Rattle.sx_bytes.specs.Grammar.{◌>>=◌, Gives}
-use Rattle.sx_bytes.specs.Laws.{OneSpelling, NoPrefix}
+use Rattle.sx_bytes.specs.Laws.{IsInjective, IsPrefixFree}
 use Rattle.sx_bytes.proofs.Grammar.{bind_ok, guard_ok, length-rest}
 use Rattle.sx_bytes.proofs.Ordered.{and_parts}
 use Rattle.sx_bytes.proofs.Parts.{ReadsAgain, one_spelling, no_prefix}
 use Rattle.sx_ledger.specs.declared.parts.Parts.{Parts}
 use Rattle.sx_ledger.specs.Ledger.{assets_of, total_of, IsLedger}
-use Rattle.sx_ledger.specs.Spelling.{state_bytes}
-use Rattle.sx_ledger.specs.Reading.{guarded, totals_fit, parts_at, state_at}
+use Rattle.sx_ledger.specs.Encoding.{state_bytes}
+use Rattle.sx_ledger.specs.Decoding.{guarded, totals_fit, parts_at, state_at}
 use Rattle.sx_ledger.proofs.PartsLaws.{parts_take, parts_again, ledger_from_read, read_from_ledger}
 
 -- ---- totals that fit are in range, and back
@@ -87,8 +87,8 @@ only_in bytes r parts given is e = subst (λ (read : Result Parts FormFault). Gi
 ledger_again : ReadsAgain parts_at state_bytes IsLedger
 ledger_again c parts after is within e = parts_again c parts after (read_from_ledger parts is) within e
 
-pub states_of_one_spelling : OneSpelling state_bytes IsLedger
+pub states_of_one_spelling : IsInjective state_bytes IsLedger
 states_of_one_spelling = one_spelling parts_at state_bytes IsLedger ledger_again
 
-pub states_no_prefix : NoPrefix state_bytes IsLedger
+pub states_no_prefix : IsPrefixFree state_bytes IsLedger
 states_no_prefix = no_prefix parts_at state_bytes IsLedger ledger_again

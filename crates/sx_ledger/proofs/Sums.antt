@@ -7,7 +7,7 @@ use Rattle.std.proofs.lemmas.List.{get_or_default}
 use Rattle.std.proofs.lemmas.List.Sums.{AllPass-from_list_all, list_all-from_AllPass}
 use Rattle.sx_ledger.specs.declared.parts.Parts.{Parts}
 use Rattle.sx_ledger.specs.Ledger.{total_of}
-use Rattle.sx_ledger.specs.Reading.{totals_fit}
+use Rattle.sx_ledger.specs.Decoding.{totals_fit}
 
 -- totals that fit are in range, and back
 pub totals_in_range : (parts : Parts) (n : ℕ) → totals_fit parts n ≡ true → (asset : ℕ) → asset < n → total_of parts asset ≤ 2 ^ 62

@@ -2,8 +2,8 @@
 use Rattle.std.specs.Prelude.{◌≤◌, length}
 use Rattle.sx_ledger.specs.declared.parts.Parts.{Parts}
 use Rattle.sx_ledger.specs.Ledger.{IsLedger}
-use Rattle.sx_ledger.specs.Spelling.{state_bytes}
+use Rattle.sx_ledger.specs.Encoding.{state_bytes}
 
 -- the longest spelling has 26,739,218 bytes, which fit the payload of a record
-abbrev pub FitsRecord : Type 0
-FitsRecord = (parts : Parts) → IsLedger parts → length (state_bytes parts) ≤ 26739218
+abbrev pub EveryStateFits : Type 0
+EveryStateFits = (parts : Parts) → IsLedger parts → length (state_bytes parts) ≤ 26739218

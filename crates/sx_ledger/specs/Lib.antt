@@ -1,7 +1,7 @@
 pub mod Order
 pub mod Ledger
-pub mod Spelling
-pub mod Reading
+pub mod Encoding
+pub mod Decoding
 pub mod Laws
 pub mod Static
 pub mod Effects

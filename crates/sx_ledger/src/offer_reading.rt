@@ -5,7 +5,7 @@ ghost use Rattle.std.specs.List.Sorted.{IsStrictlyIncreasing};
 ghost use Rattle.sx_bytes.specs.Grammar.{Finds, Reads, may_follow};
 ghost use Rattle.sx_ledger.specs.Ledger.{ids};
 ghost use Rattle.sx_ledger.specs.Order.{key_before};
-ghost use Rattle.sx_ledger.specs.Reading.{sell_at, buy_at, offer_at, next_offer_at, offers_at, offer_list_at};
+ghost use Rattle.sx_ledger.specs.Decoding.{sell_at, buy_at, offer_at, next_offer_at, offers_at, offer_list_at};
 
 use crate::account::Account;
 use crate::finding::has_owner;
@@ -51,7 +51,7 @@ fn buy(from: &mut Reader, assets: u8, sell: AssetId) -> Result<AssetId, FormFaul
 }
 
 #[inline]
-#[tactic(auto, unfolding(crate::specs::Reading::offer_at))]
+#[tactic(auto, unfolding(crate::specs::Decoding::offer_at))]
 fn offer(from: &mut Reader, assets: u8) -> Result<Offer, FormFault>
     requires some { 1 ≤ assets }
     requires few { assets ≤ 32 }
@@ -83,7 +83,7 @@ fn follows(before: Option<Key>, key: &Key) -> bool
     }
 }
 
-#[tactic(auto, unfolding(crate::specs::Reading::next_offer_at))]
+#[tactic(auto, unfolding(crate::specs::Decoding::next_offer_at))]
 fn next_offer(
     from: &mut Reader,
     assets: u8,
@@ -133,7 +133,7 @@ fn offers(
 }
 
 /// The offers at the place, by these accounts: their number, and so many offers.
-#[tactic(auto, unfolding(crate::specs::Reading::offer_list_at))]
+#[tactic(auto, unfolding(crate::specs::Decoding::offer_list_at))]
 pub fn offer_list(
     alloc: Global,
     from: &mut Reader,

@@ -7,8 +7,8 @@ ghost use Rattle.sx_bytes.specs.Cursor.{Leaves};
 ghost use Rattle.sx_bytes.specs.Grammar.{between, Gives, Reads, field_at, many_at};
 ghost use Rattle.sx_ledger.specs.declared.parts.Parts.{Parts};
 ghost use Rattle.sx_ledger.specs.Ledger.{IsLedger};
-ghost use Rattle.sx_ledger.specs.Spelling.{state_bytes};
-ghost use Rattle.sx_ledger.specs.Reading.{price_at, units_at, account_at, next_account_at, accounts_at, account_list_at, head_at, parts_at, state_at};
+ghost use Rattle.sx_ledger.specs.Encoding.{state_bytes};
+ghost use Rattle.sx_ledger.specs.Decoding.{price_at, units_at, account_at, next_account_at, accounts_at, account_list_at, head_at, parts_at, state_at};
 
 use crate::account::{Account, Accounts};
 use crate::ledger::Ledger;
@@ -79,7 +79,7 @@ fn units(alloc: Global, from: &mut Reader, assets: u8) -> Result<Vec<u64>, ReadE
     Ok(units)
 }
 
-#[tactic(auto, unfolding(crate::specs::Reading::account_at))]
+#[tactic(auto, unfolding(crate::specs::Decoding::account_at))]
 fn account(alloc: Global, from: &mut Reader, assets: u8) -> Result<Account, ReadError>
     ensures { Reads (λ account. account) (account_at assets from.old) from.new result }
 {
@@ -93,7 +93,7 @@ fn account(alloc: Global, from: &mut Reader, assets: u8) -> Result<Account, Read
     })
 }
 
-#[tactic(auto, unfolding(crate::specs::Reading::next_account_at))]
+#[tactic(auto, unfolding(crate::specs::Decoding::next_account_at))]
 fn next_account(
     alloc: Global,
     from: &mut Reader,
@@ -132,7 +132,7 @@ fn accounts(
     Ok(accounts)
 }
 
-#[tactic(auto, unfolding(crate::specs::Reading::account_list_at))]
+#[tactic(auto, unfolding(crate::specs::Decoding::account_list_at))]
 fn account_list(alloc: Global, from: &mut Reader, assets: u8) -> Result<Vec<Account>, ReadError>
     ensures { Reads (λ v. v.items) (account_list_at assets from.old) from.new result }
 {
@@ -149,7 +149,7 @@ struct Head {
     rounding: Vec<u64>,
 }
 
-#[tactic(auto, unfolding(crate::specs::Reading::head_at))]
+#[tactic(auto, unfolding(crate::specs::Decoding::head_at))]
 fn read_head(alloc: Global, from: &mut Reader) -> Result<Head, ReadError>
     ensures { Reads (λ head. (head.version, head.height, head.prices, head.rounding.items)) (head_at from.old) from.new result }
 {
@@ -166,7 +166,7 @@ fn read_head(alloc: Global, from: &mut Reader) -> Result<Head, ReadError>
     })
 }
 
-#[tactic(auto, unfolding(crate::specs::Reading::parts_at))]
+#[tactic(auto, unfolding(crate::specs::Decoding::parts_at))]
 fn parts(alloc: Global, from: &mut Reader) -> Result<Parts, ReadError>
     ensures { Reads (λ parts. parts) (parts_at from.old) from.new result }
 {
@@ -189,7 +189,7 @@ fn parts(alloc: Global, from: &mut Reader) -> Result<Parts, ReadError>
     })
 }
 
-#[tactic(auto, unfolding(crate::specs::Reading::state_at))]
+#[tactic(auto, unfolding(crate::specs::Decoding::state_at))]
 fn whole(alloc: Global, payload: &[u8]) -> Result<Parts, ReadError>
     ensures { Gives (λ parts. parts) result (state_at payload.now) }
 {

@@ -3,7 +3,7 @@
 ghost use Rattle.std.specs.Prelude.{◌≡◌, ℕ, ◌+◌, ◌<◌, ◌≤◌, ◌^◌, All, length, sum_by, slice_index, nat_le};
 ghost use Rattle.std.specs.List.{list_all};
 ghost use Rattle.sx_ledger.specs.Ledger.{assets_of, balance_at, offered, total_of};
-ghost use Rattle.sx_ledger.specs.Reading.{totals_fit as all_fit};
+ghost use Rattle.sx_ledger.specs.Decoding.{totals_fit as all_fit};
 
 use crate::account::Account;
 use crate::ledger::Ledger;

@@ -5,7 +5,7 @@ ghost use Rattle.std.specs.List.{flat_map};
 ghost use Rattle.byteorder.specs.Endian.{big_bytes};
 ghost use Rattle.sx_bytes.specs.Written.{Begins};
 ghost use Rattle.sx_ledger.specs.Ledger.{IsLedger};
-ghost use Rattle.sx_ledger.specs.Spelling.{account_bytes, offer_bytes, state_bytes};
+ghost use Rattle.sx_ledger.specs.Encoding.{account_bytes, offer_bytes, state_bytes};
 
 use crate::account::Account;
 use crate::ledger::Ledger;

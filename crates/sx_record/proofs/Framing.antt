@@ -9,7 +9,7 @@ use Rattle.sx_bytes.specs.declared.fault.Form.TheVariants as form
 use Rattle.sx_record.specs.declared.fault.RecordFault.{RecordFault}
 use Rattle.sx_record.specs.declared.fault.RecordFault.TheVariants.{NoMemory, Failed, Form}
 use Rattle.sx_record.specs.Frame.{most_bytes}
-use Rattle.sx_record.specs.Reading.{bytes_at, length_at, behind_tag, record_at}
+use Rattle.sx_record.specs.Decoding.{bytes_at, length_at, behind_tag, record_at}
 use Rattle.sx_record.specs.Stream.{Took, EndsShort, Reads, HasTag, IfForm}
 
 -- ---- so many bytes

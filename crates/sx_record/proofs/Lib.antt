@@ -1,3 +1,3 @@
 pub mod Taking
 pub mod Framing
-pub mod Spelling
+pub mod Encoding

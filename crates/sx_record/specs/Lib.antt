@@ -1,4 +1,4 @@
 pub mod Frame
-pub mod Reading
+pub mod Decoding
 pub mod Stream
 pub mod Laws

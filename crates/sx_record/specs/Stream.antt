@@ -4,7 +4,7 @@ use Rattle.sx_bytes.specs.declared.fault.Form.TheVariants as form
 use Rattle.sx_bytes.specs.declared.fault.FormFault.{FormFault}
 use Rattle.sx_record.specs.declared.fault.RecordFault.{RecordFault}
 use Rattle.sx_record.specs.declared.fault.RecordFault.TheVariants.{NoMemory, Failed, Form}
-use Rattle.sx_record.specs.Reading.{Reading}
+use Rattle.sx_record.specs.Decoding.{Reading}
 
 -- What a call answers is what the reading does with the bytes of a source that tells them, and so
 -- is what it leaves of them. Nothing is said of another source, nor where it failed or memory ran

@@ -4,7 +4,7 @@ ghost use Rattle.std.specs.Prelude.{◌≡◌, ◌+◌, ◌-◌, ◌^◌, ◌<�
 ghost use Rattle.byteorder.specs.Endian.{big_bytes, big_number};
 ghost use Rattle.sx_base.specs.Outside.{Rose};
 ghost use Rattle.sx_record.specs.Frame.{most_bytes, record_bytes, MayStand};
-ghost use Rattle.sx_record.specs.Reading.{length_at, record_at};
+ghost use Rattle.sx_record.specs.Decoding.{length_at, record_at};
 ghost use Rattle.sx_record.specs.Stream.{Took, Adds, EndsShort, Reads, HasTag, UnlessFailed, IfForm};
 
 use crate::fault::RecordFault;

@@ -25,7 +25,7 @@ use Rattle.sx_run.specs.BlockReading.{header_at, body_at, block_at, BodyStandsAt
 use Rattle.sx_run.proofs.HeaderLaws.{header_bytes, IsHeader, header_takes, header_again}
 use Rattle.sx_tx.specs.declared.tx.Tx.{Tx}
 use Rattle.sx_tx.specs.Transactions.{tx_bytes, list_bytes, IsTx}
-use Rattle.sx_tx.specs.TransactionReading.{tx_at}
+use Rattle.sx_tx.specs.TransactionDecoding.{tx_at}
 use Rattle.sx_tx.proofs.TxLaws.{tx_takes, tx_again}
 
 -- ---- the list of transactions

@@ -6,7 +6,7 @@ use Rattle.std.proofs.lemmas.List.{nil_from_length}
 use Rattle.sx_bytes.specs.declared.memory.NoMemory.{NoMemory}
 use Rattle.sx_ledger.specs.declared.parts.Parts.{Parts}
 use Rattle.sx_ledger.specs.Ledger.{IsLedger}
-use Rattle.sx_ledger.specs.Spelling.{state_bytes}
+use Rattle.sx_ledger.specs.Encoding.{state_bytes}
 use Rattle.sx_run.specs.declared.block.Block.{Block}
 use Rattle.sx_run.specs.declared.invalid.Invalid.{Invalid}
 use Rattle.sx_run.specs.declared.invalid.Invalid.TheVariants.{Overdrawn}

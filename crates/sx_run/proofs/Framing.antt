@@ -5,9 +5,9 @@ use Rattle.sx_bytes.specs.declared.fault.FormFault.{FormFault}
 use Rattle.sx_record.specs.declared.fault.RecordFault.TheVariants as record_fault
 use Rattle.sx_record.specs.declared.frame.Record.{Record}
 use Rattle.sx_record.specs.Frame.{most_bytes, record_bytes}
-use Rattle.sx_record.specs.Reading.{record_at}
+use Rattle.sx_record.specs.Decoding.{record_at}
 use Rattle.sx_record.specs.Stream.{Took, Reads}
-use Rattle.sx_record.proofs.Spelling.{reads_back, no_prefix, ends_only_at_end}
+use Rattle.sx_record.proofs.Encoding.{reads_back, no_prefix, ends_only_at_end}
 use Rattle.sx_run.specs.Stream.{HasNoRecord, HasMore, IsAtEnd, HasNotBoth}
 
 -- ---- one record

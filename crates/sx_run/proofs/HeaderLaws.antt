@@ -14,7 +14,7 @@ use Rattle.sx_bytes.proofs.Grammar.{bind_ok, guard_ok, guard_short, or_fault_ok,
 use Rattle.sx_bytes.proofs.Ordered.{and_parts}
 use Rattle.sx_bytes.proofs.Steps.{bytes_behind, range_takes, range_again}
 use Rattle.sx_ledger.specs.Ledger.{IsPrice}
-use Rattle.sx_ledger.specs.Reading.{price_at}
+use Rattle.sx_ledger.specs.Decoding.{price_at}
 use Rattle.sx_run.specs.declared.block.Header.{Header}
 use Rattle.sx_run.specs.Block.{IsDigest}
 use Rattle.sx_run.specs.BlockReading.{digest_at, zeros_at, height_at, mu_at, assets_at, front_at, no_trade_at, header_at}

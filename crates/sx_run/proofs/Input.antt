@@ -6,9 +6,9 @@ use Rattle.std.proofs.lemmas.List.{length-append, length-replicate}
 use Rattle.byteorder.specs.Endian.{big_bytes}
 use Rattle.sx_base.specs.Outside.{Appends, AppendsPrefix}
 use Rattle.sx_ledger.specs.declared.parts.Parts.{Parts}
-use Rattle.sx_bytes.specs.Laws.{OneSpelling}
+use Rattle.sx_bytes.specs.Laws.{IsInjective}
 use Rattle.sx_ledger.specs.Ledger.{IsLedger}
-use Rattle.sx_ledger.specs.Spelling.{state_bytes}
+use Rattle.sx_ledger.specs.Encoding.{state_bytes}
 use Rattle.sx_ledger.proofs.Lengths.{length-numbers, state_fits}
 use Rattle.sx_run.specs.declared.block.Block.{Block}
 use Rattle.sx_run.specs.declared.judging.Verdict.{Verdict}
@@ -135,7 +135,7 @@ answered input after before now output status.NoMemory judged written = absurd w
 -- ---- one reading
 
 -- where two states of one spelling are the same, an input is one ledger and one block at most
-pub one_input : OneSpelling state_bytes IsLedger → OneReading
+pub one_input : IsInjective state_bytes IsLedger → OneReading
 one_input one_state parts other block next form form_next e =
     let first = records_same 1 (state_bytes parts) (state_bytes other) (record_bytes 3 (block_bytes block)) (record_bytes 3 (block_bytes next)) (omega arith)
     (omega (arith, state_fits parts form.ledger)) (omega (arith, state_fits other form_next.ledger)) e in

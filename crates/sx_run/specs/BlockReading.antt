@@ -6,11 +6,11 @@ use Rattle.sx_bytes.specs.declared.fault.FormFault.{FormFault}
 use Rattle.sx_bytes.specs.Cursor.{Cursor, left, raw_at}
 use Rattle.sx_bytes.specs.Grammar.{◌>>=◌, or_fault, between, field_at, many_at, ordered_at}
 use Rattle.sx_ledger.specs.Body.{tx_before}
-use Rattle.sx_ledger.specs.Reading.{price_at}
+use Rattle.sx_ledger.specs.Decoding.{price_at}
 use Rattle.sx_run.specs.declared.block.Block.{Block}
 use Rattle.sx_run.specs.declared.block.Header.{Header}
 use Rattle.sx_tx.specs.declared.tx.Tx.{Tx}
-use Rattle.sx_tx.specs.TransactionReading.{tx_at}
+use Rattle.sx_tx.specs.TransactionDecoding.{tx_at}
 
 abbrev pub digest_at : Cursor → Result (List ℕ × Cursor) FormFault
 digest_at c = or_fault (raw_at 32 c)

@@ -3,7 +3,7 @@ use Rattle.std.specs.Prelude.{◌≡◌, ◌≢◌, ℕ, ◌+◌, ◌^◌, ◌<�
 use Rattle.sha2.specs.Sha256.{sha256}
 use Rattle.sx_ledger.specs.declared.parts.Parts.{Parts}
 use Rattle.sx_ledger.specs.Ledger.{IsLedger}
-use Rattle.sx_ledger.specs.Spelling.{state_bytes}
+use Rattle.sx_ledger.specs.Encoding.{state_bytes}
 use Rattle.sx_run.specs.declared.block.Block.{Block}
 use Rattle.sx_run.specs.declared.invalid.Invalid.{Invalid}
 use Rattle.sx_run.specs.declared.invalid.Invalid.TheVariants.{WrongParent, WrongBody, Overdrawn, WrongAfter}

@@ -2,7 +2,7 @@
 use Rattle.std.specs.Prelude.{◌≡◌, ◌≢◌, Option, ℕ, ◌+◌, ◌^◌, ◌<◌, List, [], map, All}
 use Rattle.sx_ledger.specs.declared.parts.Parts.{Parts}
 use Rattle.sx_ledger.specs.Ledger.{IsLedger}
-use Rattle.sx_ledger.specs.Spelling.{state_bytes}
+use Rattle.sx_ledger.specs.Encoding.{state_bytes}
 use Rattle.sx_run.specs.declared.block.Block.{Block}
 use Rattle.sx_run.specs.declared.invalid.Invalid.TheVariants.{WrongAfter}
 use Rattle.sx_run.specs.declared.judging.Verdict.{Verdict}

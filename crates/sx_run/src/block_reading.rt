@@ -6,12 +6,12 @@ ghost use Rattle.sx_bytes.specs.declared.fault.Form.TheVariants as form;
 ghost use Rattle.sx_bytes.specs.declared.fault.ReadError.TheVariants as read_error;
 ghost use Rattle.sx_bytes.specs.Grammar.{Reads, Gives, many_at, may_follow, ordered_at};
 ghost use Rattle.sx_ledger.specs.Body.{tx_before};
-ghost use Rattle.sx_ledger.specs.Reading.{price_at};
+ghost use Rattle.sx_ledger.specs.Decoding.{price_at};
 ghost use Rattle.sx_run.specs.declared.block.Block.{Block};
 ghost use Rattle.sx_run.specs.Block.{block_bytes, IsBlock};
 ghost use Rattle.sx_run.specs.BlockReading.{mu_at, digest_at, zeros_at, front_at, no_trade_at, header_at, body_at, block_at, BodyStandsAt};
 ghost use Rattle.sx_tx.specs.Transactions.{list_bytes};
-ghost use Rattle.sx_tx.specs.TransactionReading.{tx_at};
+ghost use Rattle.sx_tx.specs.TransactionDecoding.{tx_at};
 
 use crate::block::{Block, Header};
 use crate::digest::Digest;

@@ -3,7 +3,7 @@
 
 ghost use Rattle.std.specs.Prelude.{◌≡◌, ◌<◌, ◌≤◌, ◌^◌, length, drop, IfOk, IsErrOf, IsTrue, ◌↔◌};
 ghost use Rattle.sx_ledger.specs.Ledger.{IsLedger};
-ghost use Rattle.sx_ledger.specs.Spelling.{state_bytes};
+ghost use Rattle.sx_ledger.specs.Encoding.{state_bytes};
 ghost use Rattle.sx_ledger.specs.declared.parts.Parts.{Parts};
 ghost use Rattle.sx_run.specs.Block.{block_bytes, IsBlock};
 ghost use Rattle.sx_run.specs.Validity.{IsReplayable, HasParent, HasBody, state_record};

@@ -6,7 +6,7 @@ use Rattle.sx_bytes.proofs.Grammar.{field_takes, field_again}
 use Rattle.sx_bytes.proofs.Steps.{range_takes, range_again}
 use Rattle.sx_bytes.proofs.Parts.{TakesAll, ReadsAgain}
 use Rattle.sx_tx.specs.Transactions.{IsId, IsSeq, IsAsset, IsAmount, IsLimit}
-use Rattle.sx_tx.specs.TransactionReading.{id_at, seq_at, asset_at, amount_at, limit_at}
+use Rattle.sx_tx.specs.TransactionDecoding.{id_at, seq_at, asset_at, amount_at, limit_at}
 
 pub id_takes : TakesAll id_at (big_bytes 8) IsId
 id_takes c next x bytes e = let t = field_takes 8 (λ _. true) form.Short c next x bytes e in (t.0, t.2)

@@ -19,8 +19,8 @@ use Rattle.sx_tx.specs.declared.kind.Kind.{Kind}
 use Rattle.sx_tx.specs.declared.kind.Kind.TheVariants as kind
 use Rattle.sx_tx.specs.declared.tx.Tx.{Tx}
 use Rattle.sx_tx.specs.Transactions.{tx_bytes, list_bytes, IsTx, IsTxList}
-use Rattle.sx_tx.specs.TransactionReading.{tx_at, list_at, candidates_at}
-use Rattle.sx_tx.specs.Laws.{length_of, FitsRecord}
+use Rattle.sx_tx.specs.TransactionDecoding.{tx_at, list_at, candidates_at}
+use Rattle.sx_tx.specs.Laws.{length_of, EveryListFits}
 use Rattle.sx_tx.proofs.TxLaws.{tx_takes, tx_again, length-tx_bytes}
 
 pub list_takes : TakesAll list_at list_bytes IsTxList
@@ -91,5 +91,5 @@ length_texts (tx ∷ txs) =
     let first : length (tx_bytes tx) ≡ length_of tx.kind = length-tx_bytes tx in
     omega (arith, length_most tx.kind, length-append (tx_bytes tx) (flat_map tx_bytes txs))
 
-pub fits_record : FitsRecord
+pub fits_record : EveryListFits
 fits_record txs few = omega (arith, length_texts txs)

@@ -14,7 +14,7 @@ use Rattle.sx_tx.specs.declared.tx.Tx.{Tx}
 use Rattle.sx_tx.specs.Transactions.{terms_bytes, kind_bytes, tx_bytes, IsId, IsSeq, IsAsset, IsAmount, IsLimit, AreTerms, IsKind, IsTx}
 use Rattle.sx_tx.specs.Laws.{length_of, KindIsLength}
 use Rattle.sx_tx.proofs.FieldLaws.{id_takes, id_again, seq_takes, seq_again, asset_takes, asset_again, amount_takes, amount_again, limit_takes, limit_again}
-use Rattle.sx_tx.specs.TransactionReading.{id_at, seq_at, asset_at, amount_at, limit_at, terms_at, pay_at, create_at, offer_at, cancel_at, fields_at, kind_at, tx_at}
+use Rattle.sx_tx.specs.TransactionDecoding.{id_at, seq_at, asset_at, amount_at, limit_at, terms_at, pay_at, create_at, offer_at, cancel_at, fields_at, kind_at, tx_at}
 
 -- ---- the terms of an offer
 

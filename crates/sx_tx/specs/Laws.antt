@@ -19,8 +19,8 @@ abbrev pub KindIsLength : Type 0
 KindIsLength = (tx : Tx) → length (tx_bytes tx) ≡ length_of tx.kind
 
 -- a list of transactions fits the payload of a record
-abbrev pub FitsRecord : Type 0
-FitsRecord = (txs : List Tx) → length txs ≤ 1000000 → length (list_bytes txs) ≤ 67108864
+abbrev pub EveryListFits : Type 0
+EveryListFits = (txs : List Tx) → length txs ≤ 1000000 → length (list_bytes txs) ≤ 67108864
 
 -- where bit i is the highest of the map, the number that it stands for is the last one afterwards
 abbrev pub HighestIsLast : Type 0

@@ -1,4 +1,4 @@
 pub mod Transactions
-pub mod TransactionReading
+pub mod TransactionDecoding
 pub mod Window
 pub mod Laws

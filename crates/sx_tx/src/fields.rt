@@ -4,7 +4,7 @@
 
 ghost use Rattle.std.specs.Prelude.{◌≡◌, ◌≤◌};
 ghost use Rattle.sx_bytes.specs.Cursor.{Leaves};
-ghost use Rattle.sx_tx.specs.TransactionReading.{id_at, seq_at, asset_at, amount_at, limit_at};
+ghost use Rattle.sx_tx.specs.TransactionDecoding.{id_at, seq_at, asset_at, amount_at, limit_at};
 
 use sx_base::{AccountId, Amount, AssetId, Seq};
 use sx_bytes::{Form, FormFault, Reader};

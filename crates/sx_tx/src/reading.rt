@@ -7,7 +7,7 @@ ghost use Rattle.sx_bytes.specs.Cursor.{Leaves};
 ghost use Rattle.sx_bytes.specs.Grammar.{Finds, Reads, Gives, many_at};
 ghost use Rattle.sx_tx.specs.declared.tx.Tx.{Tx};
 ghost use Rattle.sx_tx.specs.Transactions.{list_bytes, IsTxList};
-ghost use Rattle.sx_tx.specs.TransactionReading.{terms_at, pay_at, create_at, offer_at, cancel_at, kind_at, tx_at, list_at, candidates_at};
+ghost use Rattle.sx_tx.specs.TransactionDecoding.{terms_at, pay_at, create_at, offer_at, cancel_at, kind_at, tx_at, list_at, candidates_at};
 
 use crate::fields::{read_amount, read_asset, read_id, read_limit, read_seq};
 use crate::kind::Kind;
@@ -26,7 +26,7 @@ const LEAST_BYTES: usize = 25;
 
 // What is sold, what is bought, and the limit.
 #[inline]
-#[tactic(auto, unfolding(crate::specs::TransactionReading::terms_at))]
+#[tactic(auto, unfolding(crate::specs::TransactionDecoding::terms_at))]
 fn terms(from: &mut Reader) -> Result<(AssetId, AssetId, Limit), FormFault>
     ensures exact { Finds (λ x. x) (terms_at from.old) from.new result }
     ensures same { from.new.bytes ≡ from.old.bytes }
@@ -39,7 +39,7 @@ fn terms(from: &mut Reader) -> Result<(AssetId, AssetId, Limit), FormFault>
 }
 
 #[inline]
-#[tactic(auto, unfolding(crate::specs::TransactionReading::pay_at))]
+#[tactic(auto, unfolding(crate::specs::TransactionDecoding::pay_at))]
 fn pay(from: &mut Reader) -> Result<Kind, FormFault>
     ensures exact { Finds (λ x. x) (pay_at from.old) from.new result }
     ensures same { from.new.bytes ≡ from.old.bytes }
@@ -52,7 +52,7 @@ fn pay(from: &mut Reader) -> Result<Kind, FormFault>
 }
 
 #[inline]
-#[tactic(auto, unfolding(crate::specs::TransactionReading::create_at))]
+#[tactic(auto, unfolding(crate::specs::TransactionDecoding::create_at))]
 fn create(from: &mut Reader) -> Result<Kind, FormFault>
     ensures exact { Finds (λ x. x) (create_at from.old) from.new result }
     ensures same { from.new.bytes ≡ from.old.bytes }
@@ -63,7 +63,7 @@ fn create(from: &mut Reader) -> Result<Kind, FormFault>
 }
 
 #[inline]
-#[tactic(auto, unfolding(crate::specs::TransactionReading::offer_at))]
+#[tactic(auto, unfolding(crate::specs::TransactionDecoding::offer_at))]
 fn offer(from: &mut Reader) -> Result<Kind, FormFault>
     ensures exact { Finds (λ x. x) (offer_at from.old) from.new result }
     ensures same { from.new.bytes ≡ from.old.bytes }
@@ -80,7 +80,7 @@ fn offer(from: &mut Reader) -> Result<Kind, FormFault>
 }
 
 #[inline]
-#[tactic(auto, unfolding(crate::specs::TransactionReading::cancel_at))]
+#[tactic(auto, unfolding(crate::specs::TransactionDecoding::cancel_at))]
 fn cancel(from: &mut Reader) -> Result<Kind, FormFault>
     ensures exact { Finds (λ x. x) (cancel_at from.old) from.new result }
     ensures same { from.new.bytes ≡ from.old.bytes }
@@ -97,7 +97,7 @@ fn cancel(from: &mut Reader) -> Result<Kind, FormFault>
 }
 
 #[inline]
-#[tactic(auto, unfolding(crate::specs::TransactionReading::kind_at))]
+#[tactic(auto, unfolding(crate::specs::TransactionDecoding::kind_at))]
 fn kind(from: &mut Reader) -> Result<Kind, FormFault>
     ensures exact { Finds (λ x. x) (kind_at from.old) from.new result }
     ensures same { from.new.bytes ≡ from.old.bytes }
@@ -113,7 +113,7 @@ fn kind(from: &mut Reader) -> Result<Kind, FormFault>
 
 // A transaction. Where it refuses, the reader may stand anywhere behind its old place.
 #[inline]
-#[tactic(auto, unfolding(crate::specs::TransactionReading::tx_at))]
+#[tactic(auto, unfolding(crate::specs::TransactionDecoding::tx_at))]
 fn tx(from: &mut Reader) -> Result<Tx, FormFault>
     ensures exact { Finds (λ x. x) (tx_at from.old) from.new result }
     ensures same { from.new.bytes ≡ from.old.bytes }
@@ -155,7 +155,7 @@ fn txs(alloc: Global, from: &mut Reader, count: u32) -> Result<TxList, ReadError
     Ok(TxList::of(txs))
 }
 
-#[tactic(auto, unfolding(crate::specs::TransactionReading::list_at))]
+#[tactic(auto, unfolding(crate::specs::TransactionDecoding::list_at))]
 fn list(alloc: Global, from: &mut Reader) -> Result<TxList, ReadError>
     ensures { Reads (λ x. x) (list_at from.old) from.new result }
 {
@@ -163,7 +163,7 @@ fn list(alloc: Global, from: &mut Reader) -> Result<TxList, ReadError>
     txs(alloc, from, count)
 }
 
-#[tactic(auto, unfolding(crate::specs::TransactionReading::candidates_at))]
+#[tactic(auto, unfolding(crate::specs::TransactionDecoding::candidates_at))]
 fn whole(alloc: Global, payload: &[u8]) -> Result<TxList, ReadError>
     ensures { Gives (λ txs. txs) result (candidates_at payload.now) }
 {

@@ -1,6 +1,6 @@
 use Rattle.std.proofs.Common.{◌≡◌, ◌-◌, None}
 use Rattle.sx_bytes.proofs.Loop.{with_front}
-use Rattle.sx_ledger.specs.Reading.{offers_at}
+use Rattle.sx_ledger.specs.Decoding.{offers_at}
 use Rattle.sx_ledger.proofs.offer_reading.offers.Given as goal
 
 -- those read so far and those still to be read are all of them

@@ -1,6 +1,6 @@
 use Rattle.std.proofs.Common.{◌≡◌, ◌-◌, None}
 use Rattle.sx_bytes.proofs.Loop.{with_front}
-use Rattle.sx_ledger.specs.Reading.{accounts_at}
+use Rattle.sx_ledger.specs.Decoding.{accounts_at}
 use Rattle.sx_ledger.proofs.reading.accounts.Given as goal
 
 -- those read so far and those still to be read are all of them

@@ -1,7 +1,7 @@
 use Rattle.std.proofs.Common.{◌≡◌, ◌-◌}
 use Rattle.sx_bytes.specs.Grammar.{many_at}
 use Rattle.sx_bytes.proofs.Loop.{with_front}
-use Rattle.sx_ledger.specs.Reading.{price_at}
+use Rattle.sx_ledger.specs.Decoding.{price_at}
 use Rattle.sx_ledger.proofs.reading.read_prices.Given as goal
 
 abbrev pub invariant-loop : goal.invariant-loop

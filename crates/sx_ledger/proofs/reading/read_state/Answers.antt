@@ -3,7 +3,7 @@ use Rattle.std.proofs.lemmas.Result.{err_from_is_err_and}
 use Rattle.sx_bytes.specs.declared.fault.FormFault.{FormFault}
 use Rattle.sx_bytes.specs.Grammar.{Fails}
 use Rattle.sx_ledger.specs.declared.parts.Parts.{Parts}
-use Rattle.sx_ledger.specs.Reading.{state_at}
+use Rattle.sx_ledger.specs.Decoding.{state_at}
 use Rattle.sx_ledger.proofs.Payload.{state_takes, state_again}
 use Rattle.sx_ledger.proofs.reading.read_state.Goals as goal
 

@@ -1,7 +1,7 @@
 use Rattle.std.proofs.Common.{◌≡◌, ◌-◌}
 use Rattle.sx_bytes.specs.Grammar.{many_at}
 use Rattle.sx_bytes.proofs.Loop.{with_front}
-use Rattle.sx_ledger.specs.Reading.{units_at}
+use Rattle.sx_ledger.specs.Decoding.{units_at}
 use Rattle.sx_ledger.proofs.reading.units.Given as goal
 
 abbrev pub invariant-loop : goal.invariant-loop

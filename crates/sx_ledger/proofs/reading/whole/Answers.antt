@@ -2,7 +2,7 @@ use Rattle.std.proofs.Common.{◌≡◌, ℕ, List, Ok, sym, ap, subst, arith}
 use Rattle.sx_bytes.specs.Cursor.{Cursor}
 use Rattle.sx_bytes.specs.Field.{AreBytes}
 use Rattle.sx_ledger.specs.declared.parts.Parts.{Parts}
-use Rattle.sx_ledger.specs.Reading.{parts_at}
+use Rattle.sx_ledger.specs.Decoding.{parts_at}
 use Rattle.sx_ledger.proofs.PartsLaws.{IsRead, parts_take}
 use Rattle.sx_ledger.proofs.reading.whole.Goals as goal
 

@@ -1,5 +1,5 @@
 use Rattle.sx_bytes.proofs.Written.{flat_map-taken}
-use Rattle.sx_ledger.specs.Spelling.{account_bytes}
+use Rattle.sx_ledger.specs.Encoding.{account_bytes}
 use Rattle.sx_ledger.proofs.writing.put_accounts.Goals as goal
 
 pub loop-account-preserved : goal.loop-account-preserved

@@ -1,6 +1,6 @@
 use Rattle.std.proofs.Common.{◌≡◌, ◌++◌, take}
 use Rattle.std.specs.List.{flat_map}
-use Rattle.sx_ledger.specs.Spelling.{account_bytes}
+use Rattle.sx_ledger.specs.Encoding.{account_bytes}
 use Rattle.sx_ledger.proofs.writing.put_accounts.Given as goal
 
 abbrev pub invariant-loop-account : goal.invariant-loop-account

@@ -1,5 +1,5 @@
 use Rattle.sx_bytes.proofs.Written.{flat_map-taken}
-use Rattle.sx_ledger.specs.Spelling.{offer_bytes}
+use Rattle.sx_ledger.specs.Encoding.{offer_bytes}
 use Rattle.sx_ledger.proofs.writing.put_offers.Goals as goal
 
 pub loop-offer-preserved : goal.loop-offer-preserved

@@ -1,6 +1,6 @@
 use Rattle.std.proofs.Common.{◌≡◌, ◌++◌, take}
 use Rattle.std.specs.List.{flat_map}
-use Rattle.sx_ledger.specs.Spelling.{offer_bytes}
+use Rattle.sx_ledger.specs.Encoding.{offer_bytes}
 use Rattle.sx_ledger.proofs.writing.put_offers.Given as goal
 
 abbrev pub invariant-loop-offer : goal.invariant-loop-offer

@@ -5,7 +5,7 @@ use Rattle.std.proofs.lemmas.Result.{on_err_weaker}
 use Rattle.byteorder.specs.Endian.{big_bytes}
 use Rattle.sx_bytes.specs.Written.{Begins}
 use Rattle.sx_bytes.proofs.Written.{begins_since, written_then}
-use Rattle.sx_ledger.specs.Spelling.{account_bytes, offer_bytes}
+use Rattle.sx_ledger.specs.Encoding.{account_bytes, offer_bytes}
 use Rattle.sx_ledger.proofs.writing.put_state.Goals as goal
 
 on_err : {T E P : Type 0} (r : Result T E) → P → OnErr r P

@@ -1,4 +1,4 @@
-use Rattle.sx_record.proofs.Spelling.{spells_back, reads_back, no_prefix, ends_only_at_end}
+use Rattle.sx_record.proofs.Encoding.{spells_back, reads_back, no_prefix, ends_only_at_end}
 use Rattle.sx_record.proofs.laws.record_laws.Goals as goal
 
 pub returns-clause-spelled : goal.returns-clause-spelled

@@ -5,7 +5,7 @@ use Rattle.sx_bytes.specs.declared.fault.ReadError.TheVariants as read_error
 use Rattle.sx_bytes.specs.Grammar.{ordered_at}
 use Rattle.sx_bytes.proofs.Ordered.{ordered_goes_on, ordered_ends, ordered_breaks, ordered_done}
 use Rattle.sx_ledger.specs.Body.{tx_before}
-use Rattle.sx_tx.specs.TransactionReading.{tx_at}
+use Rattle.sx_tx.specs.TransactionDecoding.{tx_at}
 use Rattle.sx_run.proofs.block_reading.txs.Goals as goal
 
 pub returns-in_err-next : goal.returns-in_err-next

@@ -3,7 +3,7 @@ use Rattle.sx_bytes.specs.declared.fault.Form.TheVariants as form
 use Rattle.sx_bytes.specs.Grammar.{ordered_at}
 use Rattle.sx_bytes.proofs.Loop.{with_front}
 use Rattle.sx_ledger.specs.Body.{tx_before}
-use Rattle.sx_tx.specs.TransactionReading.{tx_at}
+use Rattle.sx_tx.specs.TransactionDecoding.{tx_at}
 use Rattle.sx_run.proofs.block_reading.txs.Given as goal
 
 abbrev pub invariant-loop : goal.invariant-loop

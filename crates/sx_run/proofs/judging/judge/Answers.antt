@@ -1,6 +1,6 @@
 use Rattle.std.proofs.Common.{◌≡◌, length, ◌∙◌, ap, sym, arith}
 use Rattle.std.proofs.lemmas.Result.{err_from_is_err_and}
-use Rattle.sx_ledger.specs.Spelling.{state_bytes}
+use Rattle.sx_ledger.specs.Encoding.{state_bytes}
 use Rattle.sx_ledger.proofs.Lengths.{state_fits}
 use Rattle.sx_run.specs.Block.{block_bytes}
 use Rattle.sx_run.proofs.Deciding.{none_of_form, judged}

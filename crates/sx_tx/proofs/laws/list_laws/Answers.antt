@@ -1,6 +1,6 @@
 use Rattle.sx_bytes.proofs.Parts.{read_is_spelled, spelled_is_read, one_spelling, no_prefix}
 use Rattle.sx_tx.specs.Transactions.{list_bytes, IsTxList}
-use Rattle.sx_tx.specs.TransactionReading.{list_at}
+use Rattle.sx_tx.specs.TransactionDecoding.{list_at}
 use Rattle.sx_tx.proofs.ListLaws.{list_takes, list_again, fits_record}
 use Rattle.sx_tx.proofs.laws.list_laws.Goals as goal
 

@@ -1,6 +1,6 @@
 use Rattle.sx_bytes.proofs.Parts.{read_is_spelled, spelled_is_read, one_spelling, no_prefix}
 use Rattle.sx_tx.specs.Transactions.{tx_bytes, IsTx}
-use Rattle.sx_tx.specs.TransactionReading.{tx_at}
+use Rattle.sx_tx.specs.TransactionDecoding.{tx_at}
 use Rattle.sx_tx.proofs.TxLaws.{tx_takes, tx_again, length-tx_bytes}
 use Rattle.sx_tx.proofs.laws.tx_laws.Goals as goal
 

@@ -2,7 +2,7 @@ use Rattle.std.proofs.lemmas.Result.{err_from_is_err_and}
 use Rattle.sx_bytes.specs.declared.fault.ReadError.TheVariants as read_error
 use Rattle.sx_bytes.specs.Grammar.{many_at}
 use Rattle.sx_bytes.proofs.Loop.{goes_on, ends, is_done}
-use Rattle.sx_tx.specs.TransactionReading.{tx_at}
+use Rattle.sx_tx.specs.TransactionDecoding.{tx_at}
 use Rattle.sx_tx.proofs.reading.txs.Goals as goal
 
 pub returns-in_err-account : goal.returns-in_err-account

@@ -10,7 +10,7 @@ use Rattle.sx_ledger.specs.declared.offer.Offer.{Offer}
 use Rattle.sx_ledger.specs.declared.parts.Parts.{Parts}
 use Rattle.sx_ledger.specs.Ledger.{assets_of, has_owner, total_of}
 use Rattle.sx_ledger.specs.Order.{key_of, key_before}
-use Rattle.sx_tx.specs.TransactionReading.{id_at, seq_at, amount_at, limit_at}
+use Rattle.sx_tx.specs.TransactionDecoding.{id_at, seq_at, amount_at, limit_at}
 
 abbrev pub price_at : Cursor → Result (ℕ × Cursor) FormFault
 price_at = field_at 8 (between (2 ^ 8) (2 ^ 40)) form.PriceRange

@@ -14,8 +14,8 @@ use Rattle.sx_bytes.proofs.Field.{length-big_bytes, big_bytes-big_number, big_nu
 use Rattle.sx_bytes.proofs.Grammar.{AreBytes-take}
 use Rattle.sx_record.specs.declared.frame.Record.{Record}
 use Rattle.sx_record.specs.Frame.{most_bytes}
-use Rattle.sx_record.specs.Reading.{Reading, done, fails, go_on, bytes_at, length_at, behind_tag, record_at}
-use Rattle.sx_record.specs.Laws.{SpellsBack, ReadsBack, NoPrefix, EndsOnlyAtEnd}
+use Rattle.sx_record.specs.Decoding.{Reading, done, fails, go_on, bytes_at, length_at, behind_tag, record_at}
+use Rattle.sx_record.specs.Laws.{DecodesOnlyRecords, DecodesEveryRecord, AreRecordsPrefixFree, EndsOnlyAtEnd}
 use Rattle.sx_record.proofs.Framing.{bytes_taken, length_taken}
 
 -- ---- the tags that may stand at a place
@@ -44,14 +44,14 @@ unfolding record_at behind_tag
 record_taken tags at tag n field payload rest among len number fits whole =
     rw (among, length_taken (at + 1) n field (payload ++ rest) len number fits, bytes_taken n (at + 5) payload rest whole) refl
 
-pub reads_back : ReadsBack
+pub reads_back : DecodesEveryRecord
 reads_back tags payload rest tag at small among fits =
     let n = length payload in
     let same : tag % 256 ≡ tag = mod-eq_of_lt small in
     let number : n ≡ big_number 4 (big_bytes 4 n) = sym (big_number-big_bytes 4 n (omega arith)) in
     rw same (record_taken tags at tag n (big_bytes 4 n) payload rest (listed tags tag among) (length-big_bytes 4 n) number fits refl)
 
-pub no_prefix : NoPrefix
+pub no_prefix : AreRecordsPrefixFree
 no_prefix t u p q x y small_t small_u fits_p fits_q e =
     let tags : List ℕ = t ∷ u ∷ [] in
     let one = reads_back tags p x t 0 small_t (0, omega arith, refl) fits_p in
@@ -147,7 +147,7 @@ behind_ok tag at bytes rest answer are e =
       },
     )
 
-pub spells_back : SpellsBack
+pub spells_back : DecodesOnlyRecords
 unfolding record_at
 spells_back tags [] rest at found are e =
     absurd (let f = ap (λ (a : Result (Option Record) FormFault × List ℕ). a.0) e in cc)
