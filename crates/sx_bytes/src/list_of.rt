@@ -3,6 +3,7 @@
 ghost use Rattle.std.specs.Prelude.{◌≡◌};
 ghost use Rattle.std.specs.Cmp.Lexicographic.{pointwise, lists_per, lists_equiv};
 
+use std::alloc::Global;
 use std::marker::Model;
 
 /// A list of values, over the vector that holds them. Contracts see the list, and two lists are
@@ -38,6 +39,11 @@ impl<T> ListOf<T> {
         ensures { result.now ≡ self.now }
     {
         &self.entries
+    }
+
+    /// The allocator of the vector, with which a copy of the list is made.
+    pub fn allocator(&self) -> Global {
+        *self.entries.allocator()
     }
 
     /// Gives the vector back. It takes no memory.
