@@ -1,13 +1,16 @@
+//! Decoding unsigned integers from a slice.
+
 ghost use Rattle.std.specs.Prelude.{◌≡◌, ◌≤◌, length, IfOk};
-ghost use Rattle.sx_bytes.specs.Cursor.{left, raw_at, number_at, Leaves};
+ghost use Rattle.sx_bytes.specs.Cursor.{left, raw_at, uint_at, Decodes};
 
 use crate::fault::Short;
 use byteorder::{BigEndian, ByteOrder};
 use std::marker::Model;
 
-/// A place in a slice of bytes, from which numbers are read one after the other. Each read answers
-/// the exact bytes or number at the place and moves behind it, or answers `Short` where too few
-/// bytes are left and stays where it is. Contracts see the whole slice and the place.
+/// A slice of bytes and a place in it, from which unsigned integers are decoded, the highest byte
+/// first. Each call answers the exact bytes or integer at the place and moves after it, or answers
+/// `Short`, exactly where too few bytes are left, and does not change. Contracts see the whole
+/// slice and the place.
 #[derive(Debug, Drop)]
 pub struct Reader<'a> {
     bytes: &'a [u8],
@@ -33,7 +36,7 @@ impl<'a> Reader<'a> {
         Reader { bytes, place: 0 }
     }
 
-    /// How many bytes lie before the place.
+    /// How many bytes are before the place.
     pub fn place(&self) -> usize
         ensures place { result ≡ self.now.place }
         ensures within { self.now.place ≤ length self.now.bytes }
@@ -50,7 +53,7 @@ impl<'a> Reader<'a> {
 
     /// The next `n` bytes as they are.
     pub fn raw(&mut self, n: usize) -> Result<&'a [u8], Short>
-        ensures exact { Leaves (λ bytes. bytes.now) (raw_at n self.old) self.old self.new result }
+        ensures exact { Decodes (λ bytes. bytes.now) (raw_at n self.old) self.old self.new result }
         ensures whole { IfOk result (λ bytes. length bytes.now ≡ n) }
     {
         if self.bytes.len() - self.place < n {
@@ -58,46 +61,46 @@ impl<'a> Reader<'a> {
                 at: self.bytes.len(),
             });
         }
-        let front = &self.bytes[self.place..self.place + n];
+        let field = &self.bytes[self.place..self.place + n];
         self.place += n;
-        Ok(front)
+        Ok(field)
     }
 
-    /// The number of 8 bits at the place.
+    /// The unsigned integer of the next 8 bits.
     pub fn get_u8(&mut self) -> Result<u8, Short>
-        ensures { Leaves (λ x. x) (number_at 1 self.old) self.old self.new result }
+        ensures { Decodes (λ x. x) (uint_at 1 self.old) self.old self.new result }
     {
         let field = self.raw(1)?;
         Ok(field[0])
     }
 
-    /// The number of 16 bits at the place.
+    /// The unsigned integer of the next 16 bits.
     pub fn get_u16(&mut self) -> Result<u16, Short>
-        ensures { Leaves (λ x. x) (number_at 2 self.old) self.old self.new result }
+        ensures { Decodes (λ x. x) (uint_at 2 self.old) self.old self.new result }
     {
         let field = self.raw(2)?;
         Ok(BigEndian::read_u16(field))
     }
 
-    /// The number of 32 bits at the place.
+    /// The unsigned integer of the next 32 bits.
     pub fn get_u32(&mut self) -> Result<u32, Short>
-        ensures { Leaves (λ x. x) (number_at 4 self.old) self.old self.new result }
+        ensures { Decodes (λ x. x) (uint_at 4 self.old) self.old self.new result }
     {
         let field = self.raw(4)?;
         Ok(BigEndian::read_u32(field))
     }
 
-    /// The number of 64 bits at the place.
+    /// The unsigned integer of the next 64 bits.
     pub fn get_u64(&mut self) -> Result<u64, Short>
-        ensures { Leaves (λ x. x) (number_at 8 self.old) self.old self.new result }
+        ensures { Decodes (λ x. x) (uint_at 8 self.old) self.old self.new result }
     {
         let field = self.raw(8)?;
         Ok(BigEndian::read_u64(field))
     }
 
-    /// The number of 128 bits at the place.
+    /// The unsigned integer of the next 128 bits.
     pub fn get_u128(&mut self) -> Result<u128, Short>
-        ensures { Leaves (λ x. x) (number_at 16 self.old) self.old self.new result }
+        ensures { Decodes (λ x. x) (uint_at 16 self.old) self.old self.new result }
     {
         let field = self.raw(16)?;
         Ok(BigEndian::read_u128(field))
