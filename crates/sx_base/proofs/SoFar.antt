@@ -5,7 +5,7 @@ use Rattle.std.proofs.lemmas.List.{take_rest, take_all, drop_all, take_at, drop_
 use Rattle.std.proofs.Math.Seq.{take-add}
 use borrow.Rule.Slice.PartMut.{put_mid}
 use Rattle.sx_base.specs.Outside.{Appends, TakesBytes, TakesFront}
-use Rattle.sx_base.specs.Exact.{Ends}
+use Rattle.sx_base.specs.Exact.{EndsEarly}
 
 -- the first so many bytes of a source are the front of a slice
 pub record HasFront (bytes : List ℕ) (after : Option (List ℕ)) (got : ℕ) (old new : List ℕ) : Type 0 where
@@ -13,15 +13,15 @@ pub record HasFront (bytes : List ℕ) (after : Option (List ℕ)) (got : ℕ) (
   pub left : after ≡ Some (drop got bytes)
   pub filled : new ≡ take got bytes ++ drop got old
 
-abbrev pub IsFilled : Option (List ℕ) → Option (List ℕ) → ℕ → List ℕ → List ℕ → Type 0
-IsFilled None after got old new = Unit {0}
-IsFilled (Some bytes) after got old new = HasFront bytes after got old new
+abbrev pub IsFilledSoFar : Option (List ℕ) → Option (List ℕ) → ℕ → List ℕ → List ℕ → Type 0
+IsFilledSoFar None after got old new = Unit {0}
+IsFilledSoFar (Some bytes) after got old new = HasFront bytes after got old new
 
 -- a loop that fills a slice
 pub record FilledSoFar (before after : Option (List ℕ)) (faults_before faults got : ℕ) (old new : List ℕ) : Type 0 where
   pub within : got ≤ length old
   pub steady : faults ≡ faults_before
-  pub filled : IsFilled before after got old new
+  pub filled : IsFilledSoFar before after got old new
 
 -- a loop that writes a slice
 pub record WrittenSoFar (before after : Option (List ℕ)) (faults_before faults done : ℕ) (bytes : List ℕ) : Type 0 where
@@ -45,8 +45,8 @@ front_more bytes got n old mid piece enough within is_mid is_piece =
 
 -- one take more
 pub filled_more : (before middle after : Option (List ℕ)) (got n : ℕ) (old mid piece : List ℕ) → got ≤ length old →
-    IsFilled before middle got old mid → TakesFront middle after n (take (length mid - got) (drop got mid)) piece →
-    IsFilled before after (got + n) old (put_mid got (length mid - got) mid piece)
+    IsFilledSoFar before middle got old mid → TakesFront middle after n (take (length mid - got) (drop got mid)) piece →
+    IsFilledSoFar before after (got + n) old (put_mid got (length mid - got) mid piece)
 filled_more None middle after got n old mid piece within filled takes = tt
 filled_more (Some bytes) middle after got n old mid piece within filled takes =
     let taken : TakesBytes (drop got bytes) after n (take (length mid - got) (drop got mid)) piece = rw filled.left at takes in
@@ -59,8 +59,8 @@ filled_more (Some bytes) middle after got n old mid piece within filled takes =
 
 -- a take of nothing, where there was room
 pub ends_here : (before middle after : Option (List ℕ)) (got : ℕ) (old mid piece : List ℕ) → got < length old → length mid ≡ length old →
-    IsFilled before middle got old mid → TakesFront middle after 0 (take (length mid - got) (drop got mid)) piece →
-    Ends before after got old (put_mid got (length mid - got) mid piece)
+    IsFilledSoFar before middle got old mid → TakesFront middle after 0 (take (length mid - got) (drop got mid)) piece →
+    EndsEarly before after got old (put_mid got (length mid - got) mid piece)
 ends_here None middle after got old mid piece within same_length filled takes = tt
 ends_here (Some bytes) middle after got old mid piece within same_length filled takes =
     let taken : TakesBytes (drop got bytes) after 0 (take (length mid - got) (drop got mid)) piece = rw filled.left at takes in

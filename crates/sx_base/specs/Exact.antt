@@ -4,13 +4,13 @@ use Rattle.sx_base.specs.declared.exact.TakeFault.{TakeFault}
 use Rattle.sx_base.specs.declared.exact.TakeFault.TheVariants.{Failed, Ended}
 
 -- there were enough bytes, and the slice is their front
-pub record TakesAll (bytes : List ℕ) (after : Option (List ℕ)) (old new : List ℕ) : Type 0 where
+pub record FillsSlice (bytes : List ℕ) (after : Option (List ℕ)) (old new : List ℕ) : Type 0 where
   pub enough : length old ≤ length bytes
   pub left : after ≡ Some (drop (length old) bytes)
   pub filled : new ≡ take (length old) bytes
 
 -- there were too few bytes, and the front of the slice is all of them
-pub record TakesTheRest
+pub record EmptiesSource
     (bytes : List ℕ) (after : Option (List ℕ)) (got : ℕ) (old new : List ℕ) : Type 0 where
   pub all : got ≡ length bytes
   pub too_few : length bytes < length old
@@ -19,14 +19,14 @@ pub record TakesTheRest
 
 -- the slice was filled from a source that tells its bytes before the call, and nothing is said of
 -- any other
-abbrev pub Fills : Option (List ℕ) → Option (List ℕ) → List ℕ → List ℕ → Type 0
-Fills None after old new = Unit {0}
-Fills (Some bytes) after old new = TakesAll bytes after old new
+abbrev pub IsFilled : Option (List ℕ) → Option (List ℕ) → List ℕ → List ℕ → Type 0
+IsFilled None after old new = Unit {0}
+IsFilled (Some bytes) after old new = FillsSlice bytes after old new
 
 -- such a source ended after so many bytes
-abbrev pub Ends : Option (List ℕ) → Option (List ℕ) → ℕ → List ℕ → List ℕ → Type 0
-Ends None after got old new = Unit {0}
-Ends (Some bytes) after got old new = TakesTheRest bytes after got old new
+abbrev pub EndsEarly : Option (List ℕ) → Option (List ℕ) → ℕ → List ℕ → List ℕ → Type 0
+EndsEarly None after got old new = Unit {0}
+EndsEarly (Some bytes) after got old new = EmptiesSource bytes after got old new
 
 -- a fact for the answer `Failed`
 abbrev pub OnFailed : {T : Type 0} → Result T TakeFault → Type 0 → Type 0

@@ -1,7 +1,7 @@
 //! Calls that go on until a whole slice is filled or written.
 ghost use Rattle.std.specs.Prelude.{◌≡◌, ◌<◌, ◌≤◌, length, OnOk, OnErr};
 ghost use Rattle.sx_base.specs.Outside.{Rose, Appends, AppendsPrefix};
-ghost use Rattle.sx_base.specs.Exact.{Fills, Ends, OnFailed, IfEnded};
+ghost use Rattle.sx_base.specs.Exact.{IsFilled, EndsEarly, OnFailed, IfEnded};
 
 use crate::{Failed, Sink, Source};
 use thiserror::Error;
@@ -26,11 +26,11 @@ pub enum TakeFault {
 /// only where the count of faults rose in the call; then a part of `into` may be written over, and
 /// the source may have been read further.
 pub fn take_exact<S: Source>(source: &mut S, into: &mut [u8]) -> Result<(), TakeFault>
-    ensures taken { OnOk result (Fills (S.left source.old) (S.left source.new) into.old into.new) }
+    ensures taken { OnOk result (IsFilled (S.left source.old) (S.left source.new) into.old into.new) }
     ensures steady { OnOk result (S.faults source.new ≡ S.faults source.old) }
 
     ensures ended { IfEnded result (λ got.
-        Ends (S.left source.old) (S.left source.new) got into.old into.new) }
+        EndsEarly (S.left source.old) (S.left source.new) got into.old into.new) }
     ensures ended_early { IfEnded result (λ got. got < length into.old) }
     ensures ended_steady { IfEnded result (λ _. S.faults source.new ≡ S.faults source.old) }
 

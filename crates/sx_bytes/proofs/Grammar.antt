@@ -9,7 +9,7 @@ use Rattle.sx_bytes.specs.declared.fault.Form.{Form}
 use Rattle.sx_bytes.specs.declared.fault.FormFault.{FormFault}
 use Rattle.sx_bytes.specs.declared.fault.Short.{Short}
 use Rattle.sx_bytes.specs.Field.{AreBytes}
-use Rattle.sx_bytes.specs.Cursor.{Cursor, rest, moved, number_at}
+use Rattle.sx_bytes.specs.Cursor.{Cursor, rest, moved, uint_at}
 use Rattle.sx_bytes.specs.Grammar.{◌>>=◌, or_fault, field_at, many_at}
 use Rattle.sx_bytes.proofs.Field.{length-big_bytes, big_bytes-big_number, big_number-big_bytes}
 
@@ -75,8 +75,8 @@ moved_takes n c enough =
 pub field_takes : (n : ℕ) (passes : ℕ → Bool) (fault : Form) (c next : Cursor) (x : ℕ) → AreBytes c.bytes → field_at n passes fault c ≡ Ok (x, next)
     → Takes c (big_bytes n x) next × (passes x ≡ true) × (x < 256 ^ n)
 field_takes n passes fault c next x bytes e =
-    let b = bind_ok (or_fault (number_at n c)) (λ y. cond (passes y.0) (Ok y) (Err (record { at = c.place; fault = fault }))) (x, next) e in
-    let read = or_fault_ok (number_at n c) b.0 b.1 in
+    let b = bind_ok (or_fault (uint_at n c)) (λ y. cond (passes y.0) (Ok y) (Err (record { at = c.place; fault = fault }))) (x, next) e in
+    let read = or_fault_ok (uint_at n c) b.0 b.1 in
     let g = guard_short (ltb (length c.bytes - c.place) n) (record { at = length c.bytes }) (big_number n (take n (rest c)), moved n c) b.0 read in
     let enough : n ≤ length c.bytes - c.place = ltb-false _ _ g.0 in
     let t = guard_ok (passes b.0.0) b.0 (x, next) (record { at = c.place; fault = fault }) b.2 in
@@ -109,7 +109,7 @@ field_again n passes fault c x after fits pass within e =
     let long : ltb (length c.bytes - c.place) n ≡ false = le-ltb _ _ enough in
     let front : take n (rest c) ≡ big_bytes n x = ap (take n) e ∙ take_at (big_bytes n x) after n (length-big_bytes n x) in
     let number : big_number n (take n (rest c)) ≡ x = ap (big_number n) front ∙ big_number-big_bytes n x fits in
-    let read : number_at n c ≡ Ok (x, moved n c) = rw (long, number) refl in
+    let read : uint_at n c ≡ Ok (x, moved n c) = rw (long, number) refl in
     record {
       next = moved n c;
       is = rw read (rw pass refl);

@@ -1,7 +1,7 @@
 pub mod Field
 pub mod Grammar
-pub mod Loop
+pub mod ListReading
 pub mod Ordered
-pub mod Steps
+pub mod DecodingSteps
 pub mod Written
 pub mod Parts

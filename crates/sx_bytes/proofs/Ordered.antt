@@ -10,7 +10,7 @@ use Rattle.sx_bytes.specs.Field.{AreBytes}
 use Rattle.sx_bytes.specs.Cursor.{Cursor, rest}
 use Rattle.sx_bytes.specs.Grammar.{◌>>=◌, Fails, may_follow, in_order, ordered_at}
 use Rattle.sx_bytes.proofs.Grammar.{bind_ok, guard_ok, Takes, Takes-none, Takes-then, Again, done}
-use Rattle.sx_bytes.proofs.Loop.{with_front, regroup}
+use Rattle.sx_bytes.proofs.ListReading.{with_front, regroup}
 
 and_true : (a b : Bool) → a ≡ true → b ≡ true → (a && b) ≡ true
 and_true true b p q = q

@@ -7,7 +7,7 @@ use Rattle.sx_bytes.specs.Cursor.{Cursor, rest}
 use Rattle.sx_bytes.specs.Grammar.{◌>>=◌}
 use Rattle.sx_bytes.specs.Laws.{DecodesOnlyEncodings, DecodesEveryEncoding, IsInjective, IsPrefixFree}
 use Rattle.sx_bytes.proofs.Grammar.{bind_ok, Takes, Takes-then, Again, done}
-use Rattle.sx_bytes.proofs.Steps.{bytes_behind, takes_moved, again_moved}
+use Rattle.sx_bytes.proofs.DecodingSteps.{bytes_after, takes_moved, again_moved}
 
 abbrev pub Reading : Type 0 → Type 0
 Reading X = Cursor → Result (X × Cursor) FormFault
@@ -38,7 +38,7 @@ two_take r1 r2 join s1 s2 P1 P2 take1 take2 c next z bytes e =
     let a = bind_ok (r1 c) (λ x. r2 x.1 >>= λ y. Ok (join x.0 y.0, y.1)) (z, next) e in
     let b = bind_ok (r2 a.0.1) (λ y. Ok (join a.0.0 y.0, y.1)) (z, next) a.2 in
     let t1 = take1 c a.0.1 a.0.0 bytes a.1 in
-    let t2 = take2 a.0.1 b.0.1 b.0.0 (bytes_behind c a.0.1 (s1 a.0.0) t1.0 bytes) b.1 in
+    let t2 = take2 a.0.1 b.0.1 b.0.0 (bytes_after c a.0.1 (s1 a.0.0) t1.0 bytes) b.1 in
     let is = made_is (join a.0.0 b.0.0) z b.0.1 next b.2 in
     let all = Takes-then c a.0.1 b.0.1 (s1 a.0.0) (s2 b.0.0) t1.0 t2.0 in
     (a.0.0, b.0.0, is.0, subst (λ (d : Cursor). Takes c (s1 a.0.0 ++ s2 b.0.0) d) is.1 all, t1.1, t2.1)
@@ -63,7 +63,7 @@ pub three_take : {X Y W Z : Type 0} (r1 : Reading X) (r2 : Reading Y) (r3 : Read
 three_take r1 r2 r3 join s1 s2 s3 P1 P2 P3 take1 take2 take3 c next z bytes e =
     let a = bind_ok (r1 c) (λ x. r2 x.1 >>= λ y. r3 y.1 >>= λ w. Ok (join x.0 y.0 w.0, w.1)) (z, next) e in
     let t1 = take1 c a.0.1 a.0.0 bytes a.1 in
-    let b = two_take r2 r3 (join a.0.0) s2 s3 P2 P3 take2 take3 a.0.1 next z (bytes_behind c a.0.1 (s1 a.0.0) t1.0 bytes) a.2 in
+    let b = two_take r2 r3 (join a.0.0) s2 s3 P2 P3 take2 take3 a.0.1 next z (bytes_after c a.0.1 (s1 a.0.0) t1.0 bytes) a.2 in
     (a.0.0, b.0, b.1, b.2, Takes-then c a.0.1 next (s1 a.0.0) (s2 b.0 ++ s3 b.1) t1.0 b.3, t1.1, b.4, b.5)
 
 pub three_again : {X Y W Z : Type 0} (r1 : Reading X) (r2 : Reading Y) (r3 : Reading W) (join : X → Y → W → Z)
@@ -77,19 +77,19 @@ three_again r1 r2 r3 join s1 s2 s3 P1 P2 P3 again1 again2 again3 c x y w after p
 
 -- ---- the laws of a format
 
-pub read_is_spelled : {X : Type 0} (read : Reading X) (spelling : X → List ℕ) (Is : X → Type 0) → TakesAll read spelling Is → DecodesOnlyEncodings read spelling Is
-read_is_spelled read spelling Is takes c next x bytes e = let t = takes c next x bytes e in (t.1, takes_moved c next (spelling x) t.0, t.0.parts)
+pub decodes_only_encodings : {X : Type 0} (read : Reading X) (spelling : X → List ℕ) (Is : X → Type 0) → TakesAll read spelling Is → DecodesOnlyEncodings read spelling Is
+decodes_only_encodings read spelling Is takes c next x bytes e = let t = takes c next x bytes e in (t.1, takes_moved c next (spelling x) t.0, t.0.parts)
 
-pub spelled_is_read : {X : Type 0} (read : Reading X) (spelling : X → List ℕ) (Is : X → Type 0) → ReadsAgain read spelling Is → DecodesEveryEncoding read spelling Is
-spelled_is_read read spelling Is again c x after is within e = again_moved (read c) c x (spelling x) after within e (again c x after is within e)
+pub decodes_every_encoding : {X : Type 0} (read : Reading X) (spelling : X → List ℕ) (Is : X → Type 0) → ReadsAgain read spelling Is → DecodesEveryEncoding read spelling Is
+decodes_every_encoding read spelling Is again c x after is within e = again_moved (read c) c x (spelling x) after within e (again c x after is within e)
 
-pub no_prefix : {X : Type 0} (read : Reading X) (spelling : X → List ℕ) (Is : X → Type 0) → ReadsAgain read spelling Is → IsPrefixFree spelling Is
-no_prefix read spelling Is again p q x y is_p is_q e =
+pub is_prefix_free : {X : Type 0} (read : Reading X) (spelling : X → List ℕ) (Is : X → Type 0) → ReadsAgain read spelling Is → IsPrefixFree spelling Is
+is_prefix_free read spelling Is again p q x y is_p is_q e =
     let c : Cursor = record { bytes = spelling p ++ x; place = 0 } in
     let a = again c p x is_p (omega arith) refl in
     let b = again c q y is_q (omega arith) e in
     let both = made_is p q a.next b.next (sym a.is ∙ b.is) in
     (both.0, sym a.rest_is ∙ ap rest both.1 ∙ b.rest_is)
 
-pub one_spelling : {X : Type 0} (read : Reading X) (spelling : X → List ℕ) (Is : X → Type 0) → ReadsAgain read spelling Is → IsInjective spelling Is
-one_spelling read spelling Is again p q is_p is_q e = (no_prefix read spelling Is again p q [] [] is_p is_q (ap (λ (t : List ℕ). t ++ []) e)).0
+pub is_injective : {X : Type 0} (read : Reading X) (spelling : X → List ℕ) (Is : X → Type 0) → ReadsAgain read spelling Is → IsInjective spelling Is
+is_injective read spelling Is again p q is_p is_q e = (is_prefix_free read spelling Is again p q [] [] is_p is_q (ap (λ (t : List ℕ). t ++ []) e)).0

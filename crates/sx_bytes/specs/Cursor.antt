@@ -24,11 +24,11 @@ abbrev pub raw_at : ℕ → Cursor → Result (List ℕ × Cursor) Short
 raw_at n c = if nat_lt (left c) n then Err (record { at = length c.bytes }) else Ok (take n (rest c), moved n c)
 
 -- the number that the next n bytes read as, and the cursor behind them
-abbrev pub number_at : ℕ → Cursor → Result (ℕ × Cursor) Short
-number_at n c = if nat_lt (left c) n then Err (record { at = length c.bytes }) else Ok (big_number n (take n (rest c)), moved n c)
+abbrev pub uint_at : ℕ → Cursor → Result (ℕ × Cursor) Short
+uint_at n c = if nat_lt (left c) n then Err (record { at = length c.bytes }) else Ok (big_number n (take n (rest c)), moved n c)
 
 -- What a call answers, seen by view, is what reading gives, and it leaves the reader where reading
 -- does. A refusal leaves the reader as it was.
-abbrev pub Leaves : {X Y E : Type 0} → (X → Y) → Result (Y × Cursor) E → Cursor → Cursor → Result X E → Type 0
-Leaves view read old new (Ok x) = read ≡ Ok (view x, new)
-Leaves view read old new (Err e) = (read ≡ Err e) × (new ≡ old)
+abbrev pub Decodes : {X Y E : Type 0} → (X → Y) → Result (Y × Cursor) E → Cursor → Cursor → Result X E → Type 0
+Decodes view read old new (Ok x) = read ≡ Ok (view x, new)
+Decodes view read old new (Err e) = (read ≡ Err e) × (new ≡ old)

@@ -5,7 +5,7 @@ use Rattle.sx_bytes.specs.declared.fault.FormFault.{FormFault}
 use Rattle.sx_bytes.specs.declared.fault.ReadError.{ReadError}
 use Rattle.sx_bytes.specs.declared.fault.ReadError.TheVariants as read_error
 use Rattle.sx_bytes.specs.declared.fault.Short.{Short}
-use Rattle.sx_bytes.specs.Cursor.{Cursor, number_at}
+use Rattle.sx_bytes.specs.Cursor.{Cursor, uint_at}
 use Rattle.sx_bytes.specs.Fault.{fault_of_short}
 
 infixl 10 ◌>>=◌
@@ -25,7 +25,7 @@ between low high x = nat_le low x && nat_le x high
 -- a field of n bytes, read whole and then tested
 abbrev pub field_at : ℕ → (ℕ → Bool) → Form → Cursor → Result (ℕ × Cursor) FormFault
 field_at n passes fault c = do
-  x ← or_fault (number_at n c)
+  x ← or_fault (uint_at n c)
   if passes x.0 then Ok x else Err (record { at = c.place; fault = fault })
 
 -- so many entries, one after the other
@@ -67,11 +67,11 @@ ordered_at entry precedes fault (suc n) before c = do
 
 -- What a call answers, seen by view, is what reading gives, and at Ok the reader stands where
 -- reading ends. Where a call refuses, its reader may stand anywhere.
-abbrev pub Reads : {X Y : Type 0} → (X → Y) → Result (Y × Cursor) FormFault → Cursor → Result X ReadError → Type 0
-Reads view read new (Ok x) = read ≡ Ok (view x, new)
-Reads view read new (Err e) = Fails e read
+abbrev pub MayDecodeOrStray : {X Y : Type 0} → (X → Y) → Result (Y × Cursor) FormFault → Cursor → Result X ReadError → Type 0
+MayDecodeOrStray view read new (Ok x) = read ≡ Ok (view x, new)
+MayDecodeOrStray view read new (Err e) = Fails e read
 
 -- the same for a call that takes no memory
-abbrev pub Finds : {X Y : Type 0} → (X → Y) → Result (Y × Cursor) FormFault → Cursor → Result X FormFault → Type 0
-Finds view read new (Ok x) = read ≡ Ok (view x, new)
-Finds view read new (Err e) = read ≡ Err e
+abbrev pub DecodesOrStrays : {X Y : Type 0} → (X → Y) → Result (Y × Cursor) FormFault → Cursor → Result X FormFault → Type 0
+DecodesOrStrays view read new (Ok x) = read ≡ Ok (view x, new)
+DecodesOrStrays view read new (Err e) = read ≡ Err e

@@ -1,7 +1,7 @@
 //! Fields with a range: a number is read whole, and then tested.
 
 ghost use Rattle.std.specs.Prelude.{◌≡◌, ◌≤◌, IfOk};
-ghost use Rattle.sx_bytes.specs.Cursor.{Leaves};
+ghost use Rattle.sx_bytes.specs.Cursor.{Decodes};
 ghost use Rattle.sx_bytes.specs.Grammar.{between, field_at};
 
 use crate::fault::{Form, FormFault};
@@ -24,7 +24,7 @@ impl<'a> Reader<'a> {
     /// `fault` at the field. A refusal leaves the reader where it was.
     #[inline]
     pub fn field_u8(&mut self, low: u8, high: u8, fault: Form) -> Result<u8, FormFault>
-        ensures exact { Leaves (λ x. x) (field_at 1 (between low high) fault self.old) self.old self.new result }
+        ensures exact { Decodes (λ x. x) (field_at 1 (between low high) fault self.old) self.old self.new result }
         ensures in_range { IfOk result (λ x. (low ≤ x) × (x ≤ high)) }
         ensures same { self.new.bytes ≡ self.old.bytes }
         ensures onward { self.old.place ≤ self.new.place }
@@ -40,7 +40,7 @@ impl<'a> Reader<'a> {
     /// The number of 16 bits at the place, as `field_u8` reads one.
     #[inline]
     pub fn field_u16(&mut self, low: u16, high: u16, fault: Form) -> Result<u16, FormFault>
-        ensures exact { Leaves (λ x. x) (field_at 2 (between low high) fault self.old) self.old self.new result }
+        ensures exact { Decodes (λ x. x) (field_at 2 (between low high) fault self.old) self.old self.new result }
         ensures in_range { IfOk result (λ x. (low ≤ x) × (x ≤ high)) }
         ensures same { self.new.bytes ≡ self.old.bytes }
         ensures onward { self.old.place ≤ self.new.place }
@@ -56,7 +56,7 @@ impl<'a> Reader<'a> {
     /// The number of 32 bits at the place, as `field_u8` reads one.
     #[inline]
     pub fn field_u32(&mut self, low: u32, high: u32, fault: Form) -> Result<u32, FormFault>
-        ensures exact { Leaves (λ x. x) (field_at 4 (between low high) fault self.old) self.old self.new result }
+        ensures exact { Decodes (λ x. x) (field_at 4 (between low high) fault self.old) self.old self.new result }
         ensures in_range { IfOk result (λ x. (low ≤ x) × (x ≤ high)) }
         ensures same { self.new.bytes ≡ self.old.bytes }
         ensures onward { self.old.place ≤ self.new.place }
@@ -72,7 +72,7 @@ impl<'a> Reader<'a> {
     /// The number of 64 bits at the place, as `field_u8` reads one.
     #[inline]
     pub fn field_u64(&mut self, low: u64, high: u64, fault: Form) -> Result<u64, FormFault>
-        ensures exact { Leaves (λ x. x) (field_at 8 (between low high) fault self.old) self.old self.new result }
+        ensures exact { Decodes (λ x. x) (field_at 8 (between low high) fault self.old) self.old self.new result }
         ensures in_range { IfOk result (λ x. (low ≤ x) × (x ≤ high)) }
         ensures same { self.new.bytes ≡ self.old.bytes }
         ensures onward { self.old.place ≤ self.new.place }
@@ -88,7 +88,7 @@ impl<'a> Reader<'a> {
     /// The number of 128 bits at the place, as `field_u8` reads one.
     #[inline]
     pub fn field_u128(&mut self, low: u128, high: u128, fault: Form) -> Result<u128, FormFault>
-        ensures exact { Leaves (λ x. x) (field_at 16 (between low high) fault self.old) self.old self.new result }
+        ensures exact { Decodes (λ x. x) (field_at 16 (between low high) fault self.old) self.old self.new result }
         ensures in_range { IfOk result (λ x. (low ≤ x) × (x ≤ high)) }
         ensures same { self.new.bytes ≡ self.old.bytes }
         ensures onward { self.old.place ≤ self.new.place }

@@ -1,5 +1,5 @@
 ghost use Rattle.std.specs.Prelude.{◌≡◌, ◌≤◌, length, IfOk};
-ghost use Rattle.sx_bytes.specs.Cursor.{left, raw_at, number_at, Leaves};
+ghost use Rattle.sx_bytes.specs.Cursor.{left, raw_at, uint_at, Decodes};
 
 use crate::fault::Short;
 use byteorder::{BigEndian, ByteOrder};
@@ -50,7 +50,7 @@ impl<'a> Reader<'a> {
 
     /// The next `n` bytes as they are.
     pub fn raw(&mut self, n: usize) -> Result<&'a [u8], Short>
-        ensures exact { Leaves (λ bytes. bytes.now) (raw_at n self.old) self.old self.new result }
+        ensures exact { Decodes (λ bytes. bytes.now) (raw_at n self.old) self.old self.new result }
         ensures whole { IfOk result (λ bytes. length bytes.now ≡ n) }
     {
         if self.bytes.len() - self.place < n {
@@ -65,7 +65,7 @@ impl<'a> Reader<'a> {
 
     /// The number of 8 bits at the place.
     pub fn get_u8(&mut self) -> Result<u8, Short>
-        ensures { Leaves (λ x. x) (number_at 1 self.old) self.old self.new result }
+        ensures { Decodes (λ x. x) (uint_at 1 self.old) self.old self.new result }
     {
         let field = self.raw(1)?;
         Ok(field[0])
@@ -73,7 +73,7 @@ impl<'a> Reader<'a> {
 
     /// The number of 16 bits at the place.
     pub fn get_u16(&mut self) -> Result<u16, Short>
-        ensures { Leaves (λ x. x) (number_at 2 self.old) self.old self.new result }
+        ensures { Decodes (λ x. x) (uint_at 2 self.old) self.old self.new result }
     {
         let field = self.raw(2)?;
         Ok(BigEndian::read_u16(field))
@@ -81,7 +81,7 @@ impl<'a> Reader<'a> {
 
     /// The number of 32 bits at the place.
     pub fn get_u32(&mut self) -> Result<u32, Short>
-        ensures { Leaves (λ x. x) (number_at 4 self.old) self.old self.new result }
+        ensures { Decodes (λ x. x) (uint_at 4 self.old) self.old self.new result }
     {
         let field = self.raw(4)?;
         Ok(BigEndian::read_u32(field))
@@ -89,7 +89,7 @@ impl<'a> Reader<'a> {
 
     /// The number of 64 bits at the place.
     pub fn get_u64(&mut self) -> Result<u64, Short>
-        ensures { Leaves (λ x. x) (number_at 8 self.old) self.old self.new result }
+        ensures { Decodes (λ x. x) (uint_at 8 self.old) self.old self.new result }
     {
         let field = self.raw(8)?;
         Ok(BigEndian::read_u64(field))
@@ -97,7 +97,7 @@ impl<'a> Reader<'a> {
 
     /// The number of 128 bits at the place.
     pub fn get_u128(&mut self) -> Result<u128, Short>
-        ensures { Leaves (λ x. x) (number_at 16 self.old) self.old self.new result }
+        ensures { Decodes (λ x. x) (uint_at 16 self.old) self.old self.new result }
     {
         let field = self.raw(16)?;
         Ok(BigEndian::read_u128(field))

@@ -13,7 +13,7 @@ use Rattle.sx_bytes.specs.Grammar.{between, field_at, many_at, may_follow, in_or
 use Rattle.sx_bytes.proofs.Grammar.{Takes, Again}
 use Rattle.sx_bytes.proofs.Ordered.{and_parts}
 use Rattle.sx_bytes.proofs.Parts.{TakesAll, ReadsAgain, three_take, three_again}
-use Rattle.sx_bytes.proofs.Steps.{range_takes, range_again}
+use Rattle.sx_bytes.proofs.DecodingSteps.{range_takes, range_again}
 use Rattle.sx_tx.specs.Transactions.{IsId}
 use Rattle.sx_tx.specs.TransactionDecoding.{id_at}
 use Rattle.sx_tx.proofs.FieldLaws.{id_takes, id_again}

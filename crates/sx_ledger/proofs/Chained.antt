@@ -9,7 +9,7 @@ use Rattle.sx_bytes.specs.Cursor.{Cursor}
 use Rattle.sx_bytes.specs.Grammar.{◌>>=◌, many_at}
 use Rattle.sx_bytes.proofs.Grammar.{bind_ok, guard_ok, Takes, Takes-then, Again, many_takes, many_again}
 use Rattle.sx_bytes.proofs.Parts.{Reading, TakesAll, ReadsAgain}
-use Rattle.sx_bytes.proofs.Steps.{bytes_behind, again_then}
+use Rattle.sx_bytes.proofs.DecodingSteps.{bytes_after, again_then}
 use Rattle.sx_ledger.specs.Decoding.{guarded}
 
 module _ {X Y : Type 0} (first : Reading X) (others : X → Reading Y) (s1 : X → List ℕ) (s2 : Y → List ℕ) (P : X → Type 0) (Q : X → Y → Type 0) (of : Y → X) where
@@ -27,7 +27,7 @@ module _ {X Y : Type 0} (first : Reading X) (others : X → Reading Y) (s1 : X �
   chained_takes take1 take2 same c next y bytes e =
       let a = bind_ok (first c) (λ x. others x.0 x.1) (y, next) e in
       let t1 = take1 c a.0.1 a.0.0 bytes a.1 in
-      let t2 = take2 a.0.0 t1.1 a.0.1 next y (bytes_behind c a.0.1 (s1 a.0.0) t1.0 bytes) a.2 in
+      let t2 = take2 a.0.0 t1.1 a.0.1 next y (bytes_after c a.0.1 (s1 a.0.0) t1.0 bytes) a.2 in
       let text = Takes-then c a.0.1 next (s1 a.0.0) (s2 y) t1.0 t2.0 in
       subst (λ (x : X). Takes c (s1 x ++ s2 y) next × (P x × Q x y)) (same a.0.0 y t2.1) (text, (t1.1, t2.1))
 

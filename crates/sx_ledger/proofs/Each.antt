@@ -10,9 +10,9 @@ use Rattle.sx_bytes.specs.Field.{AreBytes}
 use Rattle.sx_bytes.specs.Cursor.{Cursor, rest}
 use Rattle.sx_bytes.specs.Grammar.{◌>>=◌, Fails, may_follow, in_order}
 use Rattle.sx_bytes.proofs.Grammar.{bind_ok, Takes, Takes-none, Takes-then, Again}
-use Rattle.sx_bytes.proofs.Loop.{with_front, regroup}
+use Rattle.sx_bytes.proofs.ListReading.{with_front, regroup}
 use Rattle.sx_bytes.proofs.Ordered.{and_parts}
-use Rattle.sx_bytes.proofs.Steps.{bytes_behind}
+use Rattle.sx_bytes.proofs.DecodingSteps.{bytes_after}
 use Rattle.sx_ledger.specs.Decoding.{each_at}
 
 -- an entry, where the mark of the one before it is known
@@ -79,7 +79,7 @@ each_takes {X} entry mark spell precedes P takes (suc n) before c next xs bytes 
     let a = bind_ok (entry before c) (λ first. each_at entry mark n (Some (mark first.0)) first.1 >>= λ others. Ok (first.0 ∷ others.0, others.1)) (xs, next) e in
     let b = bind_ok (each_at entry mark n (Some (mark a.0.0)) a.0.1) (λ others. Ok (a.0.0 ∷ others.0, others.1)) (xs, next) a.2 in
     let t = takes before c a.0.1 a.0.0 bytes a.1 in
-    let ts = each_takes entry mark spell precedes P takes n (Some (mark a.0.0)) a.0.1 b.0.1 b.0.0 (bytes_behind c a.0.1 (spell a.0.0) t.0 bytes) b.1 in
+    let ts = each_takes entry mark spell precedes P takes n (Some (mark a.0.0)) a.0.1 b.0.1 b.0.0 (bytes_after c a.0.1 (spell a.0.0) t.0 bytes) b.1 in
     let whole = taken_more spell mark precedes P n before c a.0.1 b.0.1 a.0.0 b.0.0 t ts in
     let made : List X × Cursor = (a.0.0 ∷ b.0.0, b.0.1) in
     let same : made ≡ (xs, next) = cc in

@@ -6,7 +6,7 @@ use Rattle.sx_bytes.specs.declared.fault.Form.TheVariants as form
 use Rattle.sx_bytes.specs.Grammar.{◌>>=◌, between, field_at, many_at}
 use Rattle.sx_bytes.proofs.Grammar.{Takes, Again}
 use Rattle.sx_bytes.proofs.Parts.{Reading, TakesAll, ReadsAgain, two_at, two_take, two_again}
-use Rattle.sx_bytes.proofs.Steps.{range_takes, range_again}
+use Rattle.sx_bytes.proofs.DecodingSteps.{range_takes, range_again}
 use Rattle.sx_ledger.specs.Ledger.{IsPrice}
 use Rattle.sx_ledger.specs.Decoding.{price_at, units_at, head_at}
 use Rattle.sx_ledger.proofs.Chained.{AreNumbers, numbers_take, numbers_again, chained_takes, chained_again}

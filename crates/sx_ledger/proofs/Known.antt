@@ -5,11 +5,11 @@ use Rattle.std.specs.List.Sorted.{IsStrictlyIncreasing}
 use Rattle.std.proofs.lemmas.Bool.{and_from}
 use Rattle.sx_bytes.specs.declared.fault.Form.{Form}
 use Rattle.sx_bytes.specs.declared.fault.Form.TheVariants as form
-use Rattle.sx_bytes.specs.Cursor.{Cursor, number_at}
+use Rattle.sx_bytes.specs.Cursor.{Cursor, uint_at}
 use Rattle.sx_bytes.specs.Grammar.{◌>>=◌, or_fault, between, field_at, many_at, may_follow, in_order}
 use Rattle.sx_bytes.proofs.Grammar.{bind_ok, guard_ok}
 use Rattle.sx_bytes.proofs.Parts.{Reading, made_is}
-use Rattle.sx_bytes.proofs.Steps.{between_is}
+use Rattle.sx_bytes.proofs.DecodingSteps.{between_is}
 use Rattle.sx_ledger.specs.declared.account.Account.{Account}
 use Rattle.sx_ledger.specs.Ledger.{ids}
 use Rattle.sx_ledger.specs.Decoding.{price_at, units_at, each_at, account_at, next_account_at, accounts_at, account_list_at, head_at}
@@ -21,7 +21,7 @@ use Rattle.sx_ledger.proofs.HeadLaws.{Head, joined, from_prices, from_assets, fr
 -- a field passed its test
 field_passes : (n : ℕ) (passes : ℕ → Bool) (fault : Form) (c next : Cursor) (x : ℕ) → field_at n passes fault c ≡ Ok (x, next) → passes x ≡ true
 field_passes n passes fault c next x e =
-    let b = bind_ok (or_fault (number_at n c)) (λ y. cond (passes y.0) (Ok y) (Err (record { at = c.place; fault = fault }))) (x, next) e in
+    let b = bind_ok (or_fault (uint_at n c)) (λ y. cond (passes y.0) (Ok y) (Err (record { at = c.place; fault = fault }))) (x, next) e in
     let t = guard_ok (passes b.0.0) b.0 (x, next) (record { at = c.place; fault = fault }) b.2 in
     ap (λ (y : ℕ × Cursor). passes y.0) (sym t.1) ∙ t.0
 

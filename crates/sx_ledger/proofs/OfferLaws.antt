@@ -12,7 +12,7 @@ use Rattle.sx_bytes.specs.Cursor.{Cursor, rest}
 use Rattle.sx_bytes.specs.Grammar.{◌>>=◌, between, field_at, may_follow, in_order}
 use Rattle.sx_bytes.proofs.Grammar.{bind_ok, guard_ok, Takes, Again}
 use Rattle.sx_bytes.proofs.Parts.{Reading, TakesAll, ReadsAgain, three_at, three_take, three_again}
-use Rattle.sx_bytes.proofs.Steps.{range_takes, range_again}
+use Rattle.sx_bytes.proofs.DecodingSteps.{range_takes, range_again}
 use Rattle.sx_tx.specs.Transactions.{IsId, IsSeq, IsAmount, IsLimit}
 use Rattle.sx_tx.specs.TransactionDecoding.{id_at, seq_at, amount_at, limit_at}
 use Rattle.sx_tx.proofs.FieldLaws.{id_takes, id_again, seq_takes, seq_again, amount_takes, amount_again, limit_takes, limit_again}

@@ -12,7 +12,7 @@ use Rattle.sx_bytes.specs.Grammar.{◌>>=◌, Gives}
 use Rattle.sx_bytes.specs.Laws.{IsInjective, IsPrefixFree}
 use Rattle.sx_bytes.proofs.Grammar.{bind_ok, guard_ok, length-rest}
 use Rattle.sx_bytes.proofs.Ordered.{and_parts}
-use Rattle.sx_bytes.proofs.Parts.{ReadsAgain, one_spelling, no_prefix}
+use Rattle.sx_bytes.proofs.Parts.{ReadsAgain, is_injective, is_prefix_free}
 use Rattle.sx_ledger.specs.declared.parts.Parts.{Parts}
 use Rattle.sx_ledger.specs.Ledger.{assets_of, total_of, IsLedger}
 use Rattle.sx_ledger.specs.Encoding.{state_bytes}
@@ -88,7 +88,7 @@ ledger_again : ReadsAgain parts_at state_bytes IsLedger
 ledger_again c parts after is within e = parts_again c parts after (read_from_ledger parts is) within e
 
 pub states_of_one_spelling : IsInjective state_bytes IsLedger
-states_of_one_spelling = one_spelling parts_at state_bytes IsLedger ledger_again
+states_of_one_spelling = is_injective parts_at state_bytes IsLedger ledger_again
 
 pub states_no_prefix : IsPrefixFree state_bytes IsLedger
-states_no_prefix = no_prefix parts_at state_bytes IsLedger ledger_again
+states_no_prefix = is_prefix_free parts_at state_bytes IsLedger ledger_again

@@ -2,7 +2,7 @@
 
 ghost use Rattle.std.specs.Prelude.{◌≡◌, ◌≤◌, None, length};
 ghost use Rattle.std.specs.List.Sorted.{IsStrictlyIncreasing};
-ghost use Rattle.sx_bytes.specs.Grammar.{Finds, Reads, may_follow};
+ghost use Rattle.sx_bytes.specs.Grammar.{DecodesOrStrays, MayDecodeOrStray, may_follow};
 ghost use Rattle.sx_ledger.specs.Ledger.{ids};
 ghost use Rattle.sx_ledger.specs.Order.{key_before};
 ghost use Rattle.sx_ledger.specs.Decoding.{sell_at, buy_at, offer_at, next_offer_at, offers_at, offer_list_at};
@@ -28,7 +28,7 @@ const OFFER_BYTES: usize = 34;
 fn sell(from: &mut Reader, assets: u8) -> Result<AssetId, FormFault>
     requires some { 1 ≤ assets }
     requires few { assets ≤ 32 }
-    ensures { Finds (λ x. x) (sell_at assets from.old) from.new result }
+    ensures { DecodesOrStrays (λ x. x) (sell_at assets from.old) from.new result }
 {
     let number = from.field_u8(0, assets - 1, Form::AssetRange)?;
     Ok(AssetId::new(number).unwrap())
@@ -39,7 +39,7 @@ fn sell(from: &mut Reader, assets: u8) -> Result<AssetId, FormFault>
 fn buy(from: &mut Reader, assets: u8, sell: AssetId) -> Result<AssetId, FormFault>
     requires some { 1 ≤ assets }
     requires few { assets ≤ 32 }
-    ensures { Finds (λ x. x) (buy_at assets sell from.old) from.new result }
+    ensures { DecodesOrStrays (λ x. x) (buy_at assets sell from.old) from.new result }
 {
     let at = from.place() as u64;
     let number = from.field_u8(0, assets - 1, Form::AssetRange)?;
@@ -55,7 +55,7 @@ fn buy(from: &mut Reader, assets: u8, sell: AssetId) -> Result<AssetId, FormFaul
 fn offer(from: &mut Reader, assets: u8) -> Result<Offer, FormFault>
     requires some { 1 ≤ assets }
     requires few { assets ≤ 32 }
-    ensures { Finds (λ x. x) (offer_at assets from.old) from.new result }
+    ensures { DecodesOrStrays (λ x. x) (offer_at assets from.old) from.new result }
 {
     let sell = sell(from, assets)?;
     let buy = buy(from, assets, sell)?;
@@ -94,7 +94,7 @@ fn next_offer(
     requires some { 1 ≤ assets }
     requires few { assets ≤ 32 }
     requires indexed { index.now ≡ ids accounts.now }
-    ensures { Reads (λ x. x) (next_offer_at accounts.now assets before from.old) from.new result }
+    ensures { MayDecodeOrStray (λ x. x) (next_offer_at accounts.now assets before from.old) from.new result }
 {
     let at = from.place();
     let offer = offer(from, assets)?;
@@ -119,7 +119,7 @@ fn offers(
     requires some { 1 ≤ assets }
     requires few { assets ≤ 32 }
     requires indexed { index.now ≡ ids accounts.now }
-    ensures { Reads (λ x. x) (offers_at accounts.now assets count None from.old) from.new result }
+    ensures { MayDecodeOrStray (λ x. x) (offers_at accounts.now assets count None from.old) from.new result }
 {
     let room = from.left() / OFFER_BYTES;
     let mut offers = Vec::with_capacity(alloc, room.min(count as usize))?;
@@ -144,7 +144,7 @@ pub fn offer_list(
     requires few { assets ≤ 32 }
     requires by_id { IsStrictlyIncreasing (ids accounts.now) }
     requires few_accounts { length accounts.now ≤ 65536 }
-    ensures { Reads (λ x. x) (offer_list_at accounts.now assets from.old) from.new result }
+    ensures { MayDecodeOrStray (λ x. x) (offer_list_at accounts.now assets from.old) from.new result }
 {
     let count = from.field_u32(0, MOST_OFFERS, Form::TooMany)?;
     let index = AccountIndex::of(alloc, accounts)?;

@@ -3,8 +3,8 @@
 
 ghost use Rattle.std.specs.Prelude.{◌≡◌, ◌≤◌, List, IfOk, None, Ok};
 ghost use Rattle.sx_bytes.specs.declared.fault.Form.TheVariants as form;
-ghost use Rattle.sx_bytes.specs.Cursor.{Leaves};
-ghost use Rattle.sx_bytes.specs.Grammar.{between, Gives, Reads, field_at, many_at};
+ghost use Rattle.sx_bytes.specs.Cursor.{Decodes};
+ghost use Rattle.sx_bytes.specs.Grammar.{between, Gives, MayDecodeOrStray, field_at, many_at};
 ghost use Rattle.sx_ledger.specs.declared.parts.Parts.{Parts};
 ghost use Rattle.sx_ledger.specs.Ledger.{IsLedger};
 ghost use Rattle.sx_ledger.specs.Encoding.{state_bytes};
@@ -49,7 +49,7 @@ pub fn refusal(at: usize, fault: Form) -> ReadError
 
 #[inline]
 fn price(from: &mut Reader) -> Result<Price, FormFault>
-    ensures { Leaves (λ x. x) (price_at from.old) from.old from.new result }
+    ensures { Decodes (λ x. x) (price_at from.old) from.old from.new result }
 {
     let raw = from.field_u64(Price::LEAST, Price::MOST, Form::PriceRange)?;
     Ok(Price::new(raw).unwrap())
@@ -59,7 +59,7 @@ fn price(from: &mut Reader) -> Result<Price, FormFault>
 /// to right, or `NoMemory`, which may come in place of any other answer. The faults are `Short`, and
 /// `PriceRange` at the field. On a refusal the reader may stand at any place behind its old one.
 pub fn read_prices(alloc: Global, from: &mut Reader, assets: u8) -> Result<Prices, ReadError>
-    ensures { Reads (λ prices. prices) (many_at price_at assets from.old) from.new result }
+    ensures { MayDecodeOrStray (λ prices. prices) (many_at price_at assets from.old) from.new result }
 {
     let mut prices = Vec::with_capacity(alloc, usize::from(assets))?;
     for _ in 0..assets {
@@ -70,7 +70,7 @@ pub fn read_prices(alloc: Global, from: &mut Reader, assets: u8) -> Result<Price
 
 // Balances, or roundings: one for each asset.
 fn units(alloc: Global, from: &mut Reader, assets: u8) -> Result<Vec<u64>, ReadError>
-    ensures { Reads (λ v. v.items) (many_at units_at assets from.old) from.new result }
+    ensures { MayDecodeOrStray (λ v. v.items) (many_at units_at assets from.old) from.new result }
 {
     let mut units = Vec::with_capacity(alloc, usize::from(assets))?;
     for _ in 0..assets {
@@ -81,7 +81,7 @@ fn units(alloc: Global, from: &mut Reader, assets: u8) -> Result<Vec<u64>, ReadE
 
 #[tactic(auto, unfolding(crate::specs::Decoding::account_at))]
 fn account(alloc: Global, from: &mut Reader, assets: u8) -> Result<Account, ReadError>
-    ensures { Reads (λ account. account) (account_at assets from.old) from.new result }
+    ensures { MayDecodeOrStray (λ account. account) (account_at assets from.old) from.new result }
 {
     let id = read_id(from)?;
     let last = from.field_u64(0, Seq::LAST, Form::SeqRange)?;
@@ -100,7 +100,7 @@ fn next_account(
     assets: u8,
     before: Option<u64>,
 ) -> Result<Account, ReadError>
-    ensures { Reads (λ account. account) (next_account_at assets before from.old) from.new result }
+    ensures { MayDecodeOrStray (λ account. account) (next_account_at assets before from.old) from.new result }
 {
     let at = from.place();
     let account = account(alloc, from, assets)?;
@@ -119,7 +119,7 @@ fn accounts(
     assets: u8,
     count: u32,
 ) -> Result<Vec<Account>, ReadError>
-    ensures { Reads (λ v. v.items) (accounts_at assets count None from.old) from.new result }
+    ensures { MayDecodeOrStray (λ v. v.items) (accounts_at assets count None from.old) from.new result }
 {
     let room = from.left() / ACCOUNT_BYTES;
     let mut accounts = Vec::with_capacity(alloc, room.min(count as usize))?;
@@ -134,7 +134,7 @@ fn accounts(
 
 #[tactic(auto, unfolding(crate::specs::Decoding::account_list_at))]
 fn account_list(alloc: Global, from: &mut Reader, assets: u8) -> Result<Vec<Account>, ReadError>
-    ensures { Reads (λ v. v.items) (account_list_at assets from.old) from.new result }
+    ensures { MayDecodeOrStray (λ v. v.items) (account_list_at assets from.old) from.new result }
 {
     let count = from.field_u32(0, MOST_ACCOUNTS, Form::TooMany)?;
     accounts(alloc, from, assets, count)
@@ -151,7 +151,7 @@ struct Head {
 
 #[tactic(auto, unfolding(crate::specs::Decoding::head_at))]
 fn read_head(alloc: Global, from: &mut Reader) -> Result<Head, ReadError>
-    ensures { Reads (λ head. (head.version, head.height, head.prices, head.rounding.items)) (head_at from.old) from.new result }
+    ensures { MayDecodeOrStray (λ head. (head.version, head.height, head.prices, head.rounding.items)) (head_at from.old) from.new result }
 {
     let version = from.field_u8(VERSION, VERSION, Form::Version)?;
     let height = from.field_u64(0, LAST_HEIGHT, Form::HeightRange)?;
@@ -168,7 +168,7 @@ fn read_head(alloc: Global, from: &mut Reader) -> Result<Head, ReadError>
 
 #[tactic(auto, unfolding(crate::specs::Decoding::parts_at))]
 fn parts(alloc: Global, from: &mut Reader) -> Result<Parts, ReadError>
-    ensures { Reads (λ parts. parts) (parts_at from.old) from.new result }
+    ensures { MayDecodeOrStray (λ parts. parts) (parts_at from.old) from.new result }
 {
     let Head {
         version,

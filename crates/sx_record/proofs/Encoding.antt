@@ -14,7 +14,7 @@ use Rattle.sx_bytes.proofs.Field.{length-big_bytes, big_bytes-big_number, big_nu
 use Rattle.sx_bytes.proofs.Grammar.{AreBytes-take}
 use Rattle.sx_record.specs.declared.frame.Record.{Record}
 use Rattle.sx_record.specs.Frame.{most_bytes}
-use Rattle.sx_record.specs.Decoding.{Reading, done, fails, go_on, bytes_at, length_at, behind_tag, record_at}
+use Rattle.sx_record.specs.Decoding.{StreamDecoding, done, fails, go_on, bytes_at, length_at, after_tag, record_at}
 use Rattle.sx_record.specs.Laws.{DecodesOnlyRecords, DecodesEveryRecord, AreRecordsPrefixFree, EndsOnlyAtEnd}
 use Rattle.sx_record.proofs.Framing.{bytes_taken, length_taken}
 
@@ -40,22 +40,22 @@ contained (t ∷ tags) tag e =
 pub record_taken : (tags : List ℕ) (at tag n : ℕ) (field payload rest : List ℕ) → list_any (λ t. t == tag) tags ≡ true
     → length field ≡ 4 → n ≡ big_number 4 field → n ≤ most_bytes → length payload ≡ n
     → record_at tags at (tag ∷ (field ++ (payload ++ rest))) ≡ (Ok (Some (record { tag = tag; at = at + 5; payload = payload })), rest)
-unfolding record_at behind_tag
+unfolding record_at after_tag
 record_taken tags at tag n field payload rest among len number fits whole =
     rw (among, length_taken (at + 1) n field (payload ++ rest) len number fits, bytes_taken n (at + 5) payload rest whole) refl
 
-pub reads_back : DecodesEveryRecord
-reads_back tags payload rest tag at small among fits =
+pub decodes_every_record : DecodesEveryRecord
+decodes_every_record tags payload rest tag at small among fits =
     let n = length payload in
     let same : tag % 256 ≡ tag = mod-eq_of_lt small in
     let number : n ≡ big_number 4 (big_bytes 4 n) = sym (big_number-big_bytes 4 n (omega arith)) in
     rw same (record_taken tags at tag n (big_bytes 4 n) payload rest (listed tags tag among) (length-big_bytes 4 n) number fits refl)
 
-pub no_prefix : AreRecordsPrefixFree
-no_prefix t u p q x y small_t small_u fits_p fits_q e =
+pub are_records_prefix_free : AreRecordsPrefixFree
+are_records_prefix_free t u p q x y small_t small_u fits_p fits_q e =
     let tags : List ℕ = t ∷ u ∷ [] in
-    let one = reads_back tags p x t 0 small_t (0, omega arith, refl) fits_p in
-    let other = reads_back tags q y u 0 small_u (1, omega arith, refl) fits_q in
+    let one = decodes_every_record tags p x t 0 small_t (0, omega arith, refl) fits_p in
+    let other = decodes_every_record tags q y u 0 small_u (1, omega arith, refl) fits_q in
     let both = sym one ∙ ap (record_at tags 0) e ∙ other in
     let found = ap (λ (a : Result (Option Record) FormFault × List ℕ). a.0) both in
     let same : record { tag = t; at = 5; payload = p } ≡ record { tag = u; at = 5; payload = q } = cc in
@@ -64,7 +64,7 @@ no_prefix t u p q x y small_t small_u fits_p fits_q e =
 -- ---- what is read is spelled so
 
 -- the value of a step that found no fault
-go_on_ok : {X Y : Type 0} (p : Result X FormFault × List ℕ) (next : X → Reading Y) (y : Y) (rest : List ℕ) → go_on p next ≡ (Ok y, rest)
+go_on_ok : {X Y : Type 0} (p : Result X FormFault × List ℕ) (next : X → StreamDecoding Y) (y : Y) (rest : List ℕ) → go_on p next ≡ (Ok y, rest)
     → (x : X) × (mid : List ℕ) × (p ≡ (Ok x, mid)) × (next x mid ≡ (Ok y, rest))
 go_on_ok (Ok x, mid) next y rest e = (x, mid, refl, e)
 go_on_ok {X} {Y} (Err fault, mid) next y rest e = absurd (let f = ap (λ (a : Result Y FormFault × List ℕ). a.0) e in cc)
@@ -75,7 +75,7 @@ passed : {X : Type 0} (b : Bool) (p : Result X FormFault × List ℕ) (fault : F
 passed true p fault left rest y e = (refl, e)
 passed {X} false p fault left rest y e = absurd (let f = ap (λ (a : Result X FormFault × List ℕ). a.0) e in cc)
 
-tested : {X : Type 0} (b : Bool) (read : Reading X) (fault : Form) (at : ℕ) (bytes rest : List ℕ) (y : X)
+tested : {X : Type 0} (b : Bool) (read : StreamDecoding X) (fault : Form) (at : ℕ) (bytes rest : List ℕ) (y : X)
     → cond b read (fails fault at) bytes ≡ (Ok y, rest) → (b ≡ true) × (read bytes ≡ (Ok y, rest))
 tested true read fault at bytes rest y e = (refl, e)
 tested {X} false read fault at bytes rest y e = absurd (let f = ap (λ (a : Result X FormFault × List ℕ). a.0) e in cc)
@@ -122,9 +122,9 @@ joined : (bytes mid payload left rest : List ℕ) (size : ℕ) → bytes ≡ big
 joined bytes mid payload left rest size one two len same =
     one ∙ ap (λ (m : List ℕ). big_bytes 4 size ++ m) (two ∙ ap (λ (r : List ℕ). payload ++ r) same) ∙ ap (λ (n : ℕ). big_bytes 4 n ++ (payload ++ rest)) (sym len)
 
-behind_ok : (tag at : ℕ) (bytes rest : List ℕ) (answer : Option Record) → AreBytes bytes → behind_tag tag at bytes ≡ (Ok answer, rest)
+behind_ok : (tag at : ℕ) (bytes rest : List ℕ) (answer : Option Record) → AreBytes bytes → after_tag tag at bytes ≡ (Ok answer, rest)
     → (found : Record) × (answer ≡ Some found) × Behind tag at bytes rest found
-unfolding behind_tag
+unfolding after_tag
 behind_ok tag at bytes rest answer are e =
     let b = go_on_ok (length_at (at + 1) bytes) _ answer rest e in
     let size = b.0 in
@@ -147,12 +147,12 @@ behind_ok tag at bytes rest answer are e =
       },
     )
 
-pub spells_back : DecodesOnlyRecords
+pub decodes_only_records : DecodesOnlyRecords
 unfolding record_at
-spells_back tags [] rest at found are e =
+decodes_only_records tags [] rest at found are e =
     absurd (let f = ap (λ (a : Result (Option Record) FormFault × List ℕ). a.0) e in cc)
-spells_back tags (tag ∷ bytes) rest at found are e =
-    let t = passed (list_any (λ t. t == tag) tags) (behind_tag tag at bytes) _ bytes rest (Some found) e in
+decodes_only_records tags (tag ∷ bytes) rest at found are e =
+    let t = passed (list_any (λ t. t == tag) tags) (after_tag tag at bytes) _ bytes rest (Some found) e in
     let b = behind_ok tag at bytes rest (Some found) (λ i. are (suc i)) t.1 in
     let is : found ≡ b.0 = cc in
     let behind : Behind tag at bytes rest found = subst (Behind tag at bytes rest) (sym is) b.2 in
@@ -162,10 +162,10 @@ spells_back tags (tag ∷ bytes) rest at found are e =
     (ap (λ (bs : List ℕ). tag ∷ bs) behind.spelled ∙ ap (λ (t : ℕ). t ∷ others) (sym same), record { listed = subst (Contains tags) (sym behind.tag_is) (contained tags tag t.0); place = behind.at_is; fits = behind.fits })
 
 pub ends_only_at_end : EndsOnlyAtEnd
-unfolding record_at behind_tag
+unfolding record_at after_tag
 ends_only_at_end tags [] rest at e = (refl, sym (ap (λ (a : Result (Option Record) FormFault × List ℕ). a.1) e))
 ends_only_at_end tags (tag ∷ bytes) rest at e =
-    let t = passed (list_any (λ t. t == tag) tags) (behind_tag tag at bytes) _ bytes rest None e in
+    let t = passed (list_any (λ t. t == tag) tags) (after_tag tag at bytes) _ bytes rest None e in
     let b = go_on_ok (length_at (at + 1) bytes) _ None rest t.1 in
     let p = go_on_ok (bytes_at b.0 (at + 5) b.1) _ None rest b.3 in
     absurd (let f = ap (λ (a : Result (Option Record) FormFault × List ℕ). a.0) p.3 in cc)

@@ -9,8 +9,8 @@ use Rattle.sx_bytes.specs.declared.fault.Form.TheVariants as form
 use Rattle.sx_record.specs.declared.fault.RecordFault.{RecordFault}
 use Rattle.sx_record.specs.declared.fault.RecordFault.TheVariants.{NoMemory, Failed, Form}
 use Rattle.sx_record.specs.Frame.{most_bytes}
-use Rattle.sx_record.specs.Decoding.{bytes_at, length_at, behind_tag, record_at}
-use Rattle.sx_record.specs.Stream.{Took, EndsShort, Reads, HasTag, IfForm}
+use Rattle.sx_record.specs.Decoding.{bytes_at, length_at, after_tag, record_at}
+use Rattle.sx_record.specs.Stream.{Took, EndsShort, DecodesStream, HasTag, IfForm}
 
 -- ---- so many bytes
 
@@ -36,7 +36,7 @@ length_refused at n field rest len number long =
     let fails : leb (big_number 4 field) most_bytes ≡ false = grind (arith, leb_tells) in
     rw (bytes_taken 4 at field rest len, fails) refl
 
-pub length_short : (a b : Option (List ℕ)) (at : ℕ) (e : RecordFault) → IfForm {X = ℕ} (Err e) (EndsShort a b 4 at) → Reads (length_at at) a b (Err e)
+pub length_short : (a b : Option (List ℕ)) (at : ℕ) (e : RecordFault) → IfForm {X = ℕ} (Err e) (EndsShort a b 4 at) → DecodesStream (length_at at) a b (Err e)
 unfolding length_at
 length_short None b at e ends = tt
 length_short (Some bytes) b at NoMemory ends = tt
@@ -45,33 +45,33 @@ length_short (Some bytes) b at (Form fault) ends =
     ([], rw (bytes_short 4 at bytes ends.0, ends.2) refl, ends.1)
 
 pub length_long : (a b : Option (List ℕ)) (at n : ℕ) (field : List ℕ) → Took a b field → length field ≡ 4 → n ≡ big_number 4 field → most_bytes < n
-    → Reads (length_at at) a b (Err (Form (record { at = at; fault = form.TooLong })))
+    → DecodesStream (length_at at) a b (Err (Form (record { at = at; fault = form.TooLong })))
 length_long None b at n field took len number long = tt
 length_long (Some bytes) b at n field took len number long =
     (took.0, rw took.1 (length_refused at n field took.0 len number long), took.2)
 
 pub length_read : (a b : Option (List ℕ)) (at n : ℕ) (field : List ℕ) → Took a b field → length field ≡ 4 → n ≡ big_number 4 field → n ≤ most_bytes
-    → Reads (length_at at) a b (Ok n)
+    → DecodesStream (length_at at) a b (Ok n)
 length_read None b at n field took len number fits = tt
 length_read (Some bytes) b at n field took len number fits =
     (took.0, rw took.1 (length_taken at n field took.0 len number fits), took.2)
 
 -- ---- a record
 
-pub none_read : (a b : Option (List ℕ)) (tags : List ℕ) (at : ℕ) → HasTag a b None → Reads (record_at tags at) a b (Ok None)
+pub none_read : (a b : Option (List ℕ)) (tags : List ℕ) (at : ℕ) → HasTag a b None → DecodesStream (record_at tags at) a b (Ok None)
 unfolding record_at
 none_read None b tags at end = tt
 none_read (Some bytes) b tags at end = ([], rw end.0 refl, end.1)
 
 pub tag_refused : (a b : Option (List ℕ)) (tags : List ℕ) (at tag : ℕ) → Took a b (tag ∷ []) → list_any (λ t. t == tag) tags ≡ false
-    → Reads (record_at tags at) a b (Err (Form (record { at = at; fault = form.Tag })))
+    → DecodesStream (record_at tags at) a b (Err (Form (record { at = at; fault = form.Tag })))
 unfolding record_at
 tag_refused None b tags at tag took other = tt
 tag_refused (Some bytes) b tags at tag took other = (took.0, rw (took.1, other) refl, took.2)
 
 pub length_fails : (a b c : Option (List ℕ)) (tags : List ℕ) (at tag : ℕ) (e : RecordFault) → Took a b (tag ∷ []) → list_any (λ t. t == tag) tags ≡ true
-    → Reads {X = ℕ} (length_at (at + 1)) b c (Err e) → Reads (record_at tags at) a c (Err e)
-unfolding record_at behind_tag
+    → DecodesStream {X = ℕ} (length_at (at + 1)) b c (Err e) → DecodesStream (record_at tags at) a c (Err e)
+unfolding record_at after_tag
 length_fails None b c tags at tag e took listed reads = tt
 length_fails (Some bytes) None c tags at tag e took listed reads = absurd (let e : Some took.0 ≡ None = sym took.2 in cc)
 length_fails (Some bytes) (Some mid) c tags at tag NoMemory took listed reads = tt
@@ -81,8 +81,8 @@ length_fails (Some bytes) (Some mid) c tags at tag (Form fault) took listed read
     (reads.0, rw (took.1, listed, mid_is, reads.1) refl, reads.2)
 
 pub payload_fails : (a b c d : Option (List ℕ)) (tags : List ℕ) (at tag n : ℕ) (e : RecordFault) → Took a b (tag ∷ []) → list_any (λ t. t == tag) tags ≡ true
-    → Reads (length_at (at + 1)) b c (Ok n) → IfForm {X = ℕ} (Err e) (EndsShort c d n (at + 5)) → Reads (record_at tags at) a d (Err e)
-unfolding record_at behind_tag
+    → DecodesStream (length_at (at + 1)) b c (Ok n) → IfForm {X = ℕ} (Err e) (EndsShort c d n (at + 5)) → DecodesStream (record_at tags at) a d (Err e)
+unfolding record_at after_tag
 payload_fails None b c d tags at tag n e took listed reads ends = tt
 payload_fails (Some bytes) None c d tags at tag n e took listed reads ends = absurd (let e : Some took.0 ≡ None = sym took.2 in cc)
 payload_fails (Some bytes) (Some mid) None d tags at tag n e took listed reads ends = absurd (let e : Some reads.0 ≡ None = sym reads.2 in cc)
@@ -94,9 +94,9 @@ payload_fails (Some bytes) (Some mid) (Some last) d tags at tag n (Form fault) t
     ([], rw (took.1, listed, mid_is, reads.1, last_is, bytes_short n (at + 5) last ends.0, ends.2) refl, ends.1)
 
 pub record_read : (a b c d : Option (List ℕ)) (tags : List ℕ) (at tag n : ℕ) (payload : List ℕ) → Took a b (tag ∷ []) → list_any (λ t. t == tag) tags ≡ true
-    → Reads (length_at (at + 1)) b c (Ok n) → Took c d payload → length payload ≡ n
-    → Reads (record_at tags at) a d (Ok (Some (record { tag = tag; at = at + 5; payload = payload })))
-unfolding record_at behind_tag
+    → DecodesStream (length_at (at + 1)) b c (Ok n) → Took c d payload → length payload ≡ n
+    → DecodesStream (record_at tags at) a d (Ok (Some (record { tag = tag; at = at + 5; payload = payload })))
+unfolding record_at after_tag
 record_read None b c d tags at tag n payload took listed reads taken whole = tt
 record_read (Some bytes) None c d tags at tag n payload took listed reads taken whole = absurd (let e : Some took.0 ≡ None = sym took.2 in cc)
 record_read (Some bytes) (Some mid) None d tags at tag n payload took listed reads taken whole = absurd (let e : Some reads.0 ≡ None = sym reads.2 in cc)

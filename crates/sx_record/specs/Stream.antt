@@ -4,17 +4,17 @@ use Rattle.sx_bytes.specs.declared.fault.Form.TheVariants as form
 use Rattle.sx_bytes.specs.declared.fault.FormFault.{FormFault}
 use Rattle.sx_record.specs.declared.fault.RecordFault.{RecordFault}
 use Rattle.sx_record.specs.declared.fault.RecordFault.TheVariants.{NoMemory, Failed, Form}
-use Rattle.sx_record.specs.Decoding.{Reading}
+use Rattle.sx_record.specs.Decoding.{StreamDecoding}
 
 -- What a call answers is what the reading does with the bytes of a source that tells them, and so
 -- is what it leaves of them. Nothing is said of another source, nor where it failed or memory ran
 -- out.
-abbrev pub Reads : {X : Type 0} → Reading X → Option (List ℕ) → Option (List ℕ) → Result X RecordFault → Type 0
-Reads read None after answer = Unit {0}
-Reads read (Some bytes) after (Ok x) = (rest : List ℕ) × (read bytes ≡ (Ok x, rest)) × (after ≡ Some rest)
-Reads read (Some bytes) after (Err (Form fault)) = (rest : List ℕ) × (read bytes ≡ (Err fault, rest)) × (after ≡ Some rest)
-Reads read (Some bytes) after (Err Failed) = Unit {0}
-Reads read (Some bytes) after (Err NoMemory) = Unit {0}
+abbrev pub DecodesStream : {X : Type 0} → StreamDecoding X → Option (List ℕ) → Option (List ℕ) → Result X RecordFault → Type 0
+DecodesStream read None after answer = Unit {0}
+DecodesStream read (Some bytes) after (Ok x) = (rest : List ℕ) × (read bytes ≡ (Ok x, rest)) × (after ≡ Some rest)
+DecodesStream read (Some bytes) after (Err (Form fault)) = (rest : List ℕ) × (read bytes ≡ (Err fault, rest)) × (after ≡ Some rest)
+DecodesStream read (Some bytes) after (Err Failed) = Unit {0}
+DecodesStream read (Some bytes) after (Err NoMemory) = Unit {0}
 
 -- a source that tells its bytes had this text in front, and has what is behind it left
 abbrev pub Took : Option (List ℕ) → Option (List ℕ) → List ℕ → Type 0

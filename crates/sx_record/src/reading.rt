@@ -5,7 +5,7 @@ ghost use Rattle.byteorder.specs.Endian.{big_bytes, big_number};
 ghost use Rattle.sx_base.specs.Outside.{Rose};
 ghost use Rattle.sx_record.specs.Frame.{most_bytes, record_bytes, MayStand};
 ghost use Rattle.sx_record.specs.Decoding.{length_at, record_at};
-ghost use Rattle.sx_record.specs.Stream.{Took, Adds, EndsShort, Reads, HasTag, UnlessFailed, IfForm};
+ghost use Rattle.sx_record.specs.Stream.{Took, Adds, EndsShort, DecodesStream, HasTag, UnlessFailed, IfForm};
 
 use crate::fault::RecordFault;
 use crate::frame::Record;
@@ -36,7 +36,7 @@ pub fn next_record<S: Source>(
     requires { at ≤ 2 ^ 63 }
 
     // What is answered, and what is left of a source that tells its bytes.
-    ensures exact { Reads (record_at tags.now at) (S.left source.old) (S.left source.new) result }
+    ensures exact { DecodesStream (record_at tags.now at) (S.left source.old) (S.left source.new) result }
 
     // A record's bytes are what was taken from such a source.
     ensures spelled { IfOk result (λ found. IfSome found (λ r.
@@ -106,7 +106,7 @@ fn next_tag<S: Source>(source: &mut S) -> Result<Option<u8>, RecordFault>
 // The length of a payload, which stands at this offset.
 fn next_length<S: Source>(source: &mut S, at: u64) -> Result<u32, RecordFault>
     requires { at ≤ 2 ^ 63 + 1 }
-    ensures exact { Reads (length_at at) (S.left source.old) (S.left source.new) result }
+    ensures exact { DecodesStream (length_at at) (S.left source.old) (S.left source.new) result }
     ensures spelled { IfOk result (λ n. Took (S.left source.old) (S.left source.new) (big_bytes 4 n)) }
     ensures fits { IfOk result (λ n. n ≤ most_bytes) }
     ensures steady { UnlessFailed result (S.faults source.new ≡ S.faults source.old) }

@@ -14,7 +14,7 @@ use Rattle.sx_bytes.specs.Cursor.{Cursor, rest, left}
 use Rattle.sx_bytes.specs.Grammar.{◌>>=◌, Gives, between, field_at, ordered_at, in_order}
 use Rattle.sx_bytes.proofs.Grammar.{bind_ok, guard_ok, length-rest, Takes, Takes-then, Again}
 use Rattle.sx_bytes.proofs.Ordered.{ordered_takes, ordered_again}
-use Rattle.sx_bytes.proofs.Steps.{bytes_behind, range_takes, range_again}
+use Rattle.sx_bytes.proofs.DecodingSteps.{bytes_after, range_takes, range_again}
 use Rattle.sx_ledger.specs.Body.{tx_before}
 use Rattle.sx_ledger.specs.Ledger.{IsPrice}
 use Rattle.sx_run.specs.declared.block.Block.{Block}
@@ -43,7 +43,7 @@ unfolding body_at
 body_takes c next x bytes e =
     let n = bind_ok (field_at 4 (between 0 1000000) form.TooMany c) at_count (x, next) e in
     let t0 = range_takes 4 0 1000000 form.TooMany c n.0.1 n.0.0 bytes n.1 in
-    let bytes1 = bytes_behind c n.0.1 (big_bytes 4 n.0.0) t0.0 bytes in
+    let bytes1 = bytes_after c n.0.1 (big_bytes 4 n.0.0) t0.0 bytes in
     let t1 = ordered_takes tx_at tx_bytes IsTx tx_before form.Order tx_takes n.0.0 None n.0.1 next x bytes1 n.2 in
     let count : Takes c (big_bytes 4 (length x)) n.0.1 = subst (λ (m : ℕ). Takes c (big_bytes 4 m) n.0.1) (sym t1.1) t0.0 in
     let few : length x ≤ 1000000 = subst (λ (m : ℕ). m ≤ 1000000) (sym t1.1) t0.2 in
@@ -107,7 +107,7 @@ block_takes bytes x are e =
     let h = bind_ok (header_at (start bytes)) at_header x e in
     let b = bind_ok (body_at h.0.1) (at_body h.0.0) x h.2 in
     let t0 = header_takes (start bytes) h.0.1 h.0.0 are h.1 in
-    let t1 = body_takes h.0.1 b.0.1 b.0.0 (bytes_behind (start bytes) h.0.1 (header_bytes h.0.0) t0.0 are) b.1 in
+    let t1 = body_takes h.0.1 b.0.1 b.0.0 (bytes_after (start bytes) h.0.1 (header_bytes h.0.0) t0.0 are) b.1 in
     let made : Block = record { header = h.0.0; txs = b.0.0 } in
     let g = guard_ok (eqb (left b.0.1) 0) made x (record { at = b.0.1.place; fault = form.Rest }) b.2 in
     let ended : left b.0.1 ≡ 0 = eqb-true (left b.0.1) 0 g.0 in
@@ -138,7 +138,7 @@ block_again x is =
 pub body_stands : (bytes : List ℕ) (place : ℕ) (x : Block) → AreBytes bytes → BodyStandsAt bytes place x → drop place bytes ≡ list_bytes x.txs
 body_stands bytes place x are at =
     let t0 = header_takes (start bytes) at.behind x.header are at.header in
-    let t1 = body_takes at.behind at.end x.txs (bytes_behind (start bytes) at.behind (header_bytes x.header) t0.0 are) at.body in
+    let t1 = body_takes at.behind at.end x.txs (bytes_after (start bytes) at.behind (header_bytes x.header) t0.0 are) at.body in
     let text : rest at.behind ≡ list_bytes x.txs = t1.0.parts ∙ ap (λ (r : List ℕ). list_bytes x.txs ++ r) (none_left at.end at.whole) ∙ append-nil (list_bytes x.txs) in
     sym (ap (λ (p : ℕ). drop p bytes) at.at) ∙ ap (drop at.behind.place) (sym t0.0.same) ∙ text
 

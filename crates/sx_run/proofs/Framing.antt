@@ -6,8 +6,8 @@ use Rattle.sx_record.specs.declared.fault.RecordFault.TheVariants as record_faul
 use Rattle.sx_record.specs.declared.frame.Record.{Record}
 use Rattle.sx_record.specs.Frame.{most_bytes, record_bytes}
 use Rattle.sx_record.specs.Decoding.{record_at}
-use Rattle.sx_record.specs.Stream.{Took, Reads}
-use Rattle.sx_record.proofs.Encoding.{reads_back, no_prefix, ends_only_at_end}
+use Rattle.sx_record.specs.Stream.{Took, DecodesStream}
+use Rattle.sx_record.proofs.Encoding.{decodes_every_record, are_records_prefix_free, ends_only_at_end}
 use Rattle.sx_run.specs.Stream.{HasNoRecord, HasMore, IsAtEnd, HasNotBoth}
 
 -- ---- one record
@@ -19,15 +19,15 @@ Answer = Result (Option Record) FormFault × List ℕ
 front_read : (tag at : ℕ) (bytes payload rest : List ℕ) → tag < 256 → length payload ≤ most_bytes → bytes ≡ record_bytes tag payload ++ rest
     → (found : Record) × (record_at (tag ∷ []) at bytes ≡ (Ok (Some found), rest))
 front_read tag at bytes payload rest small fits e =
-    (record { tag = tag; at = at + 5; payload = payload }, ap (record_at (tag ∷ []) at) e ∙ reads_back (tag ∷ []) payload rest tag at small (0, omega arith, refl) fits)
+    (record { tag = tag; at = at + 5; payload = payload }, ap (record_at (tag ∷ []) at) e ∙ decodes_every_record (tag ∷ []) payload rest tag at small (0, omega arith, refl) fits)
 
-pub none_at_end : (a b : Option (List ℕ)) (tag at : ℕ) → tag < 256 → Reads (record_at (tag ∷ []) at) a b (Ok None) → HasNoRecord a tag
+pub none_at_end : (a b : Option (List ℕ)) (tag at : ℕ) → tag < 256 → DecodesStream (record_at (tag ∷ []) at) a b (Ok None) → HasNoRecord a tag
 none_at_end None b tag at small reads = tt
 none_at_end (Some bytes) b tag at small reads = λ payload rest fits e.
     let read = front_read tag at bytes payload rest small fits e in
     absurd (let f = ap (λ (a : Answer). a.0) (sym reads.1 ∙ read.1) in cc)
 
-pub none_at_fault : (a b : Option (List ℕ)) (tag at : ℕ) (fault : FormFault) → tag < 256 → Reads (record_at (tag ∷ []) at) a b (Err (record_fault.Form fault)) → HasNoRecord a tag
+pub none_at_fault : (a b : Option (List ℕ)) (tag at : ℕ) (fault : FormFault) → tag < 256 → DecodesStream (record_at (tag ∷ []) at) a b (Err (record_fault.Form fault)) → HasNoRecord a tag
 none_at_fault None b tag at fault small reads = tt
 none_at_fault (Some bytes) b tag at fault small reads = λ payload rest fits e.
     let read = front_read tag at bytes payload rest small fits e in
@@ -35,13 +35,13 @@ none_at_fault (Some bytes) b tag at fault small reads = λ payload rest fits e.
 
 -- ---- the end
 
-pub at_end : (a b : Option (List ℕ)) (at : ℕ) → Reads (record_at [] at) a b (Ok None) → IsAtEnd a b
+pub at_end : (a b : Option (List ℕ)) (at : ℕ) → DecodesStream (record_at [] at) a b (Ok None) → IsAtEnd a b
 at_end None b at reads = tt
 at_end (Some bytes) b at reads =
     let e = ends_only_at_end [] bytes reads.0 at reads.1 in
     (e.0, reads.2 ∙ ap (λ (r : List ℕ). Some r) e.1)
 
-pub more_at_fault : (a b : Option (List ℕ)) (at : ℕ) (fault : FormFault) → Reads (record_at [] at) a b (Err (record_fault.Form fault)) → HasMore a
+pub more_at_fault : (a b : Option (List ℕ)) (at : ℕ) (fault : FormFault) → DecodesStream (record_at [] at) a b (Err (record_fault.Form fault)) → HasMore a
 unfolding record_at
 more_at_fault None b at fault reads = tt
 more_at_fault (Some bytes) b at fault reads = λ e.
@@ -55,7 +55,7 @@ none_listed a tag (i, lt, is) = absurd (omega arith)
 
 -- two records of one tag in front of one text are one
 pub records_same : (tag : ℕ) (p q x y : List ℕ) → tag < 256 → length p ≤ most_bytes → length q ≤ most_bytes → record_bytes tag p ++ x ≡ record_bytes tag q ++ y → (p ≡ q) × (x ≡ y)
-records_same tag p q x y small small_p small_q e = let same = no_prefix tag tag p q x y small small small_p small_q e in (same.1, same.2)
+records_same tag p q x y small small_p small_q e = let same = are_records_prefix_free tag tag p q x y small small small_p small_q e in (same.1, same.2)
 
 -- what is behind the first record is the second one, wherever both are there
 second : (bytes rest s state block : List ℕ) → bytes ≡ record_bytes 1 s ++ rest → length s ≤ most_bytes → length state ≤ most_bytes → bytes ≡ record_bytes 1 state ++ record_bytes 3 block → rest ≡ record_bytes 3 block

@@ -12,7 +12,7 @@ use Rattle.sx_bytes.specs.Cursor.{Cursor, rest, left, moved, raw_at}
 use Rattle.sx_bytes.specs.Grammar.{◌>>=◌, or_fault, between, field_at, many_at}
 use Rattle.sx_bytes.proofs.Grammar.{bind_ok, guard_ok, guard_short, or_fault_ok, AreBytes-take, AreBytes-drop, moved_takes, length-rest, Takes, Takes-then, Again, many_takes, many_again, done}
 use Rattle.sx_bytes.proofs.Ordered.{and_parts}
-use Rattle.sx_bytes.proofs.Steps.{bytes_behind, range_takes, range_again}
+use Rattle.sx_bytes.proofs.DecodingSteps.{bytes_after, range_takes, range_again}
 use Rattle.sx_ledger.specs.Ledger.{IsPrice}
 use Rattle.sx_ledger.specs.Decoding.{price_at}
 use Rattle.sx_run.specs.declared.block.Header.{Header}
@@ -135,13 +135,13 @@ front_takes c next x bytes e =
     let b = bind_ok (digest_at p.0.1) (at_body h.0.0 p.0.0) (x, next) p.2 in
     let m = bind_ok (mu_at b.0.1) (at_mu h.0.0 p.0.0 b.0.0) (x, next) b.2 in
     let t0 = range_takes 1 1 1 form.Version c v.0.1 v.0.0 bytes v.1 in
-    let bytes1 = bytes_behind c v.0.1 (big_bytes 1 v.0.0) t0.0 bytes in
+    let bytes1 = bytes_after c v.0.1 (big_bytes 1 v.0.0) t0.0 bytes in
     let t1 = range_takes 8 0 (2 ^ 63 - 1) form.HeightRange v.0.1 h.0.1 h.0.0 bytes1 h.1 in
-    let bytes2 = bytes_behind v.0.1 h.0.1 (big_bytes 8 h.0.0) t1.0 bytes1 in
+    let bytes2 = bytes_after v.0.1 h.0.1 (big_bytes 8 h.0.0) t1.0 bytes1 in
     let t2 = digest_takes h.0.1 p.0.1 p.0.0 bytes2 p.1 in
-    let bytes3 = bytes_behind h.0.1 p.0.1 p.0.0 t2.0 bytes2 in
+    let bytes3 = bytes_after h.0.1 p.0.1 p.0.0 t2.0 bytes2 in
     let t3 = digest_takes p.0.1 b.0.1 b.0.0 bytes3 b.1 in
-    let bytes4 = bytes_behind p.0.1 b.0.1 b.0.0 t3.0 bytes3 in
+    let bytes4 = bytes_after p.0.1 b.0.1 b.0.0 t3.0 bytes3 in
     let t4 = range_takes 1 1 20 form.MuRange b.0.1 m.0.1 m.0.0 bytes4 m.1 in
     let is_one : v.0.0 ≡ 1 = omega (arith, t0.1, t0.2) in
     let version : Takes c (big_bytes 1 1) v.0.1 = subst (λ (n : ℕ). Takes c (big_bytes 1 n) v.0.1) is_one t0.0 in
@@ -195,11 +195,11 @@ no_trade_takes n c next x bytes e =
     let d = bind_ok (field_at 1 (between 0 0) form.Tag t.0.1) (at_dropped n) (x, next) t.2 in
     let p = bind_ok (zeros_at (4 * n) d.0.1) (at_potentials n) (x, next) d.2 in
     let t0 = range_takes 2 0 0 form.TooMany c t.0.1 t.0.0 bytes t.1 in
-    let bytes1 = bytes_behind c t.0.1 (big_bytes 2 t.0.0) t0.0 bytes in
+    let bytes1 = bytes_after c t.0.1 (big_bytes 2 t.0.0) t0.0 bytes in
     let t1 = range_takes 1 0 0 form.Tag t.0.1 d.0.1 d.0.0 bytes1 d.1 in
-    let bytes2 = bytes_behind t.0.1 d.0.1 (big_bytes 1 d.0.0) t1.0 bytes1 in
+    let bytes2 = bytes_after t.0.1 d.0.1 (big_bytes 1 d.0.0) t1.0 bytes1 in
     let t2 = zeros_takes (4 * n) d.0.1 p.0.1 p.0.0 bytes2 p.1 in
-    let bytes3 = bytes_behind d.0.1 p.0.1 (replicate (4 * n) 0) t2.0 bytes2 in
+    let bytes3 = bytes_after d.0.1 p.0.1 (replicate (4 * n) 0) t2.0 bytes2 in
     let t3 = zeros_takes (8 * n) p.0.1 next x bytes3 p.2 in
     let no_trades : t.0.0 ≡ 0 = omega (arith, t0.2) in
     let none_dropped : d.0.0 ≡ 0 = omega (arith, t1.2) in
@@ -298,13 +298,13 @@ header_takes c next x bytes e =
     let z = bind_ok (no_trade_at a.0.0 p.0.1) (at_zeros f.0.0.0 f.0.0.1 f.0.0.2 f.0.0.3 p.0.0) (x, next) p.2 in
     let d = bind_ok (digest_at z.0.1) (at_after f.0.0.0 f.0.0.1 f.0.0.2 f.0.0.3 p.0.0) (x, next) z.2 in
     let t0 = front_takes c f.0.1 f.0.0 bytes f.1 in
-    let bytes1 = bytes_behind c f.0.1 (front_bytes f.0.0.0 f.0.0.1 f.0.0.2 f.0.0.3) t0.0 bytes in
+    let bytes1 = bytes_after c f.0.1 (front_bytes f.0.0.0 f.0.0.1 f.0.0.2 f.0.0.3) t0.0 bytes in
     let t1 = range_takes 1 1 32 form.AssetCount f.0.1 a.0.1 a.0.0 bytes1 a.1 in
-    let bytes2 = bytes_behind f.0.1 a.0.1 (big_bytes 1 a.0.0) t1.0 bytes1 in
+    let bytes2 = bytes_after f.0.1 a.0.1 (big_bytes 1 a.0.0) t1.0 bytes1 in
     let t2 = many_takes price_at (big_bytes 8) IsPrice price_takes a.0.0 a.0.1 p.0.1 p.0.0 bytes2 p.1 in
-    let bytes3 = bytes_behind a.0.1 p.0.1 (flat_map (big_bytes 8) p.0.0) t2.0 bytes2 in
+    let bytes3 = bytes_after a.0.1 p.0.1 (flat_map (big_bytes 8) p.0.0) t2.0 bytes2 in
     let t3 = no_trade_takes a.0.0 p.0.1 z.0.1 z.0.0 bytes3 z.1 in
-    let bytes4 = bytes_behind p.0.1 z.0.1 (no_trade_bytes a.0.0) t3 bytes3 in
+    let bytes4 = bytes_after p.0.1 z.0.1 (no_trade_bytes a.0.0) t3 bytes3 in
     let t4 = digest_takes z.0.1 d.0.1 d.0.0 bytes4 d.1 in
     let h : Header = record { height = f.0.0.0; parent = f.0.0.1; body = f.0.0.2; mu = f.0.0.3; prices = p.0.0; after = d.0.0 } in
     same_header c next d.0.1 h x d.2 (header_take c f.0.1 a.0.1 p.0.1 z.0.1 d.0.1 h a.0.0 t2.1 t0.0 t1.0 t2.0 t3 t4.0)

@@ -4,7 +4,7 @@ ghost use Rattle.std.specs.Prelude.{◌≡◌, ◌*◌, ◌<◌, ◌≤◌, leng
 ghost use Rattle.std.specs.List.{list_all};
 ghost use Rattle.sx_bytes.specs.declared.fault.Form.TheVariants as form;
 ghost use Rattle.sx_bytes.specs.declared.fault.ReadError.TheVariants as read_error;
-ghost use Rattle.sx_bytes.specs.Grammar.{Reads, Gives, many_at, may_follow, ordered_at};
+ghost use Rattle.sx_bytes.specs.Grammar.{MayDecodeOrStray, Gives, many_at, may_follow, ordered_at};
 ghost use Rattle.sx_ledger.specs.Body.{tx_before};
 ghost use Rattle.sx_ledger.specs.Decoding.{price_at};
 ghost use Rattle.sx_run.specs.declared.block.Block.{Block};
@@ -37,7 +37,7 @@ fn fault_at(at: usize, fault: Form) -> ReadError
 }
 
 fn digest(from: &mut Reader) -> Result<Digest, ReadError>
-    ensures { Reads (λ x. x) (digest_at from.old) from.new result }
+    ensures { MayDecodeOrStray (λ x. x) (digest_at from.old) from.new result }
 {
     let mut bytes = [0; 32];
     bytes.copy_from_slice(from.raw(32)?);
@@ -45,7 +45,7 @@ fn digest(from: &mut Reader) -> Result<Digest, ReadError>
 }
 
 fn mu(from: &mut Reader) -> Result<Mu, ReadError>
-    ensures { Reads (λ x. x) (mu_at from.old) from.new result }
+    ensures { MayDecodeOrStray (λ x. x) (mu_at from.old) from.new result }
 {
     let exponent = from.field_u8(Mu::LEAST, Mu::MOST, Form::MuRange)?;
     Ok(Mu::new(exponent).unwrap())
@@ -59,7 +59,7 @@ fn are_zeros(bytes: &[u8]) -> bool
 
 // So many bytes, all of them 0.
 fn zeros(from: &mut Reader, n: usize) -> Result<(), ReadError>
-    ensures { Reads (λ _. n) (zeros_at n from.old) from.new result }
+    ensures { MayDecodeOrStray (λ _. n) (zeros_at n from.old) from.new result }
 {
     let at = from.place();
     if !are_zeros(from.raw(n)?) {
@@ -71,7 +71,7 @@ fn zeros(from: &mut Reader, n: usize) -> Result<(), ReadError>
 // What stands before the prices: the height, the two digests and μ.
 #[tactic(auto, unfolding(crate::specs::BlockReading::front_at))]
 fn front(from: &mut Reader) -> Result<(u64, Digest, Digest, Mu), ReadError>
-    ensures { Reads (λ x. x) (front_at from.old) from.new result }
+    ensures { MayDecodeOrStray (λ x. x) (front_at from.old) from.new result }
 {
     from.field_u8(1, 1, Form::Version)?;
     let height = from.field_u64(0, u64::MAX >> 1, Form::HeightRange)?;
@@ -84,7 +84,7 @@ fn front(from: &mut Reader) -> Result<(u64, Digest, Digest, Mu), ReadError>
 // No trade, nothing dropped, and potentials and roundings of 0.
 #[tactic(auto, unfolding(crate::specs::BlockReading::no_trade_at))]
 fn no_trade(from: &mut Reader, assets: u8) -> Result<(), ReadError>
-    ensures { Reads (λ _. 8 * assets) (no_trade_at assets from.old) from.new result }
+    ensures { MayDecodeOrStray (λ _. 8 * assets) (no_trade_at assets from.old) from.new result }
 {
     from.field_u16(0, 0, Form::TooMany)?;
     from.field_u8(0, 0, Form::Tag)?;
@@ -94,7 +94,7 @@ fn no_trade(from: &mut Reader, assets: u8) -> Result<(), ReadError>
 
 #[tactic(auto, unfolding(crate::specs::BlockReading::header_at))]
 fn header(alloc: Global, from: &mut Reader) -> Result<Header, ReadError>
-    ensures { Reads (λ x. x) (header_at from.old) from.new result }
+    ensures { MayDecodeOrStray (λ x. x) (header_at from.old) from.new result }
 {
     let (height, parent, body, mu) = front(from)?;
     let assets = from.field_u8(1, 32, Form::AssetCount)?;
@@ -125,7 +125,7 @@ fn follows(before: Option<Tx>, next: &Tx) -> bool
 
 // Memory grows with what the bytes left can hold, and not with what the count claims.
 fn txs(alloc: Global, from: &mut Reader, count: u32) -> Result<TxList, ReadError>
-    ensures { Reads (λ x. x) (ordered_at tx_at tx_before form.Order count None from.old) from.new result }
+    ensures { MayDecodeOrStray (λ x. x) (ordered_at tx_at tx_before form.Order count None from.old) from.new result }
 {
     let room = from.left() / LEAST_BYTES;
     let mut txs = Vec::with_capacity(alloc, room.min(count as usize))?;
@@ -144,7 +144,7 @@ fn txs(alloc: Global, from: &mut Reader, count: u32) -> Result<TxList, ReadError
 
 #[tactic(auto, unfolding(crate::specs::BlockReading::body_at))]
 fn body(alloc: Global, from: &mut Reader) -> Result<TxList, ReadError>
-    ensures { Reads (λ x. x) (body_at from.old) from.new result }
+    ensures { MayDecodeOrStray (λ x. x) (body_at from.old) from.new result }
 {
     let count = from.field_u32(0, MOST_TXS, Form::TooMany)?;
     txs(alloc, from, count)

@@ -3,7 +3,7 @@ use Rattle.std.proofs.Common.{◌-◌, ◌^◌, true, refl, arith}
 use Rattle.byteorder.specs.Endian.{big_bytes}
 use Rattle.sx_bytes.specs.declared.fault.Form.TheVariants as form
 use Rattle.sx_bytes.proofs.Grammar.{field_takes, field_again}
-use Rattle.sx_bytes.proofs.Steps.{range_takes, range_again}
+use Rattle.sx_bytes.proofs.DecodingSteps.{range_takes, range_again}
 use Rattle.sx_bytes.proofs.Parts.{TakesAll, ReadsAgain}
 use Rattle.sx_tx.specs.Transactions.{IsId, IsSeq, IsAsset, IsAmount, IsLimit}
 use Rattle.sx_tx.specs.TransactionDecoding.{id_at, seq_at, asset_at, amount_at, limit_at}

@@ -13,7 +13,7 @@ use Rattle.sx_bytes.specs.Field.{AreBytes}
 use Rattle.sx_bytes.specs.Cursor.{Cursor, rest, left}
 use Rattle.sx_bytes.specs.Grammar.{Gives, between, field_at, many_at}
 use Rattle.sx_bytes.proofs.Grammar.{bind_ok, guard_ok, length-rest, Takes, Takes-then, many_takes, many_again}
-use Rattle.sx_bytes.proofs.Steps.{bytes_behind, range_takes, range_again, again_then}
+use Rattle.sx_bytes.proofs.DecodingSteps.{bytes_after, range_takes, range_again, again_then}
 use Rattle.sx_bytes.proofs.Parts.{TakesAll, ReadsAgain}
 use Rattle.sx_tx.specs.declared.kind.Kind.{Kind}
 use Rattle.sx_tx.specs.declared.kind.Kind.TheVariants as kind
@@ -28,7 +28,7 @@ unfolding list_at
 list_takes c next x bytes e =
     let n = bind_ok (field_at 4 (between 0 1000000) form.TooMany c) (λ count. many_at tx_at count.0 count.1) (x, next) e in
     let t0 = range_takes 4 0 1000000 form.TooMany c n.0.1 n.0.0 bytes n.1 in
-    let t1 = many_takes tx_at tx_bytes IsTx tx_takes n.0.0 n.0.1 next x (bytes_behind c n.0.1 (big_bytes 4 n.0.0) t0.0 bytes) n.2 in
+    let t1 = many_takes tx_at tx_bytes IsTx tx_takes n.0.0 n.0.1 next x (bytes_after c n.0.1 (big_bytes 4 n.0.0) t0.0 bytes) n.2 in
     let count : Takes c (big_bytes 4 (length x)) n.0.1 = subst (λ (m : ℕ). Takes c (big_bytes 4 m) n.0.1) (sym t1.1) t0.0 in
     let few : length x ≤ 1000000 = subst (λ (m : ℕ). m ≤ 1000000) (sym t1.1) t0.2 in
     (Takes-then c n.0.1 next (big_bytes 4 (length x)) (flat_map tx_bytes x) count t1.0, record { few = few; each = All-from_recursion IsTx x t1.2 })

@@ -6,7 +6,7 @@ use Rattle.sx_bytes.specs.Field.{AreBytes}
 use Rattle.sx_bytes.specs.Cursor.{Cursor, rest}
 use Rattle.sx_bytes.specs.Grammar.{between, field_at}
 use Rattle.sx_bytes.proofs.Grammar.{bind_ok, Takes, Takes-then, Again, field_takes, field_again}
-use Rattle.sx_bytes.proofs.Steps.{bytes_behind, range_takes, range_again, again_then}
+use Rattle.sx_bytes.proofs.DecodingSteps.{bytes_after, range_takes, range_again, again_then}
 use Rattle.sx_bytes.proofs.Parts.{TakesAll, ReadsAgain, made_is, two_take, two_again, three_take, three_again}
 use Rattle.sx_tx.specs.declared.kind.Kind.{Kind}
 use Rattle.sx_tx.specs.declared.kind.Kind.TheVariants as kind
@@ -80,7 +80,7 @@ unfolding kind_at
 kind_takes c next x bytes e =
     let n = bind_ok (field_at 1 (between 1 4) form.Tag c) (λ n. fields_at n.0 n.1) (x, next) e in
     let t0 = range_takes 1 1 4 form.Tag c n.0.1 n.0.0 bytes n.1 in
-    let t1 = fields_take n.0.0 n.0.1 next x (bytes_behind c n.0.1 (big_bytes 1 n.0.0) t0.0 bytes) t0.1 t0.2 n.2 in
+    let t1 = fields_take n.0.0 n.0.1 next x (bytes_after c n.0.1 (big_bytes 1 n.0.0) t0.0 bytes) t0.1 t0.2 n.2 in
     (subst (λ (text : List ℕ). Takes c text next) {x = big_bytes 1 n.0.0 ++ t1.0} {y = kind_bytes x} t1.1 (Takes-then c n.0.1 next (big_bytes 1 n.0.0) t1.0 t0.0 t1.2), t1.3)
 
 -- a number of a kind, and its fields behind it

@@ -3,7 +3,7 @@
 //! offset is that of the field, or that of the end of the bytes for `Short`. They take no memory.
 
 ghost use Rattle.std.specs.Prelude.{◌≡◌, ◌≤◌};
-ghost use Rattle.sx_bytes.specs.Cursor.{Leaves};
+ghost use Rattle.sx_bytes.specs.Cursor.{Decodes};
 ghost use Rattle.sx_tx.specs.TransactionDecoding.{id_at, seq_at, asset_at, amount_at, limit_at};
 
 use sx_base::{AccountId, Amount, AssetId, Seq};
@@ -12,9 +12,9 @@ use sx_price::Limit;
 
 /// The account at the place, in eight bytes: any number. The one fault is `Short`.
 #[inline]
-#[tactic(auto, using(sx_bytes::proofs::Steps::number_onward))]
+#[tactic(auto, using(sx_bytes::proofs::DecodingSteps::number_onward))]
 pub fn read_id(from: &mut Reader) -> Result<AccountId, FormFault>
-    ensures exact { Leaves (λ id. id.0) (id_at from.old) from.old from.new result }
+    ensures exact { Decodes (λ id. id.0) (id_at from.old) from.old from.new result }
     ensures same { from.new.bytes ≡ from.old.bytes }
     ensures onward { from.old.place ≤ from.new.place }
 {
@@ -25,7 +25,7 @@ pub fn read_id(from: &mut Reader) -> Result<AccountId, FormFault>
 /// sequence number.
 #[inline]
 pub fn read_seq(from: &mut Reader) -> Result<Seq, FormFault>
-    ensures exact { Leaves (λ x. x) (seq_at from.old) from.old from.new result }
+    ensures exact { Decodes (λ x. x) (seq_at from.old) from.old from.new result }
     ensures same { from.new.bytes ≡ from.old.bytes }
     ensures onward { from.old.place ≤ from.new.place }
 {
@@ -37,7 +37,7 @@ pub fn read_seq(from: &mut Reader) -> Result<Seq, FormFault>
 /// asset's number.
 #[inline]
 pub fn read_asset(from: &mut Reader) -> Result<AssetId, FormFault>
-    ensures exact { Leaves (λ x. x) (asset_at from.old) from.old from.new result }
+    ensures exact { Decodes (λ x. x) (asset_at from.old) from.old from.new result }
     ensures same { from.new.bytes ≡ from.old.bytes }
     ensures onward { from.old.place ≤ from.new.place }
 {
@@ -49,7 +49,7 @@ pub fn read_asset(from: &mut Reader) -> Result<AssetId, FormFault>
 /// amount.
 #[inline]
 pub fn read_amount(from: &mut Reader) -> Result<Amount, FormFault>
-    ensures exact { Leaves (λ x. x) (amount_at from.old) from.old from.new result }
+    ensures exact { Decodes (λ x. x) (amount_at from.old) from.old from.new result }
     ensures same { from.new.bytes ≡ from.old.bytes }
     ensures onward { from.old.place ≤ from.new.place }
 {
@@ -61,7 +61,7 @@ pub fn read_amount(from: &mut Reader) -> Result<Amount, FormFault>
 /// limit.
 #[inline]
 pub fn read_limit(from: &mut Reader) -> Result<Limit, FormFault>
-    ensures exact { Leaves (λ x. x) (limit_at from.old) from.old from.new result }
+    ensures exact { Decodes (λ x. x) (limit_at from.old) from.old from.new result }
     ensures same { from.new.bytes ≡ from.old.bytes }
     ensures onward { from.old.place ≤ from.new.place }
 {

@@ -3,8 +3,8 @@
 
 ghost use Rattle.std.specs.Prelude.{◌≡◌, ◌≤◌, List, IfOk, Ok};
 ghost use Rattle.sx_bytes.specs.declared.fault.ReadError.TheVariants as read_error;
-ghost use Rattle.sx_bytes.specs.Cursor.{Leaves};
-ghost use Rattle.sx_bytes.specs.Grammar.{Finds, Reads, Gives, many_at};
+ghost use Rattle.sx_bytes.specs.Cursor.{Decodes};
+ghost use Rattle.sx_bytes.specs.Grammar.{DecodesOrStrays, MayDecodeOrStray, Gives, many_at};
 ghost use Rattle.sx_tx.specs.declared.tx.Tx.{Tx};
 ghost use Rattle.sx_tx.specs.Transactions.{list_bytes, IsTxList};
 ghost use Rattle.sx_tx.specs.TransactionDecoding.{terms_at, pay_at, create_at, offer_at, cancel_at, kind_at, tx_at, list_at, candidates_at};
@@ -28,7 +28,7 @@ const LEAST_BYTES: usize = 25;
 #[inline]
 #[tactic(auto, unfolding(crate::specs::TransactionDecoding::terms_at))]
 fn terms(from: &mut Reader) -> Result<(AssetId, AssetId, Limit), FormFault>
-    ensures exact { Finds (λ x. x) (terms_at from.old) from.new result }
+    ensures exact { DecodesOrStrays (λ x. x) (terms_at from.old) from.new result }
     ensures same { from.new.bytes ≡ from.old.bytes }
     ensures onward { from.old.place ≤ from.new.place }
 {
@@ -41,7 +41,7 @@ fn terms(from: &mut Reader) -> Result<(AssetId, AssetId, Limit), FormFault>
 #[inline]
 #[tactic(auto, unfolding(crate::specs::TransactionDecoding::pay_at))]
 fn pay(from: &mut Reader) -> Result<Kind, FormFault>
-    ensures exact { Finds (λ x. x) (pay_at from.old) from.new result }
+    ensures exact { DecodesOrStrays (λ x. x) (pay_at from.old) from.new result }
     ensures same { from.new.bytes ≡ from.old.bytes }
     ensures onward { from.old.place ≤ from.new.place }
 {
@@ -54,7 +54,7 @@ fn pay(from: &mut Reader) -> Result<Kind, FormFault>
 #[inline]
 #[tactic(auto, unfolding(crate::specs::TransactionDecoding::create_at))]
 fn create(from: &mut Reader) -> Result<Kind, FormFault>
-    ensures exact { Finds (λ x. x) (create_at from.old) from.new result }
+    ensures exact { DecodesOrStrays (λ x. x) (create_at from.old) from.new result }
     ensures same { from.new.bytes ≡ from.old.bytes }
     ensures onward { from.old.place ≤ from.new.place }
 {
@@ -65,7 +65,7 @@ fn create(from: &mut Reader) -> Result<Kind, FormFault>
 #[inline]
 #[tactic(auto, unfolding(crate::specs::TransactionDecoding::offer_at))]
 fn offer(from: &mut Reader) -> Result<Kind, FormFault>
-    ensures exact { Finds (λ x. x) (offer_at from.old) from.new result }
+    ensures exact { DecodesOrStrays (λ x. x) (offer_at from.old) from.new result }
     ensures same { from.new.bytes ≡ from.old.bytes }
     ensures onward { from.old.place ≤ from.new.place }
 {
@@ -82,7 +82,7 @@ fn offer(from: &mut Reader) -> Result<Kind, FormFault>
 #[inline]
 #[tactic(auto, unfolding(crate::specs::TransactionDecoding::cancel_at))]
 fn cancel(from: &mut Reader) -> Result<Kind, FormFault>
-    ensures exact { Finds (λ x. x) (cancel_at from.old) from.new result }
+    ensures exact { DecodesOrStrays (λ x. x) (cancel_at from.old) from.new result }
     ensures same { from.new.bytes ≡ from.old.bytes }
     ensures onward { from.old.place ≤ from.new.place }
 {
@@ -99,7 +99,7 @@ fn cancel(from: &mut Reader) -> Result<Kind, FormFault>
 #[inline]
 #[tactic(auto, unfolding(crate::specs::TransactionDecoding::kind_at))]
 fn kind(from: &mut Reader) -> Result<Kind, FormFault>
-    ensures exact { Finds (λ x. x) (kind_at from.old) from.new result }
+    ensures exact { DecodesOrStrays (λ x. x) (kind_at from.old) from.new result }
     ensures same { from.new.bytes ≡ from.old.bytes }
     ensures onward { from.old.place ≤ from.new.place }
 {
@@ -115,7 +115,7 @@ fn kind(from: &mut Reader) -> Result<Kind, FormFault>
 #[inline]
 #[tactic(auto, unfolding(crate::specs::TransactionDecoding::tx_at))]
 fn tx(from: &mut Reader) -> Result<Tx, FormFault>
-    ensures exact { Finds (λ x. x) (tx_at from.old) from.new result }
+    ensures exact { DecodesOrStrays (λ x. x) (tx_at from.old) from.new result }
     ensures same { from.new.bytes ≡ from.old.bytes }
     ensures onward { from.old.place ≤ from.new.place }
 {
@@ -131,7 +131,7 @@ fn tx(from: &mut Reader) -> Result<Tx, FormFault>
 /// that a cancel names, `Tag` of a kind that is not 1 to 4, `AssetRange`, `LimitRange`,
 /// `AmountRange`, and `Short` where a field passes the end of the bytes. It takes no memory.
 pub fn read_tx(from: &mut Reader) -> Result<Tx, FormFault>
-    ensures { Leaves (λ x. x) (tx_at from.old) from.old from.new result }
+    ensures { Decodes (λ x. x) (tx_at from.old) from.old from.new result }
 {
     let place = from.place();
     let read = tx(from);
@@ -143,7 +143,7 @@ pub fn read_tx(from: &mut Reader) -> Result<Tx, FormFault>
 
 // Memory grows with what the bytes left can hold, and not with what the count claims.
 fn txs(alloc: Global, from: &mut Reader, count: u32) -> Result<TxList, ReadError>
-    ensures { Reads (λ x. x) (many_at tx_at count from.old) from.new result }
+    ensures { MayDecodeOrStray (λ x. x) (many_at tx_at count from.old) from.new result }
 {
     let room = from.left() / LEAST_BYTES;
     let mut txs = Vec::with_capacity(alloc, room.min(count as usize))?;
@@ -157,7 +157,7 @@ fn txs(alloc: Global, from: &mut Reader, count: u32) -> Result<TxList, ReadError
 
 #[tactic(auto, unfolding(crate::specs::TransactionDecoding::list_at))]
 fn list(alloc: Global, from: &mut Reader) -> Result<TxList, ReadError>
-    ensures { Reads (λ x. x) (list_at from.old) from.new result }
+    ensures { MayDecodeOrStray (λ x. x) (list_at from.old) from.new result }
 {
     let count = from.field_u32(0, MOST_TXS, Form::TooMany)?;
     txs(alloc, from, count)

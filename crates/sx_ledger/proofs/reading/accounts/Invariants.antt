@@ -1,5 +1,5 @@
 use Rattle.std.proofs.Common.{◌≡◌, ◌-◌, None}
-use Rattle.sx_bytes.proofs.Loop.{with_front}
+use Rattle.sx_bytes.proofs.ListReading.{with_front}
 use Rattle.sx_ledger.specs.Decoding.{accounts_at}
 use Rattle.sx_ledger.proofs.reading.accounts.Given as goal
 

@@ -1,7 +1,7 @@
 use Rattle.std.proofs.lemmas.Result.{err_from_is_err_and}
 use Rattle.sx_bytes.specs.declared.fault.ReadError.TheVariants as read_error
 use Rattle.sx_bytes.specs.Grammar.{many_at}
-use Rattle.sx_bytes.proofs.Loop.{goes_on, ends, is_done}
+use Rattle.sx_bytes.proofs.ListReading.{goes_on, ends, is_done}
 use Rattle.sx_ledger.specs.Decoding.{units_at}
 use Rattle.sx_ledger.proofs.reading.units.Goals as goal
 

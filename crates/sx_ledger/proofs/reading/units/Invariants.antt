@@ -1,6 +1,6 @@
 use Rattle.std.proofs.Common.{◌≡◌, ◌-◌}
 use Rattle.sx_bytes.specs.Grammar.{many_at}
-use Rattle.sx_bytes.proofs.Loop.{with_front}
+use Rattle.sx_bytes.proofs.ListReading.{with_front}
 use Rattle.sx_ledger.specs.Decoding.{units_at}
 use Rattle.sx_ledger.proofs.reading.units.Given as goal
 

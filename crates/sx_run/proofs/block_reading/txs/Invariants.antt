@@ -1,7 +1,7 @@
 use Rattle.std.proofs.Common.{◌≡◌, ◌-◌, None}
 use Rattle.sx_bytes.specs.declared.fault.Form.TheVariants as form
 use Rattle.sx_bytes.specs.Grammar.{ordered_at}
-use Rattle.sx_bytes.proofs.Loop.{with_front}
+use Rattle.sx_bytes.proofs.ListReading.{with_front}
 use Rattle.sx_ledger.specs.Body.{tx_before}
 use Rattle.sx_tx.specs.TransactionDecoding.{tx_at}
 use Rattle.sx_run.proofs.block_reading.txs.Given as goal

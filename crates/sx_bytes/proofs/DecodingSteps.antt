@@ -6,13 +6,13 @@ use Rattle.byteorder.specs.Endian.{big_bytes, big_number}
 use Rattle.sx_bytes.specs.declared.fault.Form.{Form}
 use Rattle.sx_bytes.specs.declared.fault.FormFault.{FormFault}
 use Rattle.sx_bytes.specs.Field.{AreBytes}
-use Rattle.sx_bytes.specs.Cursor.{Cursor, rest, moved, number_at}
+use Rattle.sx_bytes.specs.Cursor.{Cursor, rest, moved, uint_at}
 use Rattle.sx_bytes.specs.Grammar.{◌>>=◌, between, field_at}
 use Rattle.sx_bytes.proofs.Grammar.{guard_short, Takes, Again, length-rest, field_takes, field_again}
 use Rattle.sx_bytes.proofs.Ordered.{and_parts}
 
-pub bytes_behind : (c next : Cursor) (text : List ℕ) → Takes c text next → AreBytes c.bytes → AreBytes next.bytes
-bytes_behind c next text t bytes = subst AreBytes (sym t.same) bytes
+pub bytes_after : (c next : Cursor) (text : List ℕ) → Takes c text next → AreBytes c.bytes → AreBytes next.bytes
+bytes_after c next text t bytes = subst AreBytes (sym t.same) bytes
 
 -- a range, as bounds and as a test
 pub between_is : (low high x : ℕ) → between low high x ≡ true → (low ≤ x) × (x ≤ high)
@@ -60,7 +60,7 @@ again_moved {X} read c x text after within e a =
     let place : a.next.place ≡ c.place + length text = omega (arith, a.within, length-rest c, length-rest a.next) in
     a.is ∙ ap (λ (next : Cursor). Ok (x, next)) (same_cursor a.next (moved (length text) c) a.same place)
 
-pub number_onward : (n : ℕ) (c next : Cursor) (x : ℕ) → number_at n c ≡ Ok (x, next) → (next.bytes ≡ c.bytes) × (c.place ≤ next.place)
+pub number_onward : (n : ℕ) (c next : Cursor) (x : ℕ) → uint_at n c ≡ Ok (x, next) → (next.bytes ≡ c.bytes) × (c.place ≤ next.place)
 number_onward n c next x e =
     let g = guard_short (ltb (length c.bytes - c.place) n) (record { at = length c.bytes }) (big_number n (take n (rest c)), moved n c) (x, next) e in
     subst (λ (y : ℕ × Cursor). (y.1.bytes ≡ c.bytes) × (c.place ≤ y.1.place)) g.1 (refl, omega arith)
