@@ -18,11 +18,12 @@ use Rattle.sx_tx.specs.Transactions.{IsId}
 use Rattle.sx_tx.specs.TransactionDecoding.{id_at}
 use Rattle.sx_tx.proofs.FieldLaws.{id_takes, id_again}
 use Rattle.sx_ledger.specs.declared.account.Account.{Account}
-use Rattle.sx_ledger.specs.Ledger.{ids, IsPrice, IsAccount}
+use Rattle.sx_price.specs.Limits.{IsPrice}
+use Rattle.sx_ledger.specs.Ledger.{ids, IsAccount}
 use Rattle.sx_ledger.specs.Encoding.{account_bytes}
-use Rattle.sx_ledger.specs.Decoding.{price_at, units_at, last_at, account_at, next_account_at, accounts_at, account_list_at}
-use Rattle.sx_ledger.proofs.Chained.{AreNumbers, numbers_take, numbers_again, guard_takes, guard_again, chained_takes, chained_again}
-use Rattle.sx_ledger.proofs.Each.{IsTaken, each_takes, each_again}
+use Rattle.sx_ledger.specs.Decoding.{price_at, units_field_at, last_at, account_at, next_account_at, accounts_at, account_list_at}
+use Rattle.sx_ledger.proofs.DependentParts.{AreNumbers, numbers_take, numbers_again, guard_takes, guard_again, chained_takes, chained_again}
+use Rattle.sx_ledger.proofs.EntriesInOrder.{IsTaken, each_takes, each_again}
 
 -- no more than 2 ^ 62 units
 abbrev pub InRange : ℕ → Type 0
@@ -37,10 +38,10 @@ price_takes c next x bytes e = let t = range_takes 8 (2 ^ 8) (2 ^ 40) form.Price
 pub price_again : ReadsAgain price_at (big_bytes 8) IsPrice
 price_again c x after is within e = range_again 8 (2 ^ 8) (2 ^ 40) form.PriceRange c x after (omega arith) is.0 is.1 within e
 
-pub units_takes : TakesAll units_at (big_bytes 8) InRange
+pub units_takes : TakesAll units_field_at (big_bytes 8) InRange
 units_takes c next x bytes e = let t = range_takes 8 0 (2 ^ 62) form.AmountRange c next x bytes e in (t.0, t.2)
 
-pub units_again : ReadsAgain units_at (big_bytes 8) InRange
+pub units_again : ReadsAgain units_field_at (big_bytes 8) InRange
 units_again c x after is within e = range_again 8 0 (2 ^ 62) form.AmountRange c x after (omega arith) (omega arith) is within e
 
 last_takes : TakesAll last_at (big_bytes 8) IsLast
@@ -57,8 +58,8 @@ made id last balances = record { id = record { 0 = id }; window = record { last 
 pub account_takes : (assets : ℕ) → TakesAll (account_at assets) account_bytes (IsAccount assets)
 unfolding account_at
 account_takes assets c next account bytes e =
-    let t = three_take id_at last_at (many_at units_at assets) made (big_bytes 8) (big_bytes 8) (flat_map (big_bytes 8)) IsId IsLast (AreNumbers InRange assets)
-    id_takes last_takes (numbers_take units_at InRange assets units_takes) c next account bytes e in
+    let t = three_take id_at last_at (many_at units_field_at assets) made (big_bytes 8) (big_bytes 8) (flat_map (big_bytes 8)) IsId IsLast (AreNumbers InRange assets)
+    id_takes last_takes (numbers_take units_field_at InRange assets units_takes) c next account bytes e in
     let is : IsAccount assets (made t.0 t.1 t.2) = record { id = t.5; last = t.6; used = refl; balances = t.7.number; in_range = t.7.are } in
     subst (λ (a : Account). Takes c (account_bytes a) next × IsAccount assets a) t.3 (t.4, is)
 
@@ -66,8 +67,8 @@ pub account_again : (assets : ℕ) → ReadsAgain (account_at assets) account_by
 unfolding account_at
 account_again assets c account after is within e =
     let balances : AreNumbers InRange assets account.balances = record { number = is.balances; are = is.in_range } in
-    let read = three_again id_at last_at (many_at units_at assets) made (big_bytes 8) (big_bytes 8) (flat_map (big_bytes 8)) IsId IsLast (AreNumbers InRange assets)
-    id_again last_again (numbers_again units_at InRange assets units_again) c account.id.0 account.window.last account.balances after is.id is.last balances within e in
+    let read = three_again id_at last_at (many_at units_field_at assets) made (big_bytes 8) (big_bytes 8) (flat_map (big_bytes 8)) IsId IsLast (AreNumbers InRange assets)
+    id_again last_again (numbers_again units_field_at InRange assets units_again) c account.id.0 account.window.last account.balances after is.id is.last balances within e in
     let same : made account.id.0 account.window.last account.balances ≡ account =
     ap (λ (used : ℕ). record { id = account.id; window = record { last = account.window.last; used = used }; balances = account.balances }) (sym is.used) in
     subst (λ (a : Account). Again (account_at assets c) c a after) same read
@@ -108,7 +109,7 @@ order_behind x [] up = refl
 order_behind x (y ∷ ys) up =
     and_from _ _ (lt-ltb x y (up 0 (omega arith))) (order_behind y ys (λ k lt. let step : suc k + 1 ≡ suc (k + 1) = omega arith in rw step at (up (suc k) (omega arith))))
 
-order_from_increasing : (xs : List ℕ) → IsStrictlyIncreasing xs → in_order nat_lt None xs ≡ true
+pub order_from_increasing : (xs : List ℕ) → IsStrictlyIncreasing xs → in_order nat_lt None xs ≡ true
 order_from_increasing [] up = refl
 order_from_increasing (x ∷ xs) up = order_behind x xs up
 

@@ -23,8 +23,8 @@ use Rattle.sx_ledger.specs.Ledger.{keys, has_owner, IsOffer}
 use Rattle.sx_ledger.specs.Order.{key_of, key_before}
 use Rattle.sx_ledger.specs.Encoding.{offer_bytes}
 use Rattle.sx_ledger.specs.Decoding.{guarded, sell_at, buy_at, offer_at, next_offer_at, offers_at, offer_list_at}
-use Rattle.sx_ledger.proofs.Chained.{guard_takes, guard_again, chained_takes, chained_again}
-use Rattle.sx_ledger.proofs.Each.{IsTaken, each_takes, each_again}
+use Rattle.sx_ledger.proofs.DependentParts.{guard_takes, guard_again, chained_takes, chained_again}
+use Rattle.sx_ledger.proofs.EntriesInOrder.{IsTaken, each_takes, each_again}
 
 -- ---- the fields of an offer, the last first
 
