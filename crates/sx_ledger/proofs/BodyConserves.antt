@@ -29,7 +29,7 @@ put_one f new [] = sum_by-cons f new []
 put_one f new (account ∷ accounts) =
     elim (cases_Bool (nat_lt new.id.0 account.id.0)) [
       | inl before ↦ rw before (sum_by-cons f new (account ∷ accounts))
-      | inr behind ↦ rw behind (omega (arith, sum_by-cons f account (put_account new accounts), sum_by-cons f account accounts, put_one f new accounts))
+      | inr later ↦ rw later (omega (arith, sum_by-cons f account (put_account new accounts), sum_by-cons f account accounts, put_one f new accounts))
     ]
 
 put_all_accounts : (f : Account → ℕ) (new accounts : List Account) → sum_by f (put_accounts new accounts) ≡ sum_by f new + sum_by f accounts

@@ -1,4 +1,4 @@
--- What stands before the accounts of a state: what is read is spelled so, and what is spelled so is read.
+-- The fields before the accounts of a state: decoding inverts encoding, and back.
 use Rattle.std.proofs.Common.{◌≡◌, ℕ, ◌-◌, ◌^◌, ◌<◌, ◌≤◌, List, ◌++◌, length, refl, sym, subst, arith}
 use Rattle.std.specs.List.{flat_map}
 use Rattle.byteorder.specs.Endian.{big_bytes}
@@ -40,7 +40,7 @@ height_text head = big_bytes 8 head.1 ++ assets_text head
 abbrev pub head_bytes : Head → List ℕ
 head_bytes head = big_bytes 1 head.0 ++ height_text head
 
--- a head of this version, this height and so many assets
+-- a head of this version, this height and n assets
 pub record IsFrom (version height n : ℕ) (head : Head) : Type 0 where
   pub version_is : version ≡ head.0
   pub height_is : height ≡ head.1

@@ -23,7 +23,7 @@ put_one f new [] = sum_by-cons f new []
 put_one f new (offer ∷ offers) =
     elim (cases_Bool (offer_before new offer)) [
       | inl before ↦ rw before (sum_by-cons f new (offer ∷ offers))
-      | inr behind ↦ rw behind (omega (arith, sum_by-cons f offer (put_offer new offers), sum_by-cons f offer offers, put_one f new offers))
+      | inr later ↦ rw later (omega (arith, sum_by-cons f offer (put_offer new offers), sum_by-cons f offer offers, put_one f new offers))
     ]
 
 pub put_all : (f : Offer → ℕ) (new offers : List Offer) → sum_by f (put_offers new offers) ≡ sum_by f new + sum_by f offers

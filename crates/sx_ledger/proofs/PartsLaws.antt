@@ -1,4 +1,4 @@
--- The fields of a state: what is read is spelled so, and what is spelled so is read.
+-- The fields of a state: decoding inverts encoding, and back.
 use Rattle.std.proofs.Common.{◌≡◌, ℕ, ◌≤◌, ◌<◌, ◌^◌, List, ◌++◌, length, Ok, refl, sym, ap, subst, append_assoc}
 use Rattle.std.specs.List.{flat_map}
 use Rattle.byteorder.specs.Endian.{big_bytes}

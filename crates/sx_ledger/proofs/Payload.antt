@@ -31,7 +31,7 @@ over = record { at = 0; fault = form.Total }
 abbrev at_end : Parts × Cursor → Result Parts FormFault
 at_end read = cond (eqb (left read.1) 0) (Ok read.0) (Err (record { at = read.1.place; fault = form.Rest }))
 
--- a payload that is read is the spelling of what was read
+-- a payload that is decoded is the encoding of what it gives
 pub state_takes : (bytes : List ℕ) (parts : Parts) → AreBytes bytes → state_at bytes ≡ Ok parts → IsLedger parts × (bytes ≡ state_bytes parts)
 unfolding state_at
 state_takes bytes parts are e =
@@ -47,7 +47,7 @@ state_takes bytes parts are e =
     let is : IsLedger a.0.0 = ledger_from_read a.0.0 t.1 (totals_in_range a.0.0 (assets_of a.0.0) fit.0) in
     subst (λ (p : Parts). IsLedger p × (bytes ≡ state_bytes p)) same (is, text)
 
--- the spelling of a state is read as that state
+-- the encoding of a state is decoded as that state
 pub state_again : (parts : Parts) → IsLedger parts → state_at (state_bytes parts) ≡ Ok parts
 unfolding state_at
 state_again parts is =
@@ -57,13 +57,13 @@ state_again parts is =
     let ended : left read.next ≡ 0 = sym (length-rest read.next) ∙ ap length read.rest_is in
     rw read.is (rw fit (rw (eq-eqb (left read.next) 0 ended) refl))
 
--- ---- the laws of the spelling
+-- ---- the laws of the encoding
 
 ledger_again : ReadsAgain parts_at state_bytes IsLedger
 ledger_again c parts after is within e = parts_again c parts after (read_from_ledger parts is) within e
 
-pub states_of_one_spelling : IsInjective state_bytes IsLedger
-states_of_one_spelling = is_injective parts_at state_bytes IsLedger ledger_again
+pub state_is_injective : IsInjective state_bytes IsLedger
+state_is_injective = is_injective parts_at state_bytes IsLedger ledger_again
 
-pub states_no_prefix : IsPrefixFree state_bytes IsLedger
-states_no_prefix = is_prefix_free parts_at state_bytes IsLedger ledger_again
+pub state_is_prefix_free : IsPrefixFree state_bytes IsLedger
+state_is_prefix_free = is_prefix_free parts_at state_bytes IsLedger ledger_again

@@ -48,14 +48,10 @@ fn state_bytes() -> [u8; 182] {
     ]
 }
 
-fn asset(number: u8) -> Option<AssetId> {
-    AssetId::new(number).ok()
-}
-
 fn first_offer() -> Option<Offer> {
     Some(Offer {
-        sell: asset(0)?,
-        buy: asset(1)?,
+        sell: AssetId::new(0).ok()?,
+        buy: AssetId::new(1).ok()?,
         limit: Limit::new(1 << 25).ok()?,
         account: AccountId(1),
         seq: Seq::new(3).ok()?,
@@ -64,9 +60,8 @@ fn first_offer() -> Option<Offer> {
 }
 
 // The price, the rounding, both balances and the total of an asset.
-fn numbers(ledger: &Ledger, number: u8) -> Option<[u64; 5]> {
-    let asset = asset(number)?;
-    if u32::from(number) >= ledger.assets() || ledger.accounts() != 2 {
+fn numbers(ledger: &Ledger, asset: AssetId) -> Option<[u64; 5]> {
+    if u32::from(asset.get()) >= ledger.assets() || ledger.accounts() != 2 {
         return None;
     }
     Some([
@@ -87,8 +82,14 @@ fn a_state_is_read(rt: HostRuntime) -> Result<(), Fail> {
         (ledger.version(), ledger.height()),
         (1, Ledger::MOST_HEIGHT)
     );
-    assert_eq!(rt; numbers(&ledger, 0), Some([1 << 24, 0, 10, 30, 80]));
-    assert_eq!(rt; numbers(&ledger, 1), Some([1 << 40, 3, 20, 0, 24]));
+    assert_eq!(rt;
+        numbers(&ledger, AssetId::new(0)?),
+        Some([1 << 24, 0, 10, 30, 80])
+    );
+    assert_eq!(rt;
+        numbers(&ledger, AssetId::new(1)?),
+        Some([1 << 40, 3, 20, 0, 24])
+    );
     let index = ledger.index().ok().ok_or("memory")?;
     for (id, place) in [(0, None), (1, Some(0)), (2, None), (u64::MAX, Some(1))] {
         assert_eq!(rt; ledger.find(AccountId(id)), place, "{id}");
