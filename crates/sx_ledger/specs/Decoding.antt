@@ -28,7 +28,8 @@ abbrev pub guarded : {X : Type 0} → Bool → X × Cursor → FormFault → Res
 guarded passes entry fault = if passes then Ok entry else Err fault
 
 -- a number of entries, each read with the mark of the one before it in view
-unfoldable pub each_at : {X M : Type 0} → (Option M → Cursor → Result (X × Cursor) FormFault) → (X → M) → ℕ → Option M → Cursor → Result (List X × Cursor) FormFault
+unfoldable pub each_at : {X M : Type 0} → (Option M → Cursor → Result (X × Cursor) FormFault) → (X → M) → ℕ → Option M
+    → Cursor → Result (List X × Cursor) FormFault
 each_at entry mark zero before c = Ok ([], c)
 each_at entry mark (suc n) before c = do
   first ← entry before c
@@ -42,7 +43,10 @@ account_at assets c = do
   id ← id_at c
   last ← last_at id.1
   balances ← many_at units_field_at assets last.1
-  Ok (record { id = record { 0 = id.0 }; window = record { last = last.0; used = 0 }; balances = balances.0 }, balances.1)
+  Ok (
+    record { id = record { 0 = id.0 }; window = record { last = last.0; used = 0 }; balances = balances.0 },
+    balances.1,
+  )
 
 -- an account that comes after the one before it, of which the id is known
 unfoldable pub next_account_at : ℕ → Option ℕ → Cursor → Result (Account × Cursor) FormFault
@@ -73,7 +77,17 @@ offer_at assets c = do
   account ← id_at limit.1
   seq ← seq_at account.1
   amount ← amount_at seq.1
-  Ok (record { sell = sell.0; buy = buy.0; limit = limit.0; account = record { 0 = account.0 }; seq = seq.0; amount = amount.0 }, amount.1)
+  Ok (
+    record {
+      sell = sell.0;
+      buy = buy.0;
+      limit = limit.0;
+      account = record { 0 = account.0 };
+      seq = seq.0;
+      amount = amount.0;
+    },
+    amount.1,
+  )
 
 -- an offer that comes after the one before it, of which the key is known, by one of these accounts
 unfoldable pub next_offer_at : List Account → ℕ → Option Key → Cursor → Result (Offer × Cursor) FormFault
@@ -115,7 +129,17 @@ parts_at c = do
   head ← head_at c
   accounts ← account_list_at (length head.0.2) head.1
   offers ← offer_list_at accounts.0 (length head.0.2) accounts.1
-  Ok (record { version = head.0.0; height = head.0.1; prices = head.0.2; rounding = head.0.3; accounts = accounts.0; offers = offers.0 }, offers.1)
+  Ok (
+    record {
+      version = head.0.0;
+      height = head.0.1;
+      prices = head.0.2;
+      rounding = head.0.3;
+      accounts = accounts.0;
+      offers = offers.0;
+    },
+    offers.1,
+  )
 
 -- the total of each of the first assets is in range
 unfoldable pub totals_fit : Parts → ℕ → Bool

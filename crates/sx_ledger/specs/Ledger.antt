@@ -56,7 +56,9 @@ offered asset offer = if offer.sell == asset then offer.amount else 0
 
 -- what there is of an asset: in all balances, on offer, and kept by rounding
 abbrev pub total_of : Parts → ℕ → ℕ
-total_of parts asset = sum_by (balance_at asset) parts.accounts + (sum_by (offered asset) parts.offers + slice_index parts.rounding asset)
+total_of parts asset =
+    sum_by (balance_at asset) parts.accounts
+    + (sum_by (offered asset) parts.offers + slice_index parts.rounding asset)
 
 -- ---- what a ledger keeps
 
@@ -70,7 +72,8 @@ pub record IsAccount (assets : ℕ) (account : Account) : Type 0 where
 
 -- the account of an offer is there, and its last sequence number is that of the offer or a greater one
 abbrev pub has_owner : List Account → Offer → Bool
-has_owner accounts offer = list_any (λ account. (account.id.0 == offer.account.0) && nat_le offer.seq account.window.last) accounts
+has_owner accounts offer =
+    list_any (λ account. (account.id.0 == offer.account.0) && nat_le offer.seq account.window.last) accounts
 
 -- an offer of two different assets out of `assets`, by one of these accounts
 pub record IsOffer (assets : ℕ) (accounts : List Account) (offer : Offer) : Type 0 where
