@@ -22,19 +22,23 @@ pub between_test : (low high x : ℕ) → low ≤ x → x ≤ high → between l
 between_test low high x p q = rw (le-leb low x p, le-leb x high q) refl
 
 -- a field with a range
-pub range_takes : (n low high : ℕ) (fault : Form) (c next : Cursor) (x : ℕ) → AreBytes c.bytes → field_at n (between low high) fault c ≡ Ok (x, next)
+pub range_takes : (n low high : ℕ) (fault : Form) (c next : Cursor) (x : ℕ) → AreBytes c.bytes
+    → field_at n (between low high) fault c ≡ Ok (x, next)
     → Takes c (big_bytes n x) next × (low ≤ x) × (x ≤ high)
 range_takes n low high fault c next x bytes e =
     let t = field_takes n (between low high) fault c next x bytes e in
     let b = between_is low high x t.1 in
     (t.0, b.0, b.1)
 
-pub range_again : (n low high : ℕ) (fault : Form) (c : Cursor) (x : ℕ) (after : List ℕ) → high < 256 ^ n → low ≤ x → x ≤ high → c.place ≤ length c.bytes
+pub range_again : (n low high : ℕ) (fault : Form) (c : Cursor) (x : ℕ) (after : List ℕ) → high < 256 ^ n → low ≤ x
+    → x ≤ high → c.place ≤ length c.bytes
     → rest c ≡ big_bytes n x ++ after → Again (field_at n (between low high) fault c) c x after
-range_again n low high fault c x after fits p q within e = field_again n (between low high) fault c x after (omega arith) (between_test low high x p q) within e
+range_again n low high fault c x after fits p q within e =
+    field_again n (between low high) fault c x after (omega arith) (between_test low high x p q) within e
 
--- one part and what stands behind it
-pub again_then : {X Y : Type 0} (read : Result (X × Cursor) FormFault) (f : X × Cursor → Result (Y × Cursor) FormFault) (c : Cursor) (x : X) (y : Y) (middle after : List ℕ)
+-- one part and what comes after it
+pub again_then : {X Y : Type 0} (read : Result (X × Cursor) FormFault)
+    (f : X × Cursor → Result (Y × Cursor) FormFault) (c : Cursor) (x : X) (y : Y) (middle after : List ℕ)
     → (one : Again read c x middle) → Again (f (x, one.next)) one.next y after → Again (read >>= f) c y after
 again_then read f c x y middle after one two = record {
   next = two.next;
@@ -44,14 +48,16 @@ again_then read f c x y middle after one two = record {
   within = two.within;
 }
 
--- where the reader stands behind what it took
+-- where the cursor is after what was decoded
 same_cursor : (a b : Cursor) → a.bytes ≡ b.bytes → a.place ≡ b.place → a ≡ b
-same_cursor a b e f = ap (λ (xs : List ℕ). record { bytes = xs; place = a.place }) e ∙ ap (λ (n : ℕ). record { bytes = b.bytes; place = n }) f
+same_cursor a b e f = ap (λ (xs : List ℕ). record { bytes = xs; place = a.place }) e
+    ∙ ap (λ (n : ℕ). record { bytes = b.bytes; place = n }) f
 
 pub takes_moved : (c next : Cursor) (text : List ℕ) → Takes c text next → next ≡ moved (length text) c
 takes_moved c next text t = same_cursor next (moved (length text) c) t.same t.place
 
-pub again_moved : {X : Type 0} (read : Result (X × Cursor) FormFault) (c : Cursor) (x : X) (text after : List ℕ) → c.place ≤ length c.bytes → rest c ≡ text ++ after → Again read c x after
+pub again_moved : {X : Type 0} (read : Result (X × Cursor) FormFault) (c : Cursor) (x : X) (text after : List ℕ)
+    → c.place ≤ length c.bytes → rest c ≡ text ++ after → Again read c x after
     → read ≡ Ok (x, moved (length text) c)
 again_moved {X} read c x text after within e a =
     let bytes : length a.next.bytes ≡ length c.bytes = ap length a.same in
@@ -60,7 +66,9 @@ again_moved {X} read c x text after within e a =
     let place : a.next.place ≡ c.place + length text = omega (arith, a.within, length-rest c, length-rest a.next) in
     a.is ∙ ap (λ (next : Cursor). Ok (x, next)) (same_cursor a.next (moved (length text) c) a.same place)
 
-pub number_onward : (n : ℕ) (c next : Cursor) (x : ℕ) → uint_at n c ≡ Ok (x, next) → (next.bytes ≡ c.bytes) × (c.place ≤ next.place)
+pub number_onward : (n : ℕ) (c next : Cursor) (x : ℕ) → uint_at n c ≡ Ok (x, next) → (next.bytes ≡ c.bytes)
+    × (c.place ≤ next.place)
 number_onward n c next x e =
-    let g = guard_short (ltb (length c.bytes - c.place) n) (record { at = length c.bytes }) (big_number n (take n (rest c)), moved n c) (x, next) e in
+    let g = guard_short (ltb (length c.bytes - c.place) n) (record { at = length c.bytes })
+    (big_number n (take n (rest c)), moved n c) (x, next) e in
     subst (λ (y : ℕ × Cursor). (y.1.bytes ≡ c.bytes) × (c.place ≤ y.1.place)) g.1 (refl, omega arith)

@@ -1,4 +1,4 @@
--- Reading from a place in a list of bytes.
+-- Decoding from a place in a list of bytes.
 use Rattle.std.specs.Prelude.{◌≡◌, ℕ, ◌+◌, ◌-◌, List, length, take, drop, Result, Ok, Err, nat_lt, if◌then◌else◌}
 use Rattle.byteorder.specs.Endian.{big_number}
 use Rattle.sx_bytes.specs.declared.fault.Short.{Short}
@@ -19,16 +19,17 @@ left c = length c.bytes - c.place
 abbrev pub moved : ℕ → Cursor → Cursor
 moved n c = record { bytes = c.bytes; place = c.place + n }
 
--- the next n bytes and the cursor behind them, or where the bytes end
+-- the next n bytes and the cursor after them, or where the bytes end
 abbrev pub raw_at : ℕ → Cursor → Result (List ℕ × Cursor) Short
 raw_at n c = if nat_lt (left c) n then Err (record { at = length c.bytes }) else Ok (take n (rest c), moved n c)
 
--- the number that the next n bytes read as, and the cursor behind them
+-- the unsigned integer that the next n bytes decode to, and the cursor after them
 abbrev pub uint_at : ℕ → Cursor → Result (ℕ × Cursor) Short
-uint_at n c = if nat_lt (left c) n then Err (record { at = length c.bytes }) else Ok (big_number n (take n (rest c)), moved n c)
+uint_at n c = if nat_lt (left c) n then Err (record { at = length c.bytes }) else
+    Ok (big_number n (take n (rest c)), moved n c)
 
--- What a call answers, seen by view, is what reading gives, and it leaves the reader where reading
--- does. A refusal leaves the reader as it was.
+-- A call answers what decoding gives, its value seen by view. At Ok its reader is after the value,
+-- and a refusal does not change the reader. The call takes no memory.
 abbrev pub Decodes : {X Y E : Type 0} → (X → Y) → Result (Y × Cursor) E → Cursor → Cursor → Result X E → Type 0
 Decodes view read old new (Ok x) = read ≡ Ok (view x, new)
 Decodes view read old new (Err e) = (read ≡ Err e) × (new ≡ old)

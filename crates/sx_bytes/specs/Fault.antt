@@ -1,4 +1,4 @@
--- The numbers and the names of the form faults.
+-- The form faults: each one's number in the table of faults, and its name.
 use Rattle.std.specs.Prelude.{ℕ, List, codes}
 use Rattle.sx_bytes.specs.declared.fault.Form.{Form}
 use Rattle.sx_bytes.specs.declared.fault.Form.TheVariants as form
@@ -55,6 +55,6 @@ name_of form.Actor = codes "Actor"
 name_of form.UsedRange = codes "UsedRange"
 name_of form.PlaceRange = codes "PlaceRange"
 
--- too few bytes, as a fault of the form
+-- too few bytes, as a form fault
 abbrev pub fault_of_short : Short → FormFault
 fault_of_short short = record { at = short.at; fault = form.Short }

@@ -1,4 +1,4 @@
--- How a format is said: reading from left to right, field by field, with the first fault.
+-- How a format is defined: decoding from left to right, field by field, with the first fault.
 use Rattle.std.specs.Prelude.{◌≡◌, ℕ, zero, suc, Bool, true, ◌&&◌, Option, Some, None, List, [], ◌∷◌, Result, Ok, Err, nat_le, if◌then◌else◌}
 use Rattle.sx_bytes.specs.declared.fault.Form.{Form}
 use Rattle.sx_bytes.specs.declared.fault.FormFault.{FormFault}
@@ -13,12 +13,12 @@ abbrev pub ◌>>=◌ : {A B E : Type 0} → Result A E → (A → Result B E) �
 (Ok x) >>= f = f x
 (Err e) >>= f = Err e
 
--- too few bytes, as a fault of the form
+-- too few bytes, as a form fault
 abbrev pub or_fault : {A : Type 0} → Result A Short → Result A FormFault
 or_fault (Ok x) = Ok x
 or_fault (Err e) = Err (fault_of_short e)
 
--- whether a number is in a range, its ends among it
+-- whether an integer is in a range, both ends included
 abbrev pub between : ℕ → ℕ → ℕ → Bool
 between low high x = nat_le low x && nat_le x high
 
@@ -28,20 +28,21 @@ field_at n passes fault c = do
   x ← or_fault (uint_at n c)
   if passes x.0 then Ok x else Err (record { at = c.place; fault = fault })
 
--- so many entries, one after the other
-unfoldable pub many_at : {X : Type 0} → (Cursor → Result (X × Cursor) FormFault) → ℕ → Cursor → Result (List X × Cursor) FormFault
+-- n entries, one after the other
+unfoldable pub many_at : {X : Type 0} → (Cursor → Result (X × Cursor) FormFault) → ℕ → Cursor
+    → Result (List X × Cursor) FormFault
 many_at entry zero c = Ok ([], c)
 many_at entry (suc n) c = do
   first ← entry c
   others ← many_at entry n first.1
   Ok (first.0 ∷ others.0, others.1)
 
--- a failure of a call is what reading gives, unless memory ran out
+-- a failed call answers the fault that decoding gives, or NoMemory
 abbrev pub Fails : {Y : Type 0} → ReadError → Result Y FormFault → Type 0
 Fails read_error.NoMemory read = Unit {0}
 Fails (read_error.Form fault) read = read ≡ Err fault
 
--- what a call answers, seen by view, is what reading gives, unless memory ran out
+-- a call without a reader answers what decoding gives, or NoMemory in place of that
 abbrev pub Gives : {X Y : Type 0} → (X → Y) → Result X ReadError → Result Y FormFault → Type 0
 Gives view (Ok x) read = read ≡ Ok (view x)
 Gives view (Err e) read = Fails e read
@@ -56,8 +57,9 @@ abbrev pub in_order : {X : Type 0} → (X → X → Bool) → Option X → List 
 in_order precedes before [] = true
 in_order precedes before (x ∷ xs) = may_follow precedes before x && in_order precedes (Some x) xs
 
--- so many entries, each after the one before it
-unfoldable pub ordered_at : {X : Type 0} → (Cursor → Result (X × Cursor) FormFault) → (X → X → Bool) → Form → ℕ → Option X → Cursor → Result (List X × Cursor) FormFault
+-- n entries, each of which may follow the one before it
+unfoldable pub ordered_at : {X : Type 0} → (Cursor → Result (X × Cursor) FormFault) → (X → X → Bool) → Form → ℕ
+    → Option X → Cursor → Result (List X × Cursor) FormFault
 ordered_at entry precedes fault zero before c = Ok ([], c)
 ordered_at entry precedes fault (suc n) before c = do
   first ← entry c
@@ -65,13 +67,21 @@ ordered_at entry precedes fault (suc n) before c = do
   others ← ordered_at entry precedes fault n (Some first.0) placed.1
   Ok (first.0 ∷ others.0, others.1)
 
--- What a call answers, seen by view, is what reading gives, and at Ok the reader stands where
--- reading ends. Where a call refuses, its reader may stand anywhere.
-abbrev pub MayDecodeOrStray : {X Y : Type 0} → (X → Y) → Result (Y × Cursor) FormFault → Cursor → Result X ReadError → Type 0
-MayDecodeOrStray view read new (Ok x) = read ≡ Ok (view x, new)
-MayDecodeOrStray view read new (Err e) = Fails e read
+-- A call that takes memory, as Decodes says it of one that takes none: it answers what decoding
+-- gives, or NoMemory in place of that. At Ok its reader is after the value, and neither a refusal
+-- nor NoMemory changes the reader.
+abbrev pub MayDecode : {X Y : Type 0} → (X → Y) → Result (Y × Cursor) FormFault → Cursor → Cursor
+    → Result X ReadError → Type 0
+MayDecode view read old new (Ok x) = read ≡ Ok (view x, new)
+MayDecode view read old new (Err e) = Fails e read × (new ≡ old)
 
--- the same for a call that takes no memory
-abbrev pub DecodesOrStrays : {X Y : Type 0} → (X → Y) → Result (Y × Cursor) FormFault → Cursor → Result X FormFault → Type 0
+-- The same two for private steps, whose reader may be anywhere after a refusal.
+abbrev pub DecodesOrStrays : {X Y : Type 0} → (X → Y) → Result (Y × Cursor) FormFault → Cursor
+    → Result X FormFault → Type 0
 DecodesOrStrays view read new (Ok x) = read ≡ Ok (view x, new)
 DecodesOrStrays view read new (Err e) = read ≡ Err e
+
+abbrev pub MayDecodeOrStray : {X Y : Type 0} → (X → Y) → Result (Y × Cursor) FormFault → Cursor
+    → Result X ReadError → Type 0
+MayDecodeOrStray view read new (Ok x) = read ≡ Ok (view x, new)
+MayDecodeOrStray view read new (Err e) = Fails e read

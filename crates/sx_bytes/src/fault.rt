@@ -9,13 +9,13 @@ use std::alloc::{AllocError, AllocFailed};
 use std::fmt;
 use thiserror::Error;
 
-/// The form faults, by their numbers in the table of faults.
+/// The form faults, each with its number in the table of faults.
 #[derive(Clone, Copy, Debug, PartialEq, Eq, Hash)]
 pub enum Form {
     /// 1: the input ends inside a record or before a record that has to be there, or a field
     /// passes the end of its payload.
     Short = 1,
-    /// 2: a tag, kind, outcome, number of a refusal or flag that is not listed at this place.
+    /// 2: a tag, kind, outcome, refusal or flag that is not listed for this place.
     Tag = 2,
     /// 3: an amount, balance or rounding out of range.
     AmountRange = 3,
@@ -43,9 +43,9 @@ pub enum Form {
     Version = 14,
     /// 15: a height out of range.
     HeightRange = 15,
-    /// 16: a number of assets out of range.
+    /// 16: a count of assets out of range.
     AssetCount = 16,
-    /// 17: an offer without its account, or of a number that its account has not used.
+    /// 17: an offer without its account, or of a sequence number that its account has not used.
     Owner = 17,
     /// 18: the exponent of μ out of range.
     MuRange = 18,
@@ -53,16 +53,16 @@ pub enum Form {
     ValueRange = 19,
     /// 20: a cut that names an asset that is not there.
     CutRange = 20,
-    /// 21: a number of actors out of range, or a turn of an actor that is not there.
+    /// 21: a count of actors out of range, or a turn of an actor that is not there.
     Actor = 21,
-    /// 22: used numbers that reach out of range.
+    /// 22: used sequence numbers that reach out of range.
     UsedRange = 22,
     /// 23: the place of an account out of range.
     PlaceRange = 23,
 }
 
 impl Form {
-    /// The number of the fault.
+    /// The fault's number in the table of faults.
     pub fn number(self) -> u8
         ensures { result ≡ number_of self }
     {
@@ -109,7 +109,7 @@ impl fmt::Display for Form {
     }
 }
 
-/// A fault of form, and where it begins: an offset in bytes from the beginning of what was read.
+/// A form fault, and where it begins: an offset in bytes from the beginning of what was decoded.
 #[derive(Clone, Copy, Debug, PartialEq, Eq, Hash, Error)]
 #[error("at {at}: {fault}")]
 pub struct FormFault {
@@ -117,8 +117,8 @@ pub struct FormFault {
     pub fault: Form,
 }
 
-/// Fewer bytes are left than a field takes. `at` is the length of the slice, where the first byte
-/// is missing.
+/// Fewer bytes are left than a field takes. `at` is the length of the slice, the offset of the
+/// first byte that is missing.
 #[derive(Clone, Copy, Debug, PartialEq, Eq, Hash, Error)]
 #[error("the bytes end at {at}")]
 pub struct Short {
@@ -136,10 +136,10 @@ impl From<Short> for FormFault {
     }
 }
 
-/// Why bytes could not be read: their form, or want of memory.
+/// Why bytes could not be decoded: their form, or no memory.
 #[derive(Clone, Copy, Debug, PartialEq, Eq, Error)]
 pub enum ReadError {
-    /// Memory ran out. It may come in place of any other answer.
+    /// Memory ran out. It may be answered in place of any other answer.
     #[error("out of memory")]
     NoMemory,
     /// The first fault from left to right.

@@ -1,4 +1,4 @@
-//! Fields with a range: a number is read whole, and then tested.
+//! Fields with a range: an unsigned integer is decoded whole, and then tested.
 
 ghost use Rattle.std.specs.Prelude.{◌≡◌, ◌≤◌, IfOk};
 ghost use Rattle.sx_bytes.specs.Cursor.{Decodes};
@@ -8,7 +8,7 @@ use crate::fault::{Form, FormFault};
 use crate::reader::Reader;
 
 impl<'a> Reader<'a> {
-    // The fault of a field that was read from this place: the reader goes back there.
+    // The fault of a field that began at this place, to which the reader goes back.
     #[inline]
     fn refuse(&mut self, place: usize, fault: Form) -> FormFault
         requires { place ≤ self.old.place }
@@ -20,8 +20,9 @@ impl<'a> Reader<'a> {
         FormFault { at, fault }
     }
 
-    /// The number of 8 bits at the place. Where it is not from `low` to `high`, the answer is
-    /// `fault` at the field. A refusal leaves the reader where it was.
+    /// Decodes the next 8 bits. Where the integer is not from `low` to `high`, both included, the
+    /// answer is `fault` at the field; `Short` comes where too few bytes are left. A refusal does
+    /// not change the reader.
     #[inline]
     pub fn field_u8(&mut self, low: u8, high: u8, fault: Form) -> Result<u8, FormFault>
         ensures exact { Decodes (λ x. x) (field_at 1 (between low high) fault self.old) self.old self.new result }
@@ -37,7 +38,7 @@ impl<'a> Reader<'a> {
         Ok(x)
     }
 
-    /// The number of 16 bits at the place, as `field_u8` reads one.
+    /// Decodes the next 16 bits as `field_u8` does 8.
     #[inline]
     pub fn field_u16(&mut self, low: u16, high: u16, fault: Form) -> Result<u16, FormFault>
         ensures exact { Decodes (λ x. x) (field_at 2 (between low high) fault self.old) self.old self.new result }
@@ -53,7 +54,7 @@ impl<'a> Reader<'a> {
         Ok(x)
     }
 
-    /// The number of 32 bits at the place, as `field_u8` reads one.
+    /// Decodes the next 32 bits as `field_u8` does 8.
     #[inline]
     pub fn field_u32(&mut self, low: u32, high: u32, fault: Form) -> Result<u32, FormFault>
         ensures exact { Decodes (λ x. x) (field_at 4 (between low high) fault self.old) self.old self.new result }
@@ -69,7 +70,7 @@ impl<'a> Reader<'a> {
         Ok(x)
     }
 
-    /// The number of 64 bits at the place, as `field_u8` reads one.
+    /// Decodes the next 64 bits as `field_u8` does 8.
     #[inline]
     pub fn field_u64(&mut self, low: u64, high: u64, fault: Form) -> Result<u64, FormFault>
         ensures exact { Decodes (λ x. x) (field_at 8 (between low high) fault self.old) self.old self.new result }
@@ -85,7 +86,7 @@ impl<'a> Reader<'a> {
         Ok(x)
     }
 
-    /// The number of 128 bits at the place, as `field_u8` reads one.
+    /// Decodes the next 128 bits as `field_u8` does 8.
     #[inline]
     pub fn field_u128(&mut self, low: u128, high: u128, fault: Form) -> Result<u128, FormFault>
         ensures exact { Decodes (λ x. x) (field_at 16 (between low high) fault self.old) self.old self.new result }

@@ -1,10 +1,12 @@
+//! The answer that memory ran out.
+
 ghost use Rattle.std.specs.Prelude.{◌≡◌};
 
 use std::alloc::{AllocError, AllocFailed};
 use thiserror::Error;
 
-/// Memory ran out. It may come in place of any other answer of a call that takes memory, and is
-/// merged with no other error.
+/// Memory ran out. A call that takes memory may answer it in place of any other answer, and no
+/// other error stands for it.
 #[derive(Clone, Copy, Debug, PartialEq, Eq, Error)]
 #[error("out of memory")]
 pub struct NoMemory;

@@ -1,3 +1,5 @@
+//! Decoding unsigned integers from a slice.
+
 ghost use Rattle.std.specs.Prelude.{◌≡◌, ◌≤◌, length, IfOk};
 ghost use Rattle.sx_bytes.specs.Cursor.{left, raw_at, uint_at, Decodes};
 
@@ -5,9 +7,10 @@ use crate::fault::Short;
 use byteorder::{BigEndian, ByteOrder};
 use std::marker::Model;
 
-/// A place in a slice of bytes, from which numbers are read one after the other. Each read answers
-/// the exact bytes or number at the place and moves behind it, or answers `Short` where too few
-/// bytes are left and stays where it is. Contracts see the whole slice and the place.
+/// A slice of bytes and a place in it, from which unsigned integers are decoded, the highest byte
+/// first. Each call answers the exact bytes or integer at the place and moves after it, or answers
+/// `Short`, exactly where too few bytes are left, and does not change. Contracts see the whole
+/// slice and the place.
 #[derive(Debug, Drop)]
 pub struct Reader<'a> {
     bytes: &'a [u8],
@@ -33,7 +36,7 @@ impl<'a> Reader<'a> {
         Reader { bytes, place: 0 }
     }
 
-    /// How many bytes lie before the place.
+    /// How many bytes are before the place.
     pub fn place(&self) -> usize
         ensures place { result ≡ self.now.place }
         ensures within { self.now.place ≤ length self.now.bytes }
@@ -58,12 +61,12 @@ impl<'a> Reader<'a> {
                 at: self.bytes.len(),
             });
         }
-        let front = &self.bytes[self.place..self.place + n];
+        let field = &self.bytes[self.place..self.place + n];
         self.place += n;
-        Ok(front)
+        Ok(field)
     }
 
-    /// The number of 8 bits at the place.
+    /// The unsigned integer of the next 8 bits.
     pub fn get_u8(&mut self) -> Result<u8, Short>
         ensures { Decodes (λ x. x) (uint_at 1 self.old) self.old self.new result }
     {
@@ -71,7 +74,7 @@ impl<'a> Reader<'a> {
         Ok(field[0])
     }
 
-    /// The number of 16 bits at the place.
+    /// The unsigned integer of the next 16 bits.
     pub fn get_u16(&mut self) -> Result<u16, Short>
         ensures { Decodes (λ x. x) (uint_at 2 self.old) self.old self.new result }
     {
@@ -79,7 +82,7 @@ impl<'a> Reader<'a> {
         Ok(BigEndian::read_u16(field))
     }
 
-    /// The number of 32 bits at the place.
+    /// The unsigned integer of the next 32 bits.
     pub fn get_u32(&mut self) -> Result<u32, Short>
         ensures { Decodes (λ x. x) (uint_at 4 self.old) self.old self.new result }
     {
@@ -87,7 +90,7 @@ impl<'a> Reader<'a> {
         Ok(BigEndian::read_u32(field))
     }
 
-    /// The number of 64 bits at the place.
+    /// The unsigned integer of the next 64 bits.
     pub fn get_u64(&mut self) -> Result<u64, Short>
         ensures { Decodes (λ x. x) (uint_at 8 self.old) self.old self.new result }
     {
@@ -95,7 +98,7 @@ impl<'a> Reader<'a> {
         Ok(BigEndian::read_u64(field))
     }
 
-    /// The number of 128 bits at the place.
+    /// The unsigned integer of the next 128 bits.
     pub fn get_u128(&mut self) -> Result<u128, Short>
         ensures { Decodes (λ x. x) (uint_at 16 self.old) self.old self.new result }
     {

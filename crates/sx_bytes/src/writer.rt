@@ -1,3 +1,5 @@
+//! Encoding unsigned integers.
+
 ghost use Rattle.std.specs.Prelude.{◌≡◌, ℕ, ◌≤◌, List, [], ◌++◌, length, take, OnOk, OnErr};
 ghost use Rattle.byteorder.specs.Endian.{big_bytes};
 
@@ -6,7 +8,7 @@ use byteorder::{BigEndian, ByteOrder};
 use std::alloc::Global;
 use std::marker::Model;
 
-/// Bytes that are written one field after the other. Each call appends exactly the bytes of its
+/// Bytes that are written one field after the other. Each call appends exactly the encoding of its
 /// field, or answers `NoMemory` and changes nothing. Contracts see the bytes written so far.
 #[derive(Debug, Drop)]
 pub struct Writer {
@@ -38,7 +40,7 @@ impl Writer {
         Ok(())
     }
 
-    /// Appends a number of 8 bits.
+    /// Appends an unsigned integer in one byte.
     pub fn put_u8(&mut self, value: u8) -> Result<(), NoMemory>
         ensures ok { OnOk result (self.new ≡ self.old ++ big_bytes 1 value) }
         ensures err { OnErr result (self.new ≡ self.old) }
@@ -46,7 +48,7 @@ impl Writer {
         self.raw(&[value])
     }
 
-    /// Appends a number of 16 bits, the highest byte first.
+    /// Appends an unsigned integer in 2 bytes, the highest first.
     pub fn put_u16(&mut self, value: u16) -> Result<(), NoMemory>
         ensures ok { OnOk result (self.new ≡ self.old ++ big_bytes 2 value) }
         ensures err { OnErr result (self.new ≡ self.old) }
@@ -56,7 +58,7 @@ impl Writer {
         self.raw(&field)
     }
 
-    /// Appends a number of 32 bits, the highest byte first.
+    /// Appends an unsigned integer in 4 bytes, the highest first.
     pub fn put_u32(&mut self, value: u32) -> Result<(), NoMemory>
         ensures ok { OnOk result (self.new ≡ self.old ++ big_bytes 4 value) }
         ensures err { OnErr result (self.new ≡ self.old) }
@@ -66,7 +68,7 @@ impl Writer {
         self.raw(&field)
     }
 
-    /// Appends a number of 64 bits, the highest byte first.
+    /// Appends an unsigned integer in 8 bytes, the highest first.
     pub fn put_u64(&mut self, value: u64) -> Result<(), NoMemory>
         ensures ok { OnOk result (self.new ≡ self.old ++ big_bytes 8 value) }
         ensures err { OnErr result (self.new ≡ self.old) }
@@ -76,7 +78,7 @@ impl Writer {
         self.raw(&field)
     }
 
-    /// Appends a number of 128 bits, the highest byte first.
+    /// Appends an unsigned integer in 16 bytes, the highest first.
     pub fn put_u128(&mut self, value: u128) -> Result<(), NoMemory>
         ensures ok { OnOk result (self.new ≡ self.old ++ big_bytes 16 value) }
         ensures err { OnErr result (self.new ≡ self.old) }
