@@ -30,7 +30,7 @@ abbrev pub InRange : ℕ → Type 0
 InRange units = units ≤ 2 ^ 62
 
 abbrev IsLast : ℕ → Type 0
-IsLast last = last < 2 ^ 63
+IsLast last = last ≤ 2 ^ 63 - 1
 
 pub price_takes : TakesAll price_at (big_bytes 8) IsPrice
 price_takes c next x bytes e = let t = range_takes 8 (2 ^ 8) (2 ^ 40) form.PriceRange c next x bytes e in
@@ -49,11 +49,11 @@ units_again c x after is within e =
 
 last_takes : TakesAll last_at (big_bytes 8) IsLast
 last_takes c next x bytes e = let t = range_takes 8 0 (2 ^ 63 - 1) form.SeqRange c next x bytes e in
-    (t.0, omega (arith, t.2))
+    (t.0, t.2)
 
 last_again : ReadsAgain last_at (big_bytes 8) IsLast
 last_again c x after is within e =
-    range_again 8 0 (2 ^ 63 - 1) form.SeqRange c x after (omega arith) (omega arith) (omega (arith, is)) within e
+    range_again 8 0 (2 ^ 63 - 1) form.SeqRange c x after (omega arith) (omega arith) is within e
 
 -- ---- an account
 

@@ -30,7 +30,7 @@ use Rattle.sx_tx.specs.Window.{Next}
 
 -- ---- the greatest sequence number
 
-greatest_in_range : (txs : List Tx) (account : ℕ) → All IsTx txs → greatest_number txs account < 2 ^ 63
+greatest_in_range : (txs : List Tx) (account : ℕ) → All IsTx txs → greatest_number txs account ≤ 2 ^ 63 - 1
 greatest_in_range [] account all = omega arith
 greatest_in_range (tx ∷ txs) account all =
     let here : tx.seq < 2 ^ 63 = (All-head IsTx tx txs all).seq.1 in
@@ -71,7 +71,7 @@ last_kept last greatest (inr some) = rw (ne_eqb greatest 0 (λ e. absurd (omega 
 last_reaches : (last greatest seq : ℕ) → 1 ≤ seq → seq ≤ greatest → seq ≤ last_after last greatest
 last_reaches last greatest seq some le = rw (ne_eqb greatest 0 (λ e. absurd (omega arith))) le
 
-last_in_range : (last greatest : ℕ) → last < 2 ^ 63 → greatest < 2 ^ 63 → last_after last greatest < 2 ^ 63
+last_in_range : (last greatest : ℕ) → last ≤ 2 ^ 63 - 1 → greatest ≤ 2 ^ 63 - 1 → last_after last greatest ≤ 2 ^ 63 - 1
 last_in_range last greatest low high = elim (cases_Bool (greatest == 0)) [ inl e ↦ rw e low | inr e ↦ rw e high ]
 
 length-balances_after : (offers : List Offer) (txs : List Tx) (account asset : ℕ) (balances : List ℕ)
@@ -87,7 +87,7 @@ length-zeros (suc n) = ap suc (length-zeros n)
 -- an account, but for the range of its balances
 pub record HasShape (assets : ℕ) (account : Account) : Type 0 where
   pub id : IsId account.id.0
-  pub last : account.window.last < 2 ^ 63
+  pub last : account.window.last ≤ 2 ^ 63 - 1
   pub used : account.window.used ≡ 0
   pub balances : length account.balances ≡ assets
 
