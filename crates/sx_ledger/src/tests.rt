@@ -73,33 +73,46 @@ fn numbers(ledger: &Ledger, asset: AssetId) -> Option<[u64; 5]> {
     ])
 }
 
-#[test]
-fn a_state_is_read(rt: HostRuntime) -> Result<(), Fail> {
-    let ledger = read_state(rt.alloc(), &state_bytes())
-        .ok()
-        .ok_or("a state")?;
-    assert_eq!(rt;
-        (ledger.version(), ledger.height()),
-        (1, Ledger::MOST_HEIGHT)
-    );
-    assert_eq!(rt;
-        numbers(&ledger, AssetId::new(0)?),
-        Some([1 << 24, 0, 10, 30, 80])
-    );
-    assert_eq!(rt;
-        numbers(&ledger, AssetId::new(1)?),
-        Some([1 << 40, 3, 20, 0, 24])
-    );
-    let index = ledger.index().ok().ok_or("memory")?;
-    for (id, place) in [(0, None), (1, Some(0)), (2, None), (u64::MAX, Some(1))] {
-        assert_eq!(rt; ledger.find(AccountId(id)), place, "{id}");
-        assert_eq!(rt; index.find(AccountId(id)), place, "{id}");
+// The height, and the numbers of both assets.
+fn read_numbers(alloc: Global) -> Option<(u64, [u64; 5], [u64; 5])> {
+    let ledger = read_state(alloc, &state_bytes()).ok()?;
+    let first = numbers(&ledger, AssetId::new(0).ok()?)?;
+    let second = numbers(&ledger, AssetId::new(1).ok()?)?;
+    Some((ledger.height(), first, second))
+}
+
+// Where the ledger and its index find an account.
+fn found_account(alloc: Global, id: u64) -> Option<[Option<u32>; 2]> {
+    let ledger = read_state(alloc, &state_bytes()).ok()?;
+    let index = ledger.index().ok()?;
+    Some([ledger.find(AccountId(id)), index.find(AccountId(id))])
+}
+
+// Where the first offer is found, and whether it stands there.
+fn found_offer(alloc: Global) -> Option<(u32, bool)> {
+    let ledger = read_state(alloc, &state_bytes()).ok()?;
+    let offer = first_offer()?;
+    let place = ledger.find_offer(&offer.key())?;
+    if place >= ledger.offers() {
+        return None;
     }
-    assert_eq!(rt; ledger.offers(), 2);
-    let offer = first_offer().ok_or("an offer")?;
-    assert_eq!(rt; ledger.find_offer(&offer.key()), Some(0));
-    assert_eq!(rt; *ledger.offer(0), offer);
-    Ok(())
+    Some((place, *ledger.offer(place) == offer))
+}
+
+#[test]
+fn a_state_is_read(rt: HostRuntime) {
+    assert_eq!(rt;
+        read_numbers(rt.alloc()),
+        Some((
+            Ledger::MOST_HEIGHT,
+            [1 << 24, 0, 10, 30, 80],
+            [1 << 40, 3, 20, 0, 24]
+        ))
+    );
+    for (id, place) in [(0, None), (1, Some(0)), (2, None), (u64::MAX, Some(1))] {
+        assert_eq!(rt; found_account(rt.alloc(), id), Some([place, place]), "{id}");
+    }
+    assert_eq!(rt; found_offer(rt.alloc()), Some((0, true)));
 }
 
 // The state and its length once it was read, copied, taken apart and put together.
