@@ -1,4 +1,4 @@
--- The one spelling of a state as bytes.
+-- The one encoding of a state as bytes.
 use Rattle.std.specs.Prelude.{ℕ, List, ◌++◌, length}
 use Rattle.std.specs.List.{flat_map}
 use Rattle.byteorder.specs.Endian.{big_bytes}
@@ -7,7 +7,8 @@ use Rattle.sx_ledger.specs.declared.offer.Offer.{Offer}
 use Rattle.sx_ledger.specs.declared.parts.Parts.{Parts}
 
 abbrev pub account_bytes : Account → List ℕ
-account_bytes account = big_bytes 8 account.id.0 ++ (big_bytes 8 account.window.last ++ flat_map (big_bytes 8) account.balances)
+account_bytes account =
+    big_bytes 8 account.id.0 ++ (big_bytes 8 account.window.last ++ flat_map (big_bytes 8) account.balances)
 
 abbrev pub offer_bytes : Offer → List ℕ
 offer_bytes offer =

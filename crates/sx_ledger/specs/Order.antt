@@ -1,4 +1,4 @@
--- The order of offers: by what is sold, what is bought, the limit, the account and the number.
+-- The order of offers: by what is sold, what is bought, the limit, the account and the sequence number.
 use Rattle.std.specs.Prelude.{ℕ, Bool, List, [], ◌∷◌, nat_eq}
 use Rattle.std.specs.declared.cmp.Ordering.{Ordering}
 use Rattle.std.specs.Ordering.{is_lt, nat_cmp}
@@ -7,7 +7,13 @@ use Rattle.sx_ledger.specs.declared.key.Key.{Key}
 use Rattle.sx_ledger.specs.declared.offer.Offer.{Offer}
 
 abbrev pub key_of : Offer → Key
-key_of offer = record { sell = offer.sell; buy = offer.buy; limit = offer.limit; account = offer.account; seq = offer.seq }
+key_of offer = record {
+  sell = offer.sell;
+  buy = offer.buy;
+  limit = offer.limit;
+  account = offer.account;
+  seq = offer.seq;
+}
 
 -- the numbers that keys are compared by, the first that differs deciding
 abbrev pub numbers_of : Key → List ℕ

@@ -1,5 +1,8 @@
+//! The state between two blocks, and what it tells.
+
 ghost use Rattle.std.specs.Prelude.{◌≡◌, ◌<◌, ◌≤◌, ◌^◌, length, slice_index, slice_get, IfSome, Some};
-ghost use Rattle.sx_ledger.specs.Ledger.{IsLedger, assets_of, balance_at};
+ghost use Rattle.sx_base.specs.Ranges.{most_amount, most_assets};
+ghost use Rattle.sx_ledger.specs.Ledger.{IsLedger, assets_of, balance_at, most_accounts, most_height, most_offers};
 
 use crate::account::Account;
 use crate::offer::Offer;
@@ -26,6 +29,18 @@ impl Model for Ledger {
 }
 
 impl Ledger {
+    /// The most accounts.
+    pub const MOST_ACCOUNTS: u32 = 65_536;
+
+    /// The most offers.
+    pub const MOST_OFFERS: u32 = 262_144;
+
+    /// The greatest height.
+    pub const MOST_HEIGHT: u64 = (1 << 63) - 1;
+
+    /// How many bytes the longest state has.
+    pub const LONGEST: u32 = 26_739_218;
+
     /// The ledger of these parts, which keep what a ledger keeps.
     pub fn of(parts: Parts) -> Ledger
         requires { IsLedger parts }
@@ -50,7 +65,7 @@ impl Ledger {
         &self.parts
     }
 
-    /// The version of the state's form, which is 1.
+    /// The version of the state's encoding, which is 1.
     pub fn version(&self) -> u8
         ensures version { result ≡ self.now.version }
         ensures kept { IsLedger self.now }
@@ -58,9 +73,10 @@ impl Ledger {
         self.parts.version
     }
 
-    /// How many blocks came before.
+    /// How many blocks came before, at most `2^63 - 1`.
     pub fn height(&self) -> u64
         ensures height { result ≡ self.now.height }
+        ensures in_range { result ≤ most_height }
         ensures kept { IsLedger self.now }
     {
         self.parts.height
@@ -70,7 +86,7 @@ impl Ledger {
     pub fn assets(&self) -> u32
         ensures number { result ≡ assets_of self.now }
         ensures some { 1 ≤ result }
-        ensures few { result ≤ 32 }
+        ensures few { result ≤ most_assets }
         ensures kept { IsLedger self.now }
     {
         self.parts.prices.items().len() as u32
@@ -89,7 +105,7 @@ impl Ledger {
     pub fn rounding(&self, asset: AssetId) -> u64
         requires { asset < assets_of self.now }
         ensures units { result ≡ slice_index self.now.rounding asset }
-        ensures in_range { result ≤ 2 ^ 62 }
+        ensures in_range { result ≤ most_amount }
         ensures kept { IsLedger self.now }
     {
         self.parts.rounding.items()[asset.get() as usize]
@@ -98,7 +114,7 @@ impl Ledger {
     /// How many accounts there are, at most 65,536.
     pub fn accounts(&self) -> u32
         ensures number { result ≡ length self.now.accounts }
-        ensures few { result ≤ 65536 }
+        ensures few { result ≤ most_accounts }
         ensures kept { IsLedger self.now }
     {
         self.parts.accounts.items().len() as u32
@@ -118,7 +134,7 @@ impl Ledger {
         requires place { place < length self.now.accounts }
         requires asset { asset < assets_of self.now }
         ensures units { IfSome (slice_get self.now.accounts place) (λ account. result ≡ balance_at asset account) }
-        ensures in_range { result ≤ 2 ^ 62 }
+        ensures in_range { result ≤ most_amount }
     {
         self.account(place).balances.items()[asset.get() as usize]
     }
@@ -126,7 +142,7 @@ impl Ledger {
     /// How many offers there are, at most 262,144.
     pub fn offers(&self) -> u32
         ensures number { result ≡ length self.now.offers }
-        ensures few { result ≤ 262144 }
+        ensures few { result ≤ most_offers }
         ensures kept { IsLedger self.now }
     {
         self.parts.offers.items().len() as u32

@@ -1,5 +1,5 @@
 use Rattle.std.proofs.Common.{arith}
-use Rattle.sx_ledger.proofs.Known.{assets_known, accounts_by_id, accounts_few}
+use Rattle.sx_ledger.proofs.DecodedRanges.{assets_known, accounts_by_id, accounts_few}
 use Rattle.sx_ledger.proofs.reading.parts.Goals as goal
 
 pub overflow_cast-assets : goal.overflow_cast-assets
@@ -12,7 +12,13 @@ pub offer_list-requires-clause-few : goal.offer_list-requires-clause-few
 offer_list-requires-clause-few c = rw c.items.ensures (omega (arith, (assets_known _ _ _ c.in_ok-version.ensures).1))
 
 pub offer_list-requires-clause-by_id : goal.offer_list-requires-clause-by_id
-offer_list-requires-clause-by_id c = rw c.deref.ensures.value (accounts_by_id _ c.read_head.new.from c.account_list.new.from c.in_ok-accounts.accounts.items c.in_ok-accounts.ensures)
+offer_list-requires-clause-by_id c =
+    rw c.deref.ensures.value
+    (accounts_by_id _ c.read_head.new.from c.account_list.new.from c.in_ok-accounts.accounts.items
+    c.in_ok-accounts.ensures)
 
 pub offer_list-requires-clause-few_accounts : goal.offer_list-requires-clause-few_accounts
-offer_list-requires-clause-few_accounts c = rw c.deref.ensures.value (accounts_few _ c.read_head.new.from c.account_list.new.from c.in_ok-accounts.accounts.items c.in_ok-accounts.ensures)
+offer_list-requires-clause-few_accounts c =
+    rw c.deref.ensures.value
+    (accounts_few _ c.read_head.new.from c.account_list.new.from c.in_ok-accounts.accounts.items
+    c.in_ok-accounts.ensures)
