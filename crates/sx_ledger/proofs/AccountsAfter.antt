@@ -33,7 +33,7 @@ use Rattle.sx_tx.specs.Window.{Next}
 greatest_in_range : (txs : List Tx) (account : ℕ) → All IsTx txs → greatest_number txs account ≤ 2 ^ 63 - 1
 greatest_in_range [] account all = omega arith
 greatest_in_range (tx ∷ txs) account all =
-    let here : tx.seq < 2 ^ 63 = (All-head IsTx tx txs all).seq.1 in
+    let here : tx.seq ≤ 2 ^ 63 - 1 = (All-head IsTx tx txs all).seq.1 in
     let rest = greatest_in_range txs account (All-tail IsTx tx txs all) in
     elim (cases_Bool (tx.account.0 == account)) [
       | inl own ↦ rw own (omega arith)

@@ -7,35 +7,35 @@ use Rattle.sx_ledger.specs.Effects.{credits, debits}
 use Rattle.sx_ledger.specs.Ledger.{total_of}
 use Rattle.sx_ledger.proofs.CaseWords.{account, cancel, create, offer, one, opening, pay, sell_for, state, tx, with_offer}
 use Rattle.sx_tx.specs.declared.tx.Tx.{Tx}
-use Rattle.sx_tx.specs.Window.{behind_highest}
+use Rattle.sx_tx.specs.Window.{bit_length}
 
 payment : body_after opening (tx 1 1 (pay 2 0 30) ∷ [])
     ≡ state (one ∷ []) (account 1 1 (70 ∷ []) ∷ account 2 0 (35 ∷ []) ∷ []) []
-unfolding behind_highest
+unfolding bit_length
 payment = refl
 
 payment_to_oneself : body_after opening (tx 1 1 (pay 1 0 100) ∷ [])
     ≡ state (one ∷ []) (account 1 1 (100 ∷ []) ∷ account 2 0 (5 ∷ []) ∷ []) []
-unfolding behind_highest
+unfolding bit_length
 payment_to_oneself = refl
 
 -- a sequence number that skips others, and accounts that come before, between and after the others
 creations : body_after opening (tx 1 64 (create 9) ∷ tx 2 1 (create 0) ∷ [])
     ≡ state (one ∷ [])
     (account 0 0 (0 ∷ []) ∷ account 1 64 (100 ∷ []) ∷ account 2 1 (5 ∷ []) ∷ account 9 0 (0 ∷ []) ∷ []) []
-unfolding behind_highest
+unfolding bit_length
 creations = refl
 
 cancellation : body_after with_offer (tx 1 4 (cancel 0 1 (2 ^ 25) 3) ∷ [])
     ≡ state (one ∷ one ∷ []) (account 1 4 (40 ∷ 0 ∷ []) ∷ account 2 0 (7 ∷ 9 ∷ []) ∷ []) []
-unfolding behind_highest
+unfolding bit_length
 cancellation = refl
 
 -- the new offers stand by what is sold, what is bought, limit, account and sequence number
 new_offers : body_after with_offer (tx 2 1 (sell_for 1 0 one 4) ∷ tx 2 2 (sell_for 0 1 one 5) ∷ [])
     ≡ state (one ∷ one ∷ []) (account 1 3 (0 ∷ 0 ∷ []) ∷ account 2 2 (2 ∷ 5 ∷ []) ∷ [])
     (offer 0 1 one 2 2 5 ∷ offer 0 1 (2 ^ 25) 1 3 40 ∷ offer 1 0 one 2 1 4 ∷ [])
-unfolding behind_highest
+unfolding bit_length
 new_offers = refl
 
 -- what the words of the laws mean

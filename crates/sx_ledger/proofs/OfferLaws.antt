@@ -13,7 +13,8 @@ use Rattle.sx_bytes.specs.Grammar.{◌>>=◌, between, field_at, may_follow, in_
 use Rattle.sx_bytes.proofs.Grammar.{bind_ok, guard_ok, Takes, Again}
 use Rattle.sx_bytes.proofs.Parts.{Reading, TakesAll, ReadsAgain, three_at, three_take, three_again}
 use Rattle.sx_bytes.proofs.DecodingSteps.{range_takes, range_again}
-use Rattle.sx_tx.specs.Transactions.{IsId, IsSeq, IsAmount, IsLimit}
+use Rattle.sx_price.specs.Limits.{IsLimit}
+use Rattle.sx_tx.specs.Transactions.{IsId, IsSeq, IsAmount}
 use Rattle.sx_tx.specs.TransactionDecoding.{id_at, seq_at, amount_at, limit_at}
 use Rattle.sx_tx.proofs.FieldLaws.{id_takes, id_again, seq_takes, seq_again, amount_takes, amount_again, limit_takes, limit_again}
 use Rattle.sx_ledger.specs.declared.account.Account.{Account}

@@ -5,7 +5,8 @@ use Rattle.sx_bytes.specs.declared.fault.Form.TheVariants as form
 use Rattle.sx_bytes.proofs.Grammar.{field_takes, field_again}
 use Rattle.sx_bytes.proofs.DecodingSteps.{range_takes, range_again}
 use Rattle.sx_bytes.proofs.Parts.{TakesAll, ReadsAgain}
-use Rattle.sx_tx.specs.Transactions.{IsId, IsSeq, IsAsset, IsAmount, IsLimit}
+use Rattle.sx_price.specs.Limits.{IsLimit}
+use Rattle.sx_tx.specs.Transactions.{IsId, IsSeq, IsAsset, IsAmount}
 use Rattle.sx_tx.specs.TransactionDecoding.{id_at, seq_at, asset_at, amount_at, limit_at}
 
 pub id_takes : TakesAll id_at (big_bytes 8) IsId

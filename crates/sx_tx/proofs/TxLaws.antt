@@ -11,7 +11,8 @@ use Rattle.sx_bytes.proofs.Parts.{TakesAll, ReadsAgain, made_is, two_take, two_a
 use Rattle.sx_tx.specs.declared.kind.Kind.{Kind}
 use Rattle.sx_tx.specs.declared.kind.Kind.TheVariants as kind
 use Rattle.sx_tx.specs.declared.tx.Tx.{Tx}
-use Rattle.sx_tx.specs.Transactions.{least_tx_bytes, terms_bytes, kind_bytes, tx_bytes, IsId, IsSeq, IsAsset, IsAmount, IsLimit, AreTerms, IsKind, IsTx}
+use Rattle.sx_price.specs.Limits.{IsLimit}
+use Rattle.sx_tx.specs.Transactions.{least_tx_bytes, terms_bytes, kind_bytes, tx_bytes, IsId, IsSeq, IsAsset, IsAmount, AreTerms, IsKind, IsTx}
 use Rattle.sx_tx.specs.Laws.{length_of, KindIsLength, NoneIsShorter}
 use Rattle.sx_tx.proofs.FieldLaws.{id_takes, id_again, seq_takes, seq_again, asset_takes, asset_again, amount_takes, amount_again, limit_takes, limit_again}
 use Rattle.sx_tx.specs.TransactionDecoding.{id_at, seq_at, asset_at, amount_at, limit_at, terms_at, pay_at, create_at, offer_at, cancel_at, fields_at, kind_at, tx_at}

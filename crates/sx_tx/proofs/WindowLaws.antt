@@ -8,7 +8,7 @@ use Rattle.std.proofs.lemmas.Nat.{leading_top, pow_pos}
 use Rattle.std.proofs.lemmas.Nat.Bits.{bit_at-lt, bit_at_above, and_pow}
 use Rattle.std.proofs.Math.Nat.{div-eq_of_lt-le, pow-suc, zero-mul}
 use Rattle.sx_tx.specs.declared.window.Window.{Window}
-use Rattle.sx_tx.specs.Window.{behind_highest, Next}
+use Rattle.sx_tx.specs.Window.{bit_length, Next}
 
 -- a bit, as its number and as a test
 set_is : (map i : ℕ) → IsBitSet map i → bit_at map i ≡ 1
@@ -30,8 +30,8 @@ unset_is map i unset =
       | inr le ↦ absurd (unset (set_from map i (omega (arith, bit_at-lt map i))))
     ]
 
-highest_is : (n map i : ℕ) → i < n → bit_at map i ≡ 1 → ((k : ℕ) → i < k → k < n → bit_at map k ≡ 0) → behind_highest n map ≡ suc i
-unfolding behind_highest
+highest_is : (n map i : ℕ) → i < n → bit_at map i ≡ 1 → ((k : ℕ) → i < k → k < n → bit_at map k ≡ 0) → bit_length n map ≡ suc i
+unfolding bit_length
 highest_is zero map i lt set unset = absurd (omega arith)
 highest_is (suc n) map i lt set unset =
     elim (cases_lt i n) [
@@ -40,7 +40,7 @@ highest_is (suc n) map i lt set unset =
     ]
 
 -- a map that is not 0 has a highest bit, and the leading zeros say where
-pub highest_of : (map : ℕ) → map ≢ 0 → map < 2 ^ 64 → (i : ℕ) × (i < 64) × IsBitSet map i × (64 - count_leading_zeros 64 map ≡ suc i) × (behind_highest 64 map ≡ suc i)
+pub highest_of : (map : ℕ) → map ≢ 0 → map < 2 ^ 64 → (i : ℕ) × (i < 64) × IsBitSet map i × (64 - count_leading_zeros 64 map ≡ suc i) × (bit_length 64 map ≡ suc i)
 highest_of map some fits =
     let t = leading_top 64 map (omega arith) fits in
     let set : bit_at map t.0 ≡ 1 = ap (λ (q : ℕ). q % 2) (div-eq_of_lt-le {k = 1} (2 ^ t.0) (omega (arith, t.2)) (omega (arith, t.3, pow-suc 2 t.0))) in
@@ -49,5 +49,5 @@ highest_of map some fits =
 pub next_is : (window : Window) (map i : ℕ) → i < 64 → IsBitSet map i → ((k : ℕ) → i < k → k < 64 → IsBitSet map k → ⊥) → Next 1 window map ≡ record { last = window.last + 1 + i; used = 0 }
 next_is window map i lt set unset =
     let some : eqb map 0 ≡ false = ne_eqb map 0 (λ e. set (ap (λ (m : ℕ). bit_and m (2 ^ i)) e)) in
-    let highest : behind_highest 64 map ≡ suc i = highest_is 64 map i lt (set_is map i set) (λ k above within. unset_is map k (unset k above within)) in
+    let highest : bit_length 64 map ≡ suc i = highest_is 64 map i lt (set_is map i set) (λ k above within. unset_is map k (unset k above within)) in
     rw some (rw highest (ap (λ (n : ℕ). record { last = n; used = 0 }) (let n : window.last + suc i ≡ window.last + 1 + i = omega arith in n)))

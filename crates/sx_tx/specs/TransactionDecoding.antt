@@ -1,5 +1,6 @@
 -- Decoding a transaction, or a list of them, from left to right, with the first fault.
 use Rattle.std.specs.Prelude.{ℕ, ◌-◌, ◌^◌, true, List, Result, Ok, Err, ◌==◌, if◌then◌else◌}
+use Rattle.sx_base.specs.Ranges.{most_amount, most_assets, most_seq}
 use Rattle.sx_bytes.specs.declared.fault.Form.TheVariants as form
 use Rattle.sx_bytes.specs.declared.fault.FormFault.{FormFault}
 use Rattle.sx_bytes.specs.Cursor.{Cursor, left}
@@ -14,13 +15,13 @@ abbrev pub id_at : Cursor → Result (ℕ × Cursor) FormFault
 id_at = field_at 8 (λ _. true) form.Short
 
 abbrev pub seq_at : Cursor → Result (ℕ × Cursor) FormFault
-seq_at = field_at 8 (between 1 (2 ^ 63 - 1)) form.SeqRange
+seq_at = field_at 8 (between 1 most_seq) form.SeqRange
 
 abbrev pub asset_at : Cursor → Result (ℕ × Cursor) FormFault
-asset_at = field_at 1 (between 0 31) form.AssetRange
+asset_at = field_at 1 (between 0 (most_assets - 1)) form.AssetRange
 
 abbrev pub amount_at : Cursor → Result (ℕ × Cursor) FormFault
-amount_at = field_at 8 (between 1 (2 ^ 62)) form.AmountRange
+amount_at = field_at 8 (between 1 most_amount) form.AmountRange
 
 abbrev pub limit_at : Cursor → Result (ℕ × Cursor) FormFault
 limit_at = field_at 8 (between 1 (2 ^ 56 - 1)) form.LimitRange

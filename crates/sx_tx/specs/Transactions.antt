@@ -2,6 +2,8 @@
 use Rattle.std.specs.Prelude.{ℕ, ◌+◌, ◌*◌, ◌^◌, ◌<◌, ◌≤◌, List, ◌++◌, length, All}
 use Rattle.std.specs.List.{flat_map}
 use Rattle.byteorder.specs.Endian.{big_bytes}
+use Rattle.sx_base.specs.Ranges.{most_amount, most_assets, most_seq}
+use Rattle.sx_price.specs.Limits.{IsLimit}
 use Rattle.sx_tx.specs.declared.kind.Kind.{Kind}
 use Rattle.sx_tx.specs.declared.kind.Kind.TheVariants as kind
 use Rattle.sx_tx.specs.declared.tx.Tx.{Tx}
@@ -42,16 +44,13 @@ abbrev pub IsId : ℕ → Type 0
 IsId id = id < 2 ^ 64
 
 abbrev pub IsSeq : ℕ → Type 0
-IsSeq seq = (1 ≤ seq) × (seq < 2 ^ 63)
+IsSeq seq = (1 ≤ seq) × (seq ≤ most_seq)
 
 abbrev pub IsAsset : ℕ → Type 0
-IsAsset asset = asset < 32
+IsAsset asset = asset < most_assets
 
 abbrev pub IsAmount : ℕ → Type 0
-IsAmount amount = (1 ≤ amount) × (amount ≤ 2 ^ 62)
-
-abbrev pub IsLimit : ℕ → Type 0
-IsLimit limit = (1 ≤ limit) × (limit < 2 ^ 56)
+IsAmount amount = (1 ≤ amount) × (amount ≤ most_amount)
 
 abbrev pub AreTerms : ℕ → ℕ → ℕ → Type 0
 AreTerms sell buy limit = IsAsset sell × IsAsset buy × IsLimit limit

@@ -15,13 +15,13 @@ number_of fault.Behind = 1
 number_of fault.Beyond = 2
 
 -- one more than the place of the map's highest bit below place n, or 0 where none is set there
-unfoldable pub behind_highest : ℕ → ℕ → ℕ
-behind_highest zero map = 0
-behind_highest (suc n) map = if bit_at map n == 1 then suc n else behind_highest n map
+unfoldable pub bit_length : ℕ → ℕ → ℕ
+bit_length zero map = 0
+bit_length (suc n) map = if bit_at map n == 1 then suc n else bit_length n map
 
 -- The window after a block of this version in which the sequence numbers of the map were used, bit i being
 -- the number `last + 1 + i`. In version 1 the last number is the greatest one used, and the numbers that
 -- were skipped are lost.
 abbrev pub Next : ℕ → Window → ℕ → Window
 Next version window map =
-    if map == 0 then window else record { last = window.last + behind_highest open_numbers map; used = 0 }
+    if map == 0 then window else record { last = window.last + bit_length open_numbers map; used = 0 }

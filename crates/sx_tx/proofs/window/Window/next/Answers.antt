@@ -1,6 +1,6 @@
 use Rattle.std.proofs.Common.{◌≡◌, ℕ, ◌+◌, arith, ap, sym, ◌∙◌}
 use Rattle.std.proofs.lemmas.Bool.{ne_eqb}
-use Rattle.sx_tx.specs.Window.{behind_highest}
+use Rattle.sx_tx.specs.Window.{bit_length}
 use Rattle.sx_tx.proofs.WindowLaws.{highest_of}
 use Rattle.sx_tx.proofs.window.Window.next.Goals as goal
 
@@ -12,5 +12,5 @@ overflow_add-result c =
 pub returns : goal.returns
 returns c =
     let top = highest_of c.args.map c.if-map-eq0.false c.ranges.map.fits in
-    let same : c.from-bit_length.result ≡ behind_highest 64 c.args.map = c.from-bit_length.ensures ∙ top.3 ∙ sym top.4 in
+    let same : c.from-bit_length.result ≡ bit_length 64 c.args.map = c.from-bit_length.ensures ∙ top.3 ∙ sym top.4 in
     rw (ne_eqb c.args.map 0 c.if-map-eq0.false) (ap (λ (n : ℕ). record { last = c.args.self.now.last + n; used = 0 }) same)
