@@ -8,14 +8,11 @@ use rand_xoshiro::Xoshiro256PlusPlus;
 use std::alloc::Global;
 use sx_base::AccountId;
 use sx_bytes::Writer;
-use sx_tx::{Kind, Tx, read_candidates, write_candidates};
+use sx_tx::{Kind, MOST_TRANSACTIONS, Tx, read_candidates, write_candidates};
 
 pub const NAME: &str = "candidates";
 
 pub const WHAT: &str = "reads the candidates of SIZE transactions and writes them again";
-
-// The most transactions of candidates.
-const MOST: u32 = 1_000_000;
 
 /// The bytes of some candidates.
 #[derive(Drop)]
@@ -24,9 +21,12 @@ pub struct Candidates {
 }
 
 impl Candidates {
-    /// Candidates of so many transactions of all kinds.
+    /// Candidates of this many transactions, of all kinds.
     pub fn new(alloc: Global, size: u32) -> Result<Candidates> {
-        ensure!(size <= MOST, "at most {MOST} transactions");
+        ensure!(
+            size <= MOST_TRANSACTIONS,
+            "at most {MOST_TRANSACTIONS} transactions"
+        );
         let mut generator = generator();
         let mut txs = Vec::new(alloc);
         for _ in 0..size {

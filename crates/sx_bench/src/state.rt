@@ -9,21 +9,18 @@ use rand_xoshiro::Xoshiro256PlusPlus;
 use std::alloc::Global;
 use sx_base::{AccountId, AssetId, Seq};
 use sx_bytes::Writer;
-use sx_ledger::{Offer, read_state};
+use sx_ledger::{Ledger, Offer, read_state};
 
 pub const NAME: &str = "state";
 
 pub const WHAT: &str =
     "reads the state of SIZE accounts and 4 * SIZE offers of 32 assets and writes it again";
 
-// The most accounts of a state.
-const MOST: u32 = 65_536;
-
-const ASSETS: u8 = 32;
+const ASSETS: u8 = AssetId::LIMIT;
 
 const OFFERS_OF_ACCOUNT: u32 = 4;
 
-// The number that each account has used.
+// The last sequence number that each account has used.
 const LAST: u64 = 1_000_000;
 
 /// The bytes of some state.
@@ -33,9 +30,10 @@ pub struct State {
 }
 
 impl State {
-    /// A state of so many accounts. Its offers are by accounts that are drawn.
+    /// A state of this many accounts. Its offers are by accounts that are drawn.
     pub fn new(alloc: Global, size: u32) -> Result<State> {
-        ensure!(1 <= size && size <= MOST, "from 1 to {MOST} accounts");
+        let most = Ledger::MOST_ACCOUNTS;
+        ensure!(1 <= size && size <= most, "from 1 to {most} accounts");
         let mut generator = generator();
         let ids = draw_ids(alloc, &mut generator, size)?;
         let mut written = Writer::new(alloc);

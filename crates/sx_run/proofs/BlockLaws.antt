@@ -1,4 +1,4 @@
--- What is read as a block without trades is spelled so, and what is spelled so is read.
+-- Decoding a block without trades inverts encoding it.
 use Rattle.std.proofs.Common.{◌≡◌, ℕ, ◌≤◌, true, cond, eqb, List, [], ◌++◌, length, drop, None, Result, Ok, Err, refl, sym, ap, subst, ◌∙◌, append_assoc, arith}
 use Rattle.std.specs.Prelude.{IfOk}
 use Rattle.std.specs.List.{flat_map, AllByRecursion}
@@ -16,7 +16,7 @@ use Rattle.sx_bytes.proofs.Grammar.{bind_ok, guard_ok, length-rest, Takes, Takes
 use Rattle.sx_bytes.proofs.Ordered.{ordered_takes, ordered_again}
 use Rattle.sx_bytes.proofs.DecodingSteps.{bytes_after, range_takes, range_again}
 use Rattle.sx_ledger.specs.Body.{tx_before}
-use Rattle.sx_ledger.specs.Ledger.{IsPrice}
+use Rattle.sx_price.specs.Limits.{IsPrice}
 use Rattle.sx_run.specs.declared.block.Block.{Block}
 use Rattle.sx_run.specs.declared.block.Header.{Header}
 use Rattle.sx_run.specs.declared.block_reading.BlockRead.{BlockRead}
@@ -24,7 +24,7 @@ use Rattle.sx_run.specs.Block.{block_bytes, IsBlock}
 use Rattle.sx_run.specs.BlockReading.{header_at, body_at, block_at, BodyStandsAt}
 use Rattle.sx_run.proofs.HeaderLaws.{header_bytes, IsHeader, header_takes, header_again}
 use Rattle.sx_tx.specs.declared.tx.Tx.{Tx}
-use Rattle.sx_tx.specs.Transactions.{tx_bytes, list_bytes, IsTx}
+use Rattle.sx_tx.specs.Transactions.{most_transactions, tx_bytes, list_bytes, IsTx}
 use Rattle.sx_tx.specs.TransactionDecoding.{tx_at}
 use Rattle.sx_tx.proofs.TxLaws.{tx_takes, tx_again}
 
@@ -34,22 +34,22 @@ abbrev at_count : ℕ × Cursor → Result (List Tx × Cursor) FormFault
 at_count count = ordered_at tx_at tx_before form.Order count.0 None count.1
 
 pub record IsBody (txs : List Tx) : Type 0 where
-  pub few : length txs ≤ 1000000
+  pub few : length txs ≤ most_transactions
   pub each : AllByRecursion IsTx txs
   pub ordered : in_order tx_before None txs ≡ true
 
 pub body_takes : (c next : Cursor) (x : List Tx) → AreBytes c.bytes → body_at c ≡ Ok (x, next) → Takes c (list_bytes x) next × IsBody x
 unfolding body_at
 body_takes c next x bytes e =
-    let n = bind_ok (field_at 4 (between 0 1000000) form.TooMany c) at_count (x, next) e in
-    let t0 = range_takes 4 0 1000000 form.TooMany c n.0.1 n.0.0 bytes n.1 in
+    let n = bind_ok (field_at 4 (between 0 most_transactions) form.TooMany c) at_count (x, next) e in
+    let t0 = range_takes 4 0 most_transactions form.TooMany c n.0.1 n.0.0 bytes n.1 in
     let bytes1 = bytes_after c n.0.1 (big_bytes 4 n.0.0) t0.0 bytes in
     let t1 = ordered_takes tx_at tx_bytes IsTx tx_before form.Order tx_takes n.0.0 None n.0.1 next x bytes1 n.2 in
     let count : Takes c (big_bytes 4 (length x)) n.0.1 = subst (λ (m : ℕ). Takes c (big_bytes 4 m) n.0.1) (sym t1.1) t0.0 in
-    let few : length x ≤ 1000000 = subst (λ (m : ℕ). m ≤ 1000000) (sym t1.1) t0.2 in
+    let few : length x ≤ most_transactions = subst (λ (m : ℕ). m ≤ most_transactions) (sym t1.1) t0.2 in
     (Takes-then c n.0.1 next (big_bytes 4 (length x)) (flat_map tx_bytes x) count t1.0, record { few = few; each = t1.2; ordered = t1.3 })
 
-body_made : (c0 c1 c2 : Cursor) (x : List Tx) → field_at 4 (between 0 1000000) form.TooMany c0 ≡ Ok (length x, c1)
+body_made : (c0 c1 c2 : Cursor) (x : List Tx) → field_at 4 (between 0 most_transactions) form.TooMany c0 ≡ Ok (length x, c1)
     → ordered_at tx_at tx_before form.Order (length x) None c1 ≡ Ok (x, c2) → body_at c0 ≡ Ok (x, c2)
 unfolding body_at
 body_made c0 c1 c2 x e0 e1 = rw (e0, e1) refl
@@ -57,7 +57,7 @@ body_made c0 c1 c2 x e0 e1 = rw (e0, e1) refl
 pub body_again : (c : Cursor) (x : List Tx) (after : List ℕ) → IsBody x → c.place ≤ length c.bytes → rest c ≡ list_bytes x ++ after → Again (body_at c) c x after
 body_again c x after is within e =
     let few = is.few in
-    let n = range_again 4 0 1000000 form.TooMany c (length x) (flat_map tx_bytes x ++ after) (omega arith) (omega arith) few within (e ∙ append_assoc (big_bytes 4 (length x)) (flat_map tx_bytes x) after) in
+    let n = range_again 4 0 most_transactions form.TooMany c (length x) (flat_map tx_bytes x ++ after) (omega arith) (omega arith) few within (e ∙ append_assoc (big_bytes 4 (length x)) (flat_map tx_bytes x) after) in
     let t = ordered_again tx_at tx_bytes IsTx tx_before form.Order tx_again x None n.next after is.each is.ordered n.within n.rest_is in
     record { next = t.next; is = body_made c n.next t.next x n.is t.is; rest_is = t.rest_is; same = t.same ∙ n.same; within = t.within }
 
@@ -72,9 +72,9 @@ at_body header body = cond (eqb (left body.1) 0) (Ok (record { header = header; 
 abbrev at_header : Header × Cursor → Result Block FormFault
 at_header header = body_at header.1 >>= at_body header.0
 
--- a header and a list of transactions, spelled one after the other, are a block
-spelled : (h : Header) (txs : List Tx) → header_bytes h ++ list_bytes txs ≡ block_bytes (record { header = h; txs = txs })
-spelled h txs = simp append_assoc
+-- the encodings of a header and of a list of transactions, one after the other, are that of a block
+joined : (h : Header) (txs : List Tx) → header_bytes h ++ list_bytes txs ≡ block_bytes (record { header = h; txs = txs })
+joined h txs = simp append_assoc
 
 is_block : (h : Header) (txs : List Tx) → IsHeader h → IsBody txs → IsBlock (record { header = h; txs = txs })
 is_block h txs head body = record {
@@ -99,7 +99,7 @@ whole_takes : (bytes : List ℕ) (c1 c2 : Cursor) (h : Header) (txs : List Tx) �
     → bytes ≡ block_bytes (record { header = h; txs = txs })
 whole_takes bytes c1 c2 h txs t0 t1 ended =
     let t = Takes-then (start bytes) c1 c2 (header_bytes h) (list_bytes txs) t0 t1 in
-    t.parts ∙ ap (λ (r : List ℕ). (header_bytes h ++ list_bytes txs) ++ r) (none_left c2 ended) ∙ append-nil (header_bytes h ++ list_bytes txs) ∙ spelled h txs
+    t.parts ∙ ap (λ (r : List ℕ). (header_bytes h ++ list_bytes txs) ++ r) (none_left c2 ended) ∙ append-nil (header_bytes h ++ list_bytes txs) ∙ joined h txs
 
 pub block_takes : (bytes : List ℕ) (x : Block) → AreBytes bytes → block_at bytes ≡ Ok x → IsBlock x × (bytes ≡ block_bytes x)
 unfolding block_at
@@ -129,7 +129,7 @@ block_again x is =
       after = is.after;
     } in
     let body : IsBody x.txs = record { few = is.few; each = recursion_from_All IsTx x.txs is.each; ordered = is.ordered } in
-    let h = header_again (start bytes) x.header (list_bytes x.txs) head (omega arith) (sym (spelled x.header x.txs)) in
+    let h = header_again (start bytes) x.header (list_bytes x.txs) head (omega arith) (sym (joined x.header x.txs)) in
     let b = body_again h.next x.txs [] body h.within (h.rest_is ∙ sym (append-nil (list_bytes x.txs))) in
     let ended : left b.next ≡ 0 = sym (length-rest b.next) ∙ ap length b.rest_is in
     block_made bytes h.next b.next x h.is b.is ended
@@ -137,16 +137,16 @@ block_again x is =
 -- the list of transactions stands where the header ends
 pub body_stands : (bytes : List ℕ) (place : ℕ) (x : Block) → AreBytes bytes → BodyStandsAt bytes place x → drop place bytes ≡ list_bytes x.txs
 body_stands bytes place x are at =
-    let t0 = header_takes (start bytes) at.behind x.header are at.header in
-    let t1 = body_takes at.behind at.end x.txs (bytes_after (start bytes) at.behind (header_bytes x.header) t0.0 are) at.body in
-    let text : rest at.behind ≡ list_bytes x.txs = t1.0.parts ∙ ap (λ (r : List ℕ). list_bytes x.txs ++ r) (none_left at.end at.whole) ∙ append-nil (list_bytes x.txs) in
-    sym (ap (λ (p : ℕ). drop p bytes) at.at) ∙ ap (drop at.behind.place) (sym t0.0.same) ∙ text
+    let t0 = header_takes (start bytes) at.after_header x.header are at.header in
+    let t1 = body_takes at.after_header at.end x.txs (bytes_after (start bytes) at.after_header (header_bytes x.header) t0.0 are) at.body in
+    let text : rest at.after_header ≡ list_bytes x.txs = t1.0.parts ∙ ap (λ (r : List ℕ). list_bytes x.txs ++ r) (none_left at.end at.whole) ∙ append-nil (list_bytes x.txs) in
+    sym (ap (λ (p : ℕ). drop p bytes) at.at) ∙ ap (drop at.after_header.place) (sym t0.0.same) ∙ text
 
 pub body_within : (bytes : List ℕ) (place : ℕ) (x : Block) → AreBytes bytes → BodyStandsAt bytes place x → place ≤ length bytes
 body_within bytes place x are at =
-    let t0 = header_takes (start bytes) at.behind x.header are at.header in
-    let within : at.behind.place ≤ length at.behind.bytes = t0.0.within (omega arith) in
-    let same : length at.behind.bytes ≡ length bytes = ap length t0.0.same in
+    let t0 = header_takes (start bytes) at.after_header x.header are at.header in
+    let within : at.after_header.place ≤ length at.after_header.bytes = t0.0.within (omega arith) in
+    let same : length at.after_header.bytes ≡ length bytes = ap length t0.0.same in
     omega (arith, at.at)
 
 -- ---- what the reader answers

@@ -1,5 +1,5 @@
--- What is read as the header of a block is spelled so, and what is spelled so is read.
-use Rattle.std.proofs.Common.{◌≡◌, ℕ, zero, suc, ◌+◌, ◌*◌, ◌-◌, ◌^◌, ◌<◌, ◌≤◌, true, false, cond, ltb, eqb, List, [], ◌∷◌, ◌++◌, length, take, drop, Result, Ok, Err, refl, sym, ap, subst, ◌∙◌, append_assoc, arith}
+-- Decoding the header of a block inverts encoding it.
+use Rattle.std.proofs.Common.{◌≡◌, ℕ, zero, suc, ◌+◌, ◌*◌, ◌-◌, ◌^◌, ◌≤◌, true, false, cond, ltb, eqb, List, [], ◌∷◌, ◌++◌, length, take, drop, Result, Ok, Err, refl, sym, ap, subst, ◌∙◌, append_assoc, arith}
 use Rattle.std.specs.Prelude.{replicate}
 use Rattle.std.specs.List.{flat_map, list_all, AllByRecursion}
 use Rattle.std.proofs.lemmas.Bool.{eqb-true, ltb-false, le-ltb}
@@ -13,11 +13,13 @@ use Rattle.sx_bytes.specs.Grammar.{◌>>=◌, or_fault, between, field_at, many_
 use Rattle.sx_bytes.proofs.Grammar.{bind_ok, guard_ok, guard_short, or_fault_ok, AreBytes-take, AreBytes-drop, moved_takes, length-rest, Takes, Takes-then, Again, many_takes, many_again, done}
 use Rattle.sx_bytes.proofs.Ordered.{and_parts}
 use Rattle.sx_bytes.proofs.DecodingSteps.{bytes_after, range_takes, range_again}
-use Rattle.sx_ledger.specs.Ledger.{IsPrice}
+use Rattle.sx_price.specs.Limits.{IsPrice}
 use Rattle.sx_ledger.specs.Decoding.{price_at}
 use Rattle.sx_run.specs.declared.block.Header.{Header}
 use Rattle.sx_run.specs.Block.{IsDigest}
 use Rattle.sx_run.specs.BlockReading.{digest_at, zeros_at, height_at, mu_at, assets_at, front_at, no_trade_at, header_at}
+use Rattle.sx_ledger.specs.Ledger.{most_height}
+use Rattle.sx_base.specs.Ranges.{most_assets}
 
 -- ---- bytes as they are
 
@@ -104,7 +106,7 @@ abbrev pub front_bytes : ℕ → List ℕ → List ℕ → ℕ → List ℕ
 front_bytes height parent body mu = big_bytes 1 1 ++ (big_bytes 8 height ++ (parent ++ (body ++ big_bytes 1 mu)))
 
 pub record IsFront (height : ℕ) (parent body : List ℕ) (mu : ℕ) : Type 0 where
-  pub height_fits : height < 2 ^ 63
+  pub height_fits : height ≤ most_height
   pub parent_is : IsDigest parent
   pub body_is : IsDigest body
   pub some_mu : 1 ≤ mu
@@ -261,14 +263,14 @@ at_assets height parent body mu assets = many_at price_at assets.0 assets.1 >>= 
 abbrev at_front : Front → Headed
 at_front front = assets_at front.1 >>= at_assets front.0.0 front.0.1 front.0.2 front.0.3
 
--- the spelling of a header, field after field
+-- the encoding of a header, field after field
 abbrev pub header_bytes : Header → List ℕ
 header_bytes h = front_bytes h.height h.parent h.body h.mu ++ (big_bytes 1 (length h.prices) ++ (flat_map (big_bytes 8) h.prices ++ (no_trade_bytes (length h.prices) ++ h.after)))
 
 pub record IsHeader (h : Header) : Type 0 where
   pub front : IsFront h.height h.parent h.body h.mu
   pub some_asset : 1 ≤ length h.prices
-  pub few_assets : length h.prices ≤ 32
+  pub few_assets : length h.prices ≤ most_assets
   pub prices : AllByRecursion IsPrice h.prices
   pub after : IsDigest h.after
 

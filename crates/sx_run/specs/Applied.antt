@@ -3,7 +3,7 @@ use Rattle.std.specs.Prelude.{◌≡◌, List}
 use Rattle.sx_ledger.specs.declared.parts.Parts.{Parts}
 use Rattle.sx_run.specs.declared.apply.Applied.{Applied}
 use Rattle.sx_run.specs.declared.apply.Applied.TheVariants.{After, Overdrawn}
-use Rattle.sx_run.specs.Effects.{ledger_after, NoneOverdrawn, IsFirstOverdrawn}
+use Rattle.sx_run.specs.PaymentEffects.{ledger_after, NoneOverdrawn, IsFirstOverdrawn}
 use Rattle.sx_tx.specs.declared.tx.Tx.{Tx}
 
 -- the ledger after the transactions where no account is overdrawn, else the first overdraft

@@ -1,5 +1,5 @@
--- Reading a block without trades from left to right.
-use Rattle.std.specs.Prelude.{◌≡◌, ℕ, ◌*◌, ◌-◌, ◌^◌, List, None, Result, Ok, Err, ◌==◌, if◌then◌else◌}
+-- Decoding a block without trades from left to right.
+use Rattle.std.specs.Prelude.{◌≡◌, ℕ, ◌*◌, List, None, Result, Ok, Err, ◌==◌, if◌then◌else◌}
 use Rattle.std.specs.List.{list_all}
 use Rattle.sx_bytes.specs.declared.fault.Form.TheVariants as form
 use Rattle.sx_bytes.specs.declared.fault.FormFault.{FormFault}
@@ -10,27 +10,30 @@ use Rattle.sx_ledger.specs.Decoding.{price_at}
 use Rattle.sx_run.specs.declared.block.Block.{Block}
 use Rattle.sx_run.specs.declared.block.Header.{Header}
 use Rattle.sx_tx.specs.declared.tx.Tx.{Tx}
+use Rattle.sx_tx.specs.Transactions.{most_transactions}
 use Rattle.sx_tx.specs.TransactionDecoding.{tx_at}
+use Rattle.sx_ledger.specs.Ledger.{most_height}
+use Rattle.sx_base.specs.Ranges.{most_assets}
 
 abbrev pub digest_at : Cursor → Result (List ℕ × Cursor) FormFault
 digest_at c = or_fault (raw_at 32 c)
 
--- so many bytes, all of them 0
+-- n bytes, all of them 0
 abbrev pub zeros_at : ℕ → Cursor → Result (ℕ × Cursor) FormFault
 zeros_at n c = do
   x ← or_fault (raw_at n c)
   if list_all (λ byte. byte == 0) x.0 then Ok (n, x.1) else Err (record { at = c.place; fault = form.Rest })
 
 abbrev pub height_at : Cursor → Result (ℕ × Cursor) FormFault
-height_at = field_at 8 (between 0 (2 ^ 63 - 1)) form.HeightRange
+height_at = field_at 8 (between 0 most_height) form.HeightRange
 
 abbrev pub mu_at : Cursor → Result (ℕ × Cursor) FormFault
 mu_at = field_at 1 (between 1 20) form.MuRange
 
 abbrev pub assets_at : Cursor → Result (ℕ × Cursor) FormFault
-assets_at = field_at 1 (between 1 32) form.AssetCount
+assets_at = field_at 1 (between 1 most_assets) form.AssetCount
 
--- what stands before the prices
+-- the fields before the prices
 unfoldable pub front_at : Cursor → Result ((ℕ × List ℕ × List ℕ × ℕ) × Cursor) FormFault
 front_at c = do
   version ← field_at 1 (between 1 1) form.Version c
@@ -40,7 +43,7 @@ front_at c = do
   mu ← mu_at body.1
   Ok ((height.0, parent.0, body.0, mu.0), mu.1)
 
--- no trade, nothing dropped, and potentials and roundings of 0 for so many assets
+-- no trade, nothing dropped, and a potential and a rounding of 0 for each asset
 unfoldable pub no_trade_at : ℕ → Cursor → Result (ℕ × Cursor) FormFault
 no_trade_at assets c = do
   trades ← field_at 2 (between 0 0) form.TooMany c
@@ -59,7 +62,7 @@ header_at c = do
 
 unfoldable pub body_at : Cursor → Result (List Tx × Cursor) FormFault
 body_at c = do
-  count ← field_at 4 (between 0 1000000) form.TooMany c
+  count ← field_at 4 (between 0 most_transactions) form.TooMany c
   ordered_at tx_at tx_before form.Order count.0 None count.1
 
 -- a whole payload, from its first byte
@@ -71,9 +74,9 @@ block_at bytes = do
 
 -- the header, then the list of transactions from that place on, and nothing more
 pub record BodyStandsAt (bytes : List ℕ) (place : ℕ) (block : Block) : Type 0 where
-  pub behind : Cursor
+  pub after_header : Cursor
   pub end : Cursor
-  pub header : header_at (record { bytes = bytes; place = 0 }) ≡ Ok (block.header, behind)
-  pub at : behind.place ≡ place
-  pub body : body_at behind ≡ Ok (block.txs, end)
+  pub header : header_at (record { bytes = bytes; place = 0 }) ≡ Ok (block.header, after_header)
+  pub at : after_header.place ≡ place
+  pub body : body_at after_header ≡ Ok (block.txs, end)
   pub whole : left end ≡ 0

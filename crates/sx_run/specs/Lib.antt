@@ -1,8 +1,8 @@
-pub mod Effects
+pub mod PaymentEffects
 pub mod Payments
 pub mod Places
 pub mod Sums
-pub mod Flows
+pub mod AccountTotals
 pub mod Settling
 pub mod Applied
 pub mod Conservation

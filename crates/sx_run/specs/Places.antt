@@ -6,6 +6,7 @@ use Rattle.sx_ledger.specs.Ledger.{assets_of, holds_id, ids}
 use Rattle.sx_run.specs.declared.payment.Payment.{Payment}
 use Rattle.sx_run.specs.declared.places.Ends.{Ends}
 use Rattle.sx_run.specs.declared.places.Places.{Places}
+use Rattle.sx_tx.specs.Window.{open_numbers}
 
 -- an account of each payment, as its payer, stands at the place for it: one place a payment
 abbrev pub StandAt : Parts → (Payment → ℕ) → List Payment → List ℕ → Type 0
@@ -20,14 +21,14 @@ pub record IsPlaced (parts : Parts) (payment : Payment) (ends : Ends) : Type 0 w
   pub payer : slice_get (ids parts.accounts) ends.payer ≡ Some payment.account.0
   pub payee : slice_get (ids parts.accounts) ends.payee ≡ Some payment.to.0
 
--- the account is there, and the number is in its window: above its last, by at most 64
-pub record IsOpenTo (parts : Parts) (account number : ℕ) : Type 0 where
+-- the account is there, and the sequence number is in its window
+pub record IsOpenTo (parts : Parts) (account seq : ℕ) : Type 0 where
   pub place : ℕ
   pub entry : Account
   pub there : slice_get parts.accounts place ≡ Some entry
   pub id : entry.id.0 ≡ account
-  pub above : entry.window.last < number
-  pub within : number ≤ entry.window.last + 64
+  pub above : entry.window.last < seq
+  pub within : seq ≤ entry.window.last + open_numbers
 
 -- the payment may be applied; it is so exactly where the static list has no reason against it
 pub record MayPay (parts : Parts) (payment : Payment) : Type 0 where

@@ -9,7 +9,7 @@ use Rattle.sx_run.specs.declared.status.Status.{Status}
 use Rattle.sx_run.specs.declared.status.Status.TheVariants.{Done, Usage, ReadFault, WriteFault, Refused, NoMemory, NotBuilt}
 use Rattle.sx_run.specs.declared.stop.Stop.{Stop}
 use Rattle.sx_run.specs.declared.stop.Stop.TheVariants as stop
-use Rattle.sx_run.specs.Effects.{ledger_after}
+use Rattle.sx_run.specs.PaymentEffects.{ledger_after}
 use Rattle.sx_run.specs.Validity.{state_record, block_record, IsReplayable, IsValid, Refuses}
 
 -- the one word `replay`
@@ -69,7 +69,7 @@ status_at stop.NoMemory = NoMemory
 status_at stop.ReadFault = ReadFault
 status_at stop.NotBuilt = NotBuilt
 
--- all of the output is written, or a front of it
+-- all of the output is written, or a prefix of it
 abbrev pub IsWritten : Option (List ℕ) → Option (List ℕ) → List ℕ → Status → Type 0
 IsWritten before after output Done = Appends before after output
 IsWritten before after output WriteFault = AppendsPrefix before after output
@@ -98,6 +98,16 @@ is_silent NotBuilt = true
 is_silent Usage = true
 is_silent ReadFault = true
 is_silent NoMemory = true
+
+-- a fact at each answer but ReadFault
+abbrev pub UnlessReadFails : Status → Type 0 → Type 0
+UnlessReadFails ReadFault fact = Unit {0}
+UnlessReadFails _ fact = fact
+
+-- a fact at each answer but WriteFault
+abbrev pub UnlessWriteFails : Status → Type 0 → Type 0
+UnlessWriteFails WriteFault fact = Unit {0}
+UnlessWriteFails _ fact = fact
 
 -- a source that tells its bytes was read to its end
 abbrev pub IsRead : Option (List ℕ) → Option (List ℕ) → Type 0

@@ -2,7 +2,7 @@
 use Rattle.std.specs.Prelude.{◌≡◌, ℕ, ◌+◌, ◌-◌, ◌<◌, ◌≤◌, ◌^◌, List, length, slice_index, slice_get, Some, ◌==◌, if◌then◌else◌}
 use Rattle.sx_ledger.specs.declared.account.Account.{Account}
 use Rattle.sx_ledger.specs.Ledger.{balance_at}
-use Rattle.sx_run.specs.declared.flows.Flows.{Flows}
+use Rattle.sx_run.specs.declared.account_totals.AccountTotals.{AccountTotals}
 use Rattle.sx_run.specs.declared.overdraft.Overdraft.{Overdraft}
 use Rattle.sx_run.specs.declared.sums.Sums.{Sums}
 use Rattle.sx_run.specs.Sums.{sum_at}
@@ -38,17 +38,17 @@ pub record IsMoved (taken given : Sums) (place : ℕ) (before after : List ℕ) 
   pub as_many : length after ≡ length before
   pub each : (asset : ℕ) → asset < length before → slice_index after asset ≡ balance_after before taken given place asset
 
--- the window after a greatest number, or at its old last one where that is 0, since no number was used
+-- the window after the greatest sequence number that was used, or as before where that is 0, since none was used
 abbrev pub window_after : ℕ → Window → Window
-window_after number window = record { last = (if number == 0 then window.last else number); used = 0 }
+window_after greatest window = record { last = (if greatest == 0 then window.last else greatest); used = 0 }
 
--- an account became the one after the debits, the credits and the greatest number of its place
-pub record IsSettled (flows : Flows) (place : ℕ) (before after : Account) : Type 0 where
+-- an account became the one after the debits, the credits and the greatest sequence number of its place
+pub record IsSettled (totals : AccountTotals) (place : ℕ) (before after : Account) : Type 0 where
   pub id : after.id ≡ before.id
-  pub window : after.window ≡ window_after (slice_index flows.numbers.items place) before.window
-  pub balances : IsMoved flows.debits flows.credits place before.balances after.balances
+  pub window : after.window ≡ window_after (slice_index totals.greatest_seqs.items place) before.window
+  pub balances : IsMoved totals.debits totals.credits place before.balances after.balances
 
 -- the debits and credits of an account's place can be applied
-pub record CanSettle (flows : Flows) (place : ℕ) (account : Account) : Type 0 where
-  pub covers : CoversBelow (length account.balances) account.balances flows.debits place
-  pub fits : (asset : ℕ) → asset < length account.balances → balance_after account.balances flows.debits flows.credits place asset < 2 ^ 64
+pub record CanSettle (totals : AccountTotals) (place : ℕ) (account : Account) : Type 0 where
+  pub covers : CoversBelow (length account.balances) account.balances totals.debits place
+  pub fits : (asset : ℕ) → asset < length account.balances → balance_after account.balances totals.debits totals.credits place asset < 2 ^ 64

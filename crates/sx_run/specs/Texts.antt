@@ -1,4 +1,4 @@
--- The line that says how a run ended. A code list spells ASCII text, and 10 is a line feed.
+-- The line that says how a run ended. A list of codes is ASCII text, and 10 is a line feed.
 use Rattle.std.specs.Prelude.{ℕ, List, [], ◌∷◌, ◌++◌, codes}
 use Rattle.std.specs.Fmt.{decimal}
 use Rattle.hex.specs.Hex.{encode_lower}

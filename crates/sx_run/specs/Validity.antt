@@ -1,30 +1,30 @@
 -- Which block of payments is valid for a ledger, and the first reason why one is not.
-use Rattle.std.specs.Prelude.{◌≡◌, ◌≢◌, ℕ, ◌+◌, ◌^◌, ◌<◌, List, [], All}
+use Rattle.std.specs.Prelude.{◌≡◌, ◌≢◌, ℕ, ◌+◌, ◌≤◌, List, [], All}
 use Rattle.sha2.specs.Sha256.{sha256}
 use Rattle.sx_ledger.specs.declared.parts.Parts.{Parts}
-use Rattle.sx_ledger.specs.Ledger.{IsLedger}
+use Rattle.sx_ledger.specs.Ledger.{IsLedger, most_height}
 use Rattle.sx_ledger.specs.Encoding.{state_bytes}
 use Rattle.sx_run.specs.declared.block.Block.{Block}
 use Rattle.sx_run.specs.declared.invalid.Invalid.{Invalid}
 use Rattle.sx_run.specs.declared.invalid.Invalid.TheVariants.{WrongParent, WrongBody, Overdrawn, WrongAfter}
 use Rattle.sx_record.specs.Frame.{record_bytes}
+use Rattle.sx_record.specs.Tags.{state_tag, block_tag}
 use Rattle.sx_run.specs.Block.{block_bytes, IsBlock}
-use Rattle.sx_run.specs.Effects.{IsPay, Passes, ledger_after, NoneOverdrawn, IsFirstOverdrawn}
+use Rattle.sx_run.specs.PaymentEffects.{IsPay, Passes, ledger_after, NoneOverdrawn, IsFirstOverdrawn}
 use Rattle.sx_tx.specs.declared.tx.Tx.{Tx}
 use Rattle.sx_tx.specs.Transactions.{list_bytes}
 
--- tag 1 is a state's, tag 3 a block's
 abbrev pub state_record : Parts → List ℕ
-state_record parts = record_bytes 1 (state_bytes parts)
+state_record parts = record_bytes state_tag (state_bytes parts)
 
 abbrev pub block_record : Block → List ℕ
-block_record block = record_bytes 3 (block_bytes block)
+block_record block = record_bytes block_tag (block_bytes block)
 
 -- SHA-256 of the whole record of the state
 abbrev pub ledger_digest : Parts → List ℕ
 ledger_digest parts = sha256 (state_record parts)
 
--- SHA-256 of the list of transactions, their number included
+-- SHA-256 of the encoding of the list of transactions, its length included
 abbrev pub body_digest : List Tx → List ℕ
 body_digest txs = sha256 (list_bytes txs)
 
@@ -34,7 +34,7 @@ pub record IsReplayable (parts : Parts) (block : Block) : Type 0 where
   pub ledger : IsLedger parts
   pub form : IsBlock block
   pub no_offers : parts.offers ≡ []
-  pub room : parts.height + 1 < 2 ^ 63
+  pub room : parts.height + 1 ≤ most_height
   pub height : block.header.height ≡ parts.height + 1
   pub prices : block.header.prices ≡ parts.prices
   pub payments : All IsPay block.txs

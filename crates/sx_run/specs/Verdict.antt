@@ -1,7 +1,7 @@
 -- What two payloads say, as a state and a block on top of it.
-use Rattle.std.specs.Prelude.{◌≡◌, ◌≢◌, Option, ℕ, ◌+◌, ◌^◌, ◌<◌, List, [], map, All}
+use Rattle.std.specs.Prelude.{◌≡◌, ◌≢◌, Option, ℕ, ◌+◌, ◌≤◌, List, [], map, All}
 use Rattle.sx_ledger.specs.declared.parts.Parts.{Parts}
-use Rattle.sx_ledger.specs.Ledger.{IsLedger}
+use Rattle.sx_ledger.specs.Ledger.{IsLedger, most_height}
 use Rattle.sx_ledger.specs.Encoding.{state_bytes}
 use Rattle.sx_run.specs.declared.block.Block.{Block}
 use Rattle.sx_run.specs.declared.invalid.Invalid.TheVariants.{WrongAfter}
@@ -15,14 +15,14 @@ use Rattle.sx_run.specs.Replay.{output_of, IsReplayed, IsRefused, IsRead}
 use Rattle.sx_run.specs.Validity.{IsReplayable, IsValid, Refuses, ledger_digest, state_record}
 
 -- the payloads are this ledger and this block
-pub record Spells (state block : List ℕ) (parts : Parts) (said : Block) : Type 0 where
+pub record ArePayloadsOf (state block : List ℕ) (parts : Parts) (said : Block) : Type 0 where
   pub form : IsReplayable parts said
   pub state_is : state ≡ state_bytes parts
   pub block_is : block ≡ block_bytes said
 
 -- the payloads are no ledger and block of the form that is replayed
-abbrev pub SpellsNone : List ℕ → List ℕ → Type 0
-SpellsNone state block = (parts : Parts) (said : Block) → IsReplayable parts said → state ≡ state_bytes parts → block ≡ block_bytes said → ⊥
+abbrev pub ArePayloadsOfNone : List ℕ → List ℕ → Type 0
+ArePayloadsOfNone state block = (parts : Parts) (said : Block) → IsReplayable parts said → state ≡ state_bytes parts → block ≡ block_bytes said → ⊥
 
 -- a payload is no ledger
 abbrev pub IsNoLedger : List ℕ → Type 0
@@ -35,7 +35,7 @@ IsNoBlock block = (said : Block) → IsBlock said → block ≡ block_bytes said
 -- the ledger has no offers, and the block has the next height and the prices of the ledger
 pub record IsNext (parts : Parts) (block : Block) : Type 0 where
   pub no_offers : parts.offers ≡ []
-  pub room : parts.height + 1 < 2 ^ 63
+  pub room : parts.height + 1 ≤ most_height
   pub height : block.header.height ≡ parts.height + 1
   pub prices : block.header.prices ≡ parts.prices
 
@@ -60,7 +60,7 @@ Decides parts block (Refused why) = Refuses parts block why
 pub record Judges (state block : List ℕ) (verdict : Verdict) : Type 0 where
   pub parts : Parts
   pub said : Block
-  pub spelled : Spells state block parts said
+  pub payloads : ArePayloadsOf state block parts said
   pub decided : Decides parts said verdict
 
 -- what the verdict says of the bytes that a source had, all of which were read

@@ -1,4 +1,4 @@
-//! A block without trades is read field by field, each tested as soon as it is read whole.
+//! Decoding a block without trades field by field, each tested as soon as it is read whole.
 
 ghost use Rattle.std.specs.Prelude.{◌≡◌, ◌*◌, ◌<◌, ◌≤◌, length, drop, IfOk, Ok, None, ◌==◌};
 ghost use Rattle.std.specs.List.{list_all};
@@ -16,16 +16,11 @@ ghost use Rattle.sx_tx.specs.TransactionDecoding.{tx_at};
 use crate::block::{Block, Header};
 use crate::digest::Digest;
 use std::alloc::Global;
+use sx_base::AssetId;
 use sx_bytes::{Form, FormFault, ReadError, Reader};
-use sx_ledger::read_prices;
+use sx_ledger::{Ledger, read_prices};
 use sx_price::Mu;
-use sx_tx::{Tx, TxList, read_tx};
-
-/// How many transactions a block may hold.
-const MOST_TXS: u32 = 1_000_000;
-
-// How many bytes the shortest transaction takes.
-const LEAST_BYTES: usize = 25;
+use sx_tx::{MOST_TRANSACTIONS, Tx, TxList, read_tx};
 
 fn fault_at(at: usize, fault: Form) -> ReadError
     ensures { result ≡ read_error.Form (record { at = at; fault = fault }) }
@@ -57,7 +52,7 @@ fn are_zeros(bytes: &[u8]) -> bool
     bytes.iter().all(|byte| *byte == 0)
 }
 
-// So many bytes, all of them 0.
+// The next n bytes, all of which have to be 0.
 fn zeros(from: &mut Reader, n: usize) -> Result<(), ReadError>
     ensures { MayDecodeOrStray (λ _. n) (zeros_at n from.old) from.new result }
 {
@@ -68,13 +63,13 @@ fn zeros(from: &mut Reader, n: usize) -> Result<(), ReadError>
     Ok(())
 }
 
-// What stands before the prices: the height, the two digests and μ.
+// The fields before the prices: the version, the height, the two digests and μ.
 #[tactic(auto, unfolding(crate::specs::BlockReading::front_at))]
 fn front(from: &mut Reader) -> Result<(u64, Digest, Digest, Mu), ReadError>
     ensures { MayDecodeOrStray (λ x. x) (front_at from.old) from.new result }
 {
     from.field_u8(1, 1, Form::Version)?;
-    let height = from.field_u64(0, u64::MAX >> 1, Form::HeightRange)?;
+    let height = from.field_u64(0, Ledger::MOST_HEIGHT, Form::HeightRange)?;
     let parent = digest(from)?;
     let body = digest(from)?;
     let mu = mu(from)?;
@@ -97,7 +92,7 @@ fn header(alloc: Global, from: &mut Reader) -> Result<Header, ReadError>
     ensures { MayDecodeOrStray (λ x. x) (header_at from.old) from.new result }
 {
     let (height, parent, body, mu) = front(from)?;
-    let assets = from.field_u8(1, 32, Form::AssetCount)?;
+    let assets = from.field_u8(1, AssetId::LIMIT, Form::AssetCount)?;
     let prices = read_prices(alloc, from, assets)?;
     no_trade(from, assets)?;
     let after = digest(from)?;
@@ -127,7 +122,7 @@ fn follows(before: Option<Tx>, next: &Tx) -> bool
 fn txs(alloc: Global, from: &mut Reader, count: u32) -> Result<TxList, ReadError>
     ensures { MayDecodeOrStray (λ x. x) (ordered_at tx_at tx_before form.Order count None from.old) from.new result }
 {
-    let room = from.left() / LEAST_BYTES;
+    let room = from.left() / Tx::LEAST_BYTES;
     let mut txs = Vec::with_capacity(alloc, room.min(count as usize))?;
     let mut before = None;
     for _ in 0..count {
@@ -146,11 +141,11 @@ fn txs(alloc: Global, from: &mut Reader, count: u32) -> Result<TxList, ReadError
 fn body(alloc: Global, from: &mut Reader) -> Result<TxList, ReadError>
     ensures { MayDecodeOrStray (λ x. x) (body_at from.old) from.new result }
 {
-    let count = from.field_u32(0, MOST_TXS, Form::TooMany)?;
+    let count = from.field_u32(0, MOST_TRANSACTIONS, Form::TooMany)?;
     txs(alloc, from, count)
 }
 
-/// A block that was read, and where its list of transactions begins in the payload.
+// A block that was read, and where its list of transactions begins in the payload.
 #[derive(Debug, Drop)]
 pub struct BlockRead {
     pub block: Block,
@@ -173,8 +168,8 @@ fn whole(alloc: Global, payload: &[u8]) -> Result<BlockRead, ReadError>
     Ok(BlockRead { block, body_at })
 }
 
-/// The block without trades that the payload spells, all of the payload. `Form` comes exactly where
-/// it spells none.
+// The block without trades whose encoding the payload is. `Form` comes exactly where it is the
+// encoding of none.
 pub fn read_block(alloc: Global, payload: &[u8]) -> Result<BlockRead, ReadError>
     ensures found { IfOk result (λ read. IsBlock read.block × (payload.now ≡ block_bytes read.block)) }
     ensures only { (block : Block) → IsBlock block → payload.now ≡ block_bytes block → Gives (λ read. read.block) result (Ok block) }

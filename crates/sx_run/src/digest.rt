@@ -1,3 +1,5 @@
+//! Digests.
+
 ghost use Rattle.std.specs.Prelude.{◌≡◌};
 
 use std::marker::Model;

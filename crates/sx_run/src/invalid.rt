@@ -1,3 +1,5 @@
+//! Why a block is refused.
+
 ghost use Rattle.std.specs.Prelude.{◌≡◌};
 ghost use Rattle.sx_run.specs.Status.{number_of_invalid};
 

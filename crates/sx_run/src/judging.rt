@@ -5,10 +5,11 @@ ghost use Rattle.std.specs.Prelude.{◌≡◌, ◌<◌, ◌≤◌, ◌^◌, leng
 ghost use Rattle.sx_ledger.specs.Ledger.{IsLedger};
 ghost use Rattle.sx_ledger.specs.Encoding.{state_bytes};
 ghost use Rattle.sx_ledger.specs.declared.parts.Parts.{Parts};
+ghost use Rattle.sx_record.specs.Frame.{most_bytes};
 ghost use Rattle.sx_run.specs.Block.{block_bytes, IsBlock};
 ghost use Rattle.sx_run.specs.Validity.{IsReplayable, HasParent, HasBody, state_record};
-ghost use Rattle.sx_run.specs.Verdict.{IsNoLedger, IsNoBlock, SpellsNone, IsNext, IsReady, Closes, Decides, Judges};
-ghost use Rattle.sx_tx.specs.Transactions.{list_bytes};
+ghost use Rattle.sx_run.specs.Verdict.{IsNoLedger, IsNoBlock, ArePayloadsOfNone, IsNext, IsReady, Closes, Decides, Judges};
+ghost use Rattle.sx_tx.specs.Transactions.{most_transactions, list_bytes};
 
 use crate::apply::{Applied, apply};
 use crate::block::Block;
@@ -23,8 +24,9 @@ use crate::stream::Input;
 use std::alloc::Global;
 use sx_bytes::{NoMemory, ReadError, Writer};
 use sx_ledger::{Ledger, read_state};
+use sx_record::{tag, write_frame};
 
-/// The record of the state after a valid block, or why the block is refused.
+// The record of the state after a valid block, or why the block is refused.
 #[derive(Debug, Drop)]
 pub enum Verdict {
     Valid(Writer),
@@ -33,7 +35,7 @@ pub enum Verdict {
 
 fn ledger_of(alloc: Global, state: &[u8]) -> Result<Ledger, Stop>
     ensures ledger { IfOk result (λ ledger. IsLedger ledger) }
-    ensures spelled { IfOk result (λ ledger. state.now ≡ state_bytes ledger) }
+    ensures encoding { IfOk result (λ ledger. state.now ≡ state_bytes ledger) }
     ensures only { IfOk result (λ ledger. (parts : Parts) → IsLedger parts → state.now ≡ state_bytes parts → parts ≡ ledger) }
     ensures not_built { IsErrOf result Stop.NotBuilt → IsNoLedger state.now }
     ensures calm { IsErrOf result Stop.ReadFault → ⊥ }
@@ -47,7 +49,7 @@ fn ledger_of(alloc: Global, state: &[u8]) -> Result<Ledger, Stop>
 
 fn block_of(alloc: Global, payload: &[u8]) -> Result<BlockRead, Stop>
     ensures block { IfOk result (λ read. IsBlock read.block) }
-    ensures spelled { IfOk result (λ read. payload.now ≡ block_bytes read.block) }
+    ensures encoding { IfOk result (λ read. payload.now ≡ block_bytes read.block) }
     ensures body { IfOk result (λ read. drop read.body_at payload.now ≡ list_bytes read.block.txs) }
     ensures within { IfOk result (λ read. read.body_at ≤ length payload.now) }
     ensures not_built { IsErrOf result Stop.NotBuilt → IsNoBlock payload.now }
@@ -63,7 +65,7 @@ fn block_of(alloc: Global, payload: &[u8]) -> Result<BlockRead, Stop>
 fn is_next(ledger: &Ledger, block: &Block) -> bool
     ensures { IsTrue result ↔ IsNext ledger.now block.now }
 {
-    if ledger.offers() != 0 || ledger.height() >= u64::MAX >> 1 {
+    if ledger.offers() != 0 || ledger.height() >= Ledger::MOST_HEIGHT {
         return false;
     }
     block.header.height == ledger.height() + 1 && block.header.prices == ledger.parts().prices
@@ -99,8 +101,7 @@ fn record_of(alloc: Global, ledger: &Ledger) -> Result<Writer, NoMemory>
     ensures { IfOk result (λ output. output ≡ state_record ledger.now) }
 {
     let mut output = Writer::new(alloc);
-    output.put_u8(1)?;
-    output.put_u32(ledger.state_length())?;
+    write_frame(&mut output, tag::STATE, ledger.state_length())?;
     ledger.write_state(&mut output)?;
     Ok(output)
 }
@@ -120,7 +121,7 @@ fn close(alloc: Global, after: &Ledger, said: Digest) -> Result<Verdict, NoMemor
 // The overdrafts, and then the ledger after the block.
 fn settle(alloc: Global, ledger: Ledger, block: &Block, ready: &Ready) -> Result<Verdict, NoMemory>
     requires ready { IsReady ledger block.now ready.now }
-    requires few { length block.now.txs ≤ 1000000 }
+    requires few { length block.now.txs ≤ most_transactions }
     requires parent { HasParent ledger block.now }
     requires body { HasBody block.now }
     ensures { IfOk result (Decides ledger block.now) }
@@ -146,14 +147,14 @@ fn decide(
     body: &[u8],
 ) -> Result<Verdict, NoMemory>
     requires ready { IsReady ledger block.now ready.now }
-    requires few { length block.now.txs ≤ 1000000 }
+    requires few { length block.now.txs ≤ most_transactions }
     requires state { input.now.state ≡ state_bytes ledger }
-    requires fits { length input.now.state < 2 ^ 32 }
+    requires fits { length input.now.state ≤ most_bytes }
     requires body { body.now ≡ list_bytes block.now.txs }
     ensures { IfOk result (Decides ledger block.now) }
 {
     let said = block.header.parent;
-    let real = record_digest(1, input.state.items());
+    let real = record_digest(alloc, tag::STATE, input.state.items())?;
     if said != real {
         return Ok(Verdict::Refused(Invalid::WrongParent { said, real }));
     }
@@ -165,11 +166,11 @@ fn decide(
     settle(alloc, ledger, block, ready)
 }
 
-/// Judges the payloads of a state and a block. `NotBuilt` comes exactly where they are no ledger
-/// and block of the form that is replayed.
+// Judges the payloads of a state and a block. `NotBuilt` comes exactly where they are no ledger
+// and block of the form that is replayed.
 pub fn judge(alloc: Global, input: &Input) -> Result<Verdict, Stop>
     ensures verdict { IfOk result (Judges input.now.state input.now.block) }
-    ensures not_built { IsErrOf result Stop.NotBuilt → SpellsNone input.now.state input.now.block }
+    ensures not_built { IsErrOf result Stop.NotBuilt → ArePayloadsOfNone input.now.state input.now.block }
     ensures calm { IsErrOf result Stop.ReadFault → ⊥ }
 {
     let ledger = ledger_of(alloc, input.state.items())?;

@@ -1,3 +1,5 @@
+//! Laws of a replay, for all values.
+
 ghost use Rattle.sx_run.specs.Conservation.{PaymentsConserve};
 ghost use Rattle.sx_run.specs.Replay.{OneReading};
 

@@ -1,30 +1,33 @@
+//! Where the accounts of payments stand in a ledger.
+
 ghost use Rattle.std.specs.Prelude.{◌≡◌, ◌+◌, ◌<◌, ◌≤◌, ◌↔◌, All, length, IsTrue, IfOk, IfSome, IfNone, slice_get, Some, Contains};
 ghost use Rattle.std.specs.List.Sorted.{IsStrictlyIncreasing};
 ghost use Rattle.sx_ledger.specs.Ledger.{IsLedger, ids, holds_id};
 ghost use Rattle.sx_run.specs.Places.{ArePlaced, IsPlaced, MayPay};
+ghost use Rattle.sx_tx.specs.Window.{open_numbers};
 
 use crate::payment::{Payment, Payments};
 use std::alloc::Global;
-use sx_base::AccountId;
+use sx_base::{AccountId, Seq};
 use sx_bytes::NoMemory;
 use sx_ledger::{AccountIndex, Ledger};
 
-/// Where the payer and the payee of each payment stand in the list of accounts.
+// Where the payer and the payee of each payment stand in the list of accounts.
 #[derive(Debug, Drop)]
 pub struct Places {
     pub payers: Vec<u32>,
     pub payees: Vec<u32>,
 }
 
-/// Where the payer and the payee of one payment stand.
+// Where the payer and the payee of one payment stand.
 #[derive(Clone, Copy)]
 struct Ends {
     payer: u32,
     payee: u32,
 }
 
-/// The places of the accounts of these payments, or `None` where some payment may not be applied. An
-/// account is looked up once for all its payments that stand together.
+// The places of the accounts of these payments, or `None` where some payment may not be applied. An
+// account is looked up once for all its payments that follow one another.
 pub fn places_of(
     alloc: Global,
     ledger: &Ledger,
@@ -34,7 +37,7 @@ pub fn places_of(
     ensures may_pay { IfOk result (λ found. IfSome found (λ _. All (MayPay ledger.now) payments.now)) }
     ensures refused { IfOk result (λ found. IfNone found (All (MayPay ledger.now) payments.now → ⊥)) }
 {
-    let index = ledger.index(alloc)?;
+    let index = ledger.index()?;
     let mut payers = Vec::with_capacity(alloc, payments.len())?;
     let mut payees = Vec::with_capacity(alloc, payments.len())?;
     let mut near = 0;
@@ -50,8 +53,8 @@ pub fn places_of(
     Ok(Some(Places { payers, payees }))
 }
 
-/// Where the accounts of a payment stand, or `None` where it may not be applied. The payer is tried at
-/// the place `near` first.
+// Where the accounts of a payment stand, or `None` where it may not be applied. The payer is tried at
+// the place `near` first.
 fn ends_of(ledger: &Ledger, index: &AccountIndex, payment: &Payment, near: u32) -> Option<Ends>
     requires { index.now ≡ ids ledger.now.accounts }
     ensures placed { IfSome result (λ ends. IsPlaced ledger.now payment.now ends) }
@@ -59,7 +62,7 @@ fn ends_of(ledger: &Ledger, index: &AccountIndex, payment: &Payment, near: u32) 
     ensures refused { IfNone result (MayPay ledger.now payment.now → ⊥) }
 {
     let payer = find_near(ledger, payment.account, near)?;
-    if !is_open(ledger, payer, payment.seq.get()) {
+    if !is_open(ledger, payer, payment.seq) {
         return None;
     }
     if u32::from(payment.asset.get()) >= ledger.assets() {
@@ -69,17 +72,16 @@ fn ends_of(ledger: &Ledger, index: &AccountIndex, payment: &Payment, near: u32) 
     Some(Ends { payer, payee })
 }
 
-/// Whether the account at a place may use a number: above its last, by at most 64.
-fn is_open(ledger: &Ledger, place: u32, number: u64) -> bool
+// Whether a sequence number is in the window of the account at a place.
+fn is_open(ledger: &Ledger, place: u32, seq: Seq) -> bool
     requires { place < length ledger.now.accounts }
-    ensures open { IsTrue result ↔ IfSome (slice_get ledger.now.accounts place) (λ entry. (entry.window.last < number) × (number ≤ entry.window.last + 64)) }
+    ensures open { IsTrue result ↔ IfSome (slice_get ledger.now.accounts place) (λ entry. (entry.window.last < seq) × (seq ≤ entry.window.last + open_numbers)) }
     ensures kept { IsLedger ledger.now }
 {
-    let last = ledger.account(place).window.last;
-    last < number && number - last <= 64
+    ledger.account(place).window.place(seq).is_ok()
 }
 
-/// The place of the account of this id, tried at the place `near` first.
+// The place of the account of this id, tried at the place `near` first.
 fn find_near(ledger: &Ledger, id: AccountId, near: u32) -> Option<u32>
     ensures found { IfSome result (λ place. slice_get (ids ledger.now.accounts) place ≡ Some id.0) }
     ensures absent { IfNone result (holds_id ledger.now id.0 → ⊥) }

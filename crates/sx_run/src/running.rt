@@ -1,6 +1,9 @@
+//! The top call.
+
 ghost use Rattle.std.specs.Prelude.{◌≡◌, IfOk, IsErrOf, IsTrue};
 ghost use Rattle.sx_base.specs.Outside.{Rose};
-ghost use Rattle.sx_run.specs.Replay.{FitsWords, Answers, IsNotBuilt, IsRead, IsWritten, is_silent, status_at};
+ghost use Rattle.sx_run.specs.Replay.{FitsWords, Answers, IsNotBuilt, IsRead, IsWritten, UnlessReadFails, UnlessWriteFails, is_silent, status_at};
+ghost use Rattle.sx_run.specs.Stream.{UnlessReadFault};
 ghost use Rattle.sx_run.specs.Verdict.{JudgesInput};
 
 use crate::judging::{Verdict, judge};
@@ -24,10 +27,11 @@ fn status_of(stop: Stop) -> Status
 }
 
 // Reads the input and judges it.
-#[tactic(auto, using(crate::proofs::Input::not_built_of_both, crate::proofs::Input::not_built_of_none, crate::proofs::Input::input_judged))]
+#[tactic(auto, using(crate::proofs::WholeInput::not_built_of_both, crate::proofs::WholeInput::not_built_of_none, crate::proofs::WholeInput::input_judged))]
 fn verdict_of<S: Source>(alloc: Global, source: &mut S) -> Result<Verdict, Stop>
     ensures verdict { IfOk result (JudgesInput (S.left source.old) (S.left source.new)) }
     ensures not_built { IsErrOf result Stop.NotBuilt → IsNotBuilt (S.left source.old) }
+    ensures steady { UnlessReadFault result (IsTrue (S.strict source.old) → S.faults source.new ≡ S.faults source.old) }
     ensures read_fault { IsErrOf result Stop.ReadFault → Rose (S.faults source.old) (S.faults source.new) }
 {
     let input = read_input(alloc, source)?;
@@ -37,6 +41,7 @@ fn verdict_of<S: Source>(alloc: Global, source: &mut S) -> Result<Verdict, Stop>
 // Writes the output, all of it.
 fn write<K: Sink>(sink: &mut K, output: &Writer) -> Status
     ensures outcome { IsWritten (K.written sink.old) (K.written sink.new) output.now result }
+    ensures steady { UnlessWriteFails result (IsTrue (K.strict sink.old) → K.faults sink.new ≡ K.faults sink.old) }
     ensures write_fault { result ≡ Status.WriteFault → Rose (K.faults sink.old) (K.faults sink.new) }
 {
     match put_all(sink, output.bytes()) {
@@ -51,6 +56,8 @@ fn replay<S: Source, K: Sink>(alloc: Global, source: &mut S, sink: &mut K) -> St
     ensures write_fault { result ≡ Status.WriteFault → Rose (K.faults sink.old) (K.faults sink.new) }
     ensures answer { Answers (S.left source.old) (K.written sink.old) (K.written sink.new) result }
     ensures read { result ≡ Status.Done → IsRead (S.left source.old) (S.left source.new) }
+    ensures steady_source { UnlessReadFails result (IsTrue (S.strict source.old) → S.faults source.new ≡ S.faults source.old) }
+    ensures steady_sink { UnlessWriteFails result (IsTrue (K.strict sink.old) → K.faults sink.new ≡ K.faults sink.old) }
     ensures silent { IsTrue (is_silent result) → sink.new ≡ sink.old }
 {
     match verdict_of(alloc, source) {
@@ -81,8 +88,13 @@ pub fn run<R: Threads + Sync, S: Source, K: Sink>(
     ensures read_fault { result ≡ Status.ReadFault → Rose (S.faults source.old) (S.faults source.new) }
     ensures write_fault { result ≡ Status.WriteFault → Rose (K.faults sink.old) (K.faults sink.new) }
 
+    // And no such fault is told as anything else, as NoMemory: where the count rises at failures
+    // alone, it does not change at any other answer.
+    ensures steady_source { UnlessReadFails result (IsTrue (S.strict source.old) → S.faults source.new ≡ S.faults source.old) }
+    ensures steady_sink { UnlessWriteFails result (IsTrue (K.strict sink.old) → K.faults sink.new ≡ K.faults sink.old) }
+
     // The answer is the one of the ledger and the block that are the whole input, and so is what is
-    // written: all of the output at Done, a front of it at WriteFault.
+    // written: all of the output at Done, a prefix of it at WriteFault.
     ensures answer { Answers (S.left source.old) (K.written sink.old) (K.written sink.new) result }
     ensures read { result ≡ Status.Done → IsRead (S.left source.old) (S.left source.new) }
 

@@ -1,3 +1,5 @@
+//! How a run ends.
+
 ghost use Rattle.std.specs.Prelude.{◌≡◌};
 ghost use Rattle.sx_run.specs.Status.{code_of};
 
@@ -12,7 +14,7 @@ pub enum Status {
     Usage,
     /// Code 3: the source failed. Nothing was written.
     ReadFault,
-    /// Code 4: the sink failed. A front of the output is written.
+    /// Code 4: the sink failed. A prefix of the output is written.
     WriteFault,
     /// Code 6: the block of this number, from 0, is refused. Nothing was written.
     Refused { block: u32, why: Invalid },

@@ -1,9 +1,11 @@
+//! Why a replay ends before there is a verdict.
+
 ghost use Rattle.std.specs.Prelude.{◌≡◌};
 ghost use Rattle.sx_run.specs.declared.stop.Stop.TheVariants as stop;
 
 use sx_bytes::NoMemory;
 
-/// Why a replay stops before it knows a state and a block.
+// Why a replay stops before it knows a state and a block.
 #[derive(Clone, Copy, Debug, PartialEq, Eq)]
 pub enum Stop {
     NoMemory,

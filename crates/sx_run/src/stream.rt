@@ -1,36 +1,33 @@
 //! The input is one state record and one block record.
 
-ghost use Rattle.std.specs.Prelude.{◌≡◌, ◌^◌, ◌≤◌, length, IfOk, OnOk, IsErrOf};
+ghost use Rattle.std.specs.Prelude.{◌≡◌, ◌^◌, ◌≤◌, length, IfOk, OnOk, IsErrOf, IsTrue};
 ghost use Rattle.sx_base.specs.Outside.{Rose};
 ghost use Rattle.sx_record.specs.Frame.{most_bytes, record_bytes};
 ghost use Rattle.sx_record.specs.Stream.{Took};
-ghost use Rattle.sx_run.specs.Stream.{HasNoRecord, HasMore, IsAtEnd, TookBoth, HasNotBoth};
+ghost use Rattle.sx_run.specs.Stream.{HasNoRecord, HasMore, IsAtEnd, TookBoth, HasNotBoth, UnlessReadFault};
 
 use crate::stop::Stop;
 use std::alloc::Global;
 use sx_base::Source;
 use sx_bytes::Bytes;
-use sx_record::{RecordFault, next_record};
-
-// The tags of a state and of a block.
-const STATE: u8 = 1;
-
-const BLOCK: u8 = 3;
-
-// How many bytes stand before a payload.
-const FRAME_BYTES: u64 = 5;
+use sx_record::{FRAME_BYTES, RecordFault, next_record, tag};
 
 // The payload of the next record, which has this tag and begins at this offset.
-#[tactic(auto, using(crate::proofs::Framing::none_at_end, crate::proofs::Framing::none_at_fault))]
-fn payload_of<S: Source>(alloc: Global, source: &mut S, at: u64, tag: u8) -> Result<Bytes, Stop>
+#[tactic(auto, using(crate::proofs::InputRecords::none_at_end, crate::proofs::InputRecords::none_at_fault))]
+fn payload_of<S: Source>(alloc: Global, source: &mut S, at: u64, wanted: u8) -> Result<Bytes, Stop>
     requires { at ≤ 2 ^ 63 }
-    ensures ok { IfOk result (λ payload. Took (S.left source.old) (S.left source.new) (record_bytes tag payload)) }
+    ensures ok { IfOk result (λ payload. Took (S.left source.old) (S.left source.new) (record_bytes wanted payload)) }
     ensures most { IfOk result (λ payload. length payload ≤ most_bytes) }
-    ensures falls_never { S.faults source.old ≤ S.faults source.new }
-    ensures not_built { IsErrOf result Stop.NotBuilt → HasNoRecord (S.left source.old) tag }
+    ensures not_built { IsErrOf result Stop.NotBuilt → HasNoRecord (S.left source.old) wanted }
+
+    // The count of faults rises where the answer is ReadFault. At each other answer, NoMemory among
+    // them, the count of a strict source does not change.
+    ensures steady { UnlessReadFault result (IsTrue (S.strict source.old) → S.faults source.new ≡ S.faults source.old) }
     ensures read_fault { IsErrOf result Stop.ReadFault → Rose (S.faults source.old) (S.faults source.new) }
+    ensures falls_never { S.faults source.old ≤ S.faults source.new }
+    ensures kept { S.strict source.new ≡ S.strict source.old }
 {
-    match next_record(alloc, source, at, &[tag]) {
+    match next_record(alloc, source, at, &[wanted]) {
         Ok(Some(record)) => Ok(record.payload),
         Ok(None) => Err(Stop::NotBuilt),
         Err(RecordFault::Form(_)) => Err(Stop::NotBuilt),
@@ -40,12 +37,18 @@ fn payload_of<S: Source>(alloc: Global, source: &mut S, at: u64, tag: u8) -> Res
 }
 
 // The end of the input, where no record may stand.
-#[tactic(auto, using(crate::proofs::Framing::at_end, crate::proofs::Framing::more_at_fault, crate::proofs::Framing::none_listed))]
+#[tactic(auto, using(crate::proofs::InputRecords::at_end, crate::proofs::InputRecords::more_at_fault, crate::proofs::InputRecords::none_listed))]
 fn end_of<S: Source>(alloc: Global, source: &mut S, at: u64) -> Result<(), Stop>
     requires { at ≤ 2 ^ 63 }
     ensures ok { OnOk result (IsAtEnd (S.left source.old) (S.left source.new)) }
     ensures not_built { IsErrOf result Stop.NotBuilt → HasMore (S.left source.old) }
+
+    // The count of faults rises where the answer is ReadFault. At each other answer, NoMemory among
+    // them, the count of a strict source does not change.
+    ensures steady { UnlessReadFault result (IsTrue (S.strict source.old) → S.faults source.new ≡ S.faults source.old) }
     ensures read_fault { IsErrOf result Stop.ReadFault → Rose (S.faults source.old) (S.faults source.new) }
+    ensures falls_never { S.faults source.old ≤ S.faults source.new }
+    ensures kept { S.strict source.new ≡ S.strict source.old }
 {
     match next_record(alloc, source, at, &[]) {
         Ok(None) => Ok(()),
@@ -56,26 +59,32 @@ fn end_of<S: Source>(alloc: Global, source: &mut S, at: u64) -> Result<(), Stop>
     }
 }
 
-/// The payloads of a state and of a block.
+// The payloads of a state and of a block.
 #[derive(Debug, Drop)]
 pub struct Input {
     pub state: Bytes,
     pub block: Bytes,
 }
 
-/// Reads the two records and the end of the input. `NotBuilt` comes exactly where the input is
-/// something else.
-#[tactic(auto, using(crate::proofs::Framing::not_both_second, crate::proofs::Framing::not_both_end))]
+// Reads the two records and the end of the input. `NotBuilt` comes exactly where the input is
+// something else.
+#[tactic(auto, using(crate::proofs::InputRecords::not_both_second, crate::proofs::InputRecords::not_both_end))]
 pub fn read_input<S: Source>(alloc: Global, source: &mut S) -> Result<Input, Stop>
     ensures ok { IfOk result (λ input. TookBoth (S.left source.old) (S.left source.new) input.state input.block) }
     ensures state_fits { IfOk result (λ input. length input.state ≤ most_bytes) }
     ensures block_fits { IfOk result (λ input. length input.block ≤ most_bytes) }
     ensures not_built { IsErrOf result Stop.NotBuilt → HasNotBoth (S.left source.old) }
+
+    // The count of faults rises where the answer is ReadFault. At each other answer, NoMemory among
+    // them, the count of a strict source does not change.
+    ensures steady { UnlessReadFault result (IsTrue (S.strict source.old) → S.faults source.new ≡ S.faults source.old) }
     ensures read_fault { IsErrOf result Stop.ReadFault → Rose (S.faults source.old) (S.faults source.new) }
+    ensures falls_never { S.faults source.old ≤ S.faults source.new }
+    ensures kept { S.strict source.new ≡ S.strict source.old }
 {
-    let state = payload_of(alloc, source, 0, STATE)?;
+    let state = payload_of(alloc, source, 0, tag::STATE)?;
     let at = FRAME_BYTES + state.items().len() as u64;
-    let block = payload_of(alloc, source, at, BLOCK)?;
+    let block = payload_of(alloc, source, at, tag::BLOCK)?;
     let end = at + FRAME_BYTES + block.items().len() as u64;
     end_of(alloc, source, end)?;
     Ok(Input { state, block })

@@ -1,11 +1,16 @@
+//! Tables of sums of payments, by place and asset.
+
 ghost use Rattle.std.specs.Prelude.{◌≡◌, ℕ, ◌+◌, ◌*◌, ◌<◌, ◌≤◌, ◌^◌, All, length, slice_index, IfOk};
-ghost use Rattle.sx_run.specs.Sums.{HasShape, HasSums, number_at, sum_at};
+ghost use Rattle.sx_run.specs.Sums.{HasShape, HasSums, greatest_at, sum_at};
+ghost use Rattle.sx_tx.specs.Transactions.{most_transactions};
+ghost use Rattle.sx_base.specs.Ranges.{most_assets};
+ghost use Rattle.sx_ledger.specs.Ledger.{most_accounts};
 
 use crate::payment::Payments;
 use std::alloc::Global;
 use sx_bytes::NoMemory;
 
-/// A table of sums: one for each asset at each place of a list of accounts.
+// A table of sums: one for each asset at each place of a list of accounts.
 #[derive(Debug, Drop)]
 pub struct Sums {
     assets: usize,
@@ -13,10 +18,10 @@ pub struct Sums {
 }
 
 impl Sums {
-    /// The table of so many places and assets, with 0 everywhere.
+    // A table of this size, with 0 everywhere.
     pub fn zero(alloc: Global, places: usize, assets: usize) -> Result<Sums, NoMemory>
-        requires few_places { places ≤ 65536 }
-        requires few_assets { assets ≤ 32 }
+        requires few_places { places ≤ most_accounts }
+        requires few_assets { assets ≤ most_assets }
         ensures shape { IfOk result (λ sums. HasShape sums places assets) }
         ensures zero { IfOk result (λ sums. (place asset : ℕ) → place < places → asset < assets → sum_at sums place asset ≡ 0) }
     {
@@ -24,7 +29,7 @@ impl Sums {
         Ok(Sums { assets, cells })
     }
 
-    /// The sum of an asset at a place.
+    // The sum of an asset at a place.
     pub fn at(&self, place: usize, asset: usize) -> u128
         requires asset { asset < self.now.assets }
         requires place { (place + 1) * self.now.assets ≤ length self.now.cells.items }
@@ -33,7 +38,7 @@ impl Sums {
         self.cells[place * self.assets + asset]
     }
 
-    /// Adds units of an asset at a place.
+    // Adds units of an asset at a place.
     fn add(&mut self, place: usize, asset: usize, units: u64)
         requires asset { asset < self.old.assets }
         requires place { (place + 1) * self.old.assets ≤ length self.old.cells.items }
@@ -47,7 +52,7 @@ impl Sums {
     }
 }
 
-/// The sum of each asset at each place, where each payment counts at the place beside it. One pass.
+// The sum of each asset at each place, where each payment counts at the place beside it. One pass.
 pub fn sums_of(
     alloc: Global,
     accounts: usize,
@@ -55,9 +60,9 @@ pub fn sums_of(
     payments: &Payments,
     places: &[u32],
 ) -> Result<Sums, NoMemory>
-    requires few_accounts { accounts ≤ 65536 }
-    requires few_assets { assets ≤ 32 }
-    requires few { length payments.now ≤ 1000000 }
+    requires few_accounts { accounts ≤ most_accounts }
+    requires few_assets { assets ≤ most_assets }
+    requires few { length payments.now ≤ most_transactions }
     requires one_place { length places.now ≡ length payments.now }
     requires places { All (λ place. place < accounts) places.now }
     requires of_assets { All (λ payment. payment.asset < assets) payments.now }
@@ -76,8 +81,8 @@ pub fn sums_of(
     Ok(sums)
 }
 
-/// The greatest number at each place, where each payment counts at the place beside it, or 0 where
-/// there is no payment. One pass.
+// The greatest sequence number at each place, where each payment counts at the place beside it, or 0
+// where there is no payment. One pass.
 pub fn greatest_of(
     alloc: Global,
     accounts: usize,
@@ -86,15 +91,15 @@ pub fn greatest_of(
 ) -> Result<Vec<u64>, NoMemory>
     requires one_place { length places.now ≡ length payments.now }
     requires places { All (λ place. place < accounts) places.now }
-    ensures length { IfOk result (λ numbers. length numbers.items ≡ accounts) }
-    ensures greatest { IfOk result (λ numbers. (place : ℕ) → place < accounts → slice_index numbers.items place ≡ number_at place places.now payments.now) }
-    ensures in_range { IfOk result (λ numbers. All (λ number. number < 2 ^ 63) numbers.items) }
+    ensures length { IfOk result (λ seqs. length seqs.items ≡ accounts) }
+    ensures greatest { IfOk result (λ seqs. (place : ℕ) → place < accounts → slice_index seqs.items place ≡ greatest_at place places.now payments.now) }
+    ensures in_range { IfOk result (λ seqs. All (λ seq. seq < 2 ^ 63) seqs.items) }
 {
-    let mut numbers = vec![in alloc; 0; accounts]?;
+    let mut seqs = vec![in alloc; 0; accounts]?;
     for at in 0..places.len() {
         let payment = payments.at(at);
-        let number = &mut numbers[places[at] as usize];
-        *number = (*number).max(payment.seq.get());
+        let greatest = &mut seqs[places[at] as usize];
+        *greatest = (*greatest).max(payment.seq.get());
     }
-    Ok(numbers)
+    Ok(seqs)
 }

@@ -1,3 +1,5 @@
+//! The line that says how a run ended.
+
 ghost use Rattle.std.specs.Prelude.{◌≡◌, ◌++◌, IfOk, string_bytes};
 ghost use Rattle.sx_run.specs.Texts.{digests_text, reason_text, status_text};
 

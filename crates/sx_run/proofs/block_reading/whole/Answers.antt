@@ -4,7 +4,7 @@ use Rattle.sx_run.proofs.block_reading.whole.Goals as goal
 
 pub returns-clause-body : goal.returns-clause-body
 returns-clause-body c = record {
-  behind = c.header.new.from;
+  after_header = c.header.new.from;
   end = c.body.new.from;
   header = ap header_at (sym c.new-reader.ensures) ∙ c.in_ok-header.ensures;
   at = sym c.place-body_at.ensures.place;

@@ -1,9 +1,10 @@
 use Rattle.std.proofs.Common.{◌≡◌, ℕ, List, ◌∙◌, ap, rules}
 use Rattle.sha2.specs.Sha256.{sha256}
 use Rattle.sx_record.specs.Frame.{record_bytes}
+use Rattle.sx_record.specs.Tags.{state_tag}
 use Rattle.sx_run.proofs.judging.decide.Goals as goal
 
 pub settle-requires-clause-parent : goal.settle-requires-clause-parent
 settle-requires-clause-parent c =
-    let same : c.args.block.now.header.parent ≡ c.record_digest-real.result = search rules in
-    same ∙ c.record_digest-real.ensures ∙ ap (λ (s : List ℕ). sha256 (record_bytes 1 s)) (c.items.ensures ∙ c.requires.state)
+    let same : c.args.block.now.header.parent ≡ c.in_ok-real.real = search rules in
+    same ∙ c.in_ok-real.ensures ∙ ap (λ (s : List ℕ). sha256 (record_bytes state_tag s)) (c.items.ensures ∙ c.requires.state)

@@ -1,5 +1,5 @@
 use Rattle.std.proofs.Common.{refl, sym, ◌∙◌}
-use Rattle.sx_run.proofs.Deciding.{form_may_pay}
+use Rattle.sx_run.proofs.Decisions.{form_may_pay}
 use Rattle.sx_run.proofs.judging.ready_of.Goals as goal
 
 pub returns-in-Some-2-clause-ready : goal.returns-in-Some-2-clause-ready

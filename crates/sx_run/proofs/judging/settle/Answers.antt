@@ -1,5 +1,5 @@
 use Rattle.std.proofs.Common.{sym}
-use Rattle.sx_run.proofs.Deciding.{closed_result}
+use Rattle.sx_run.proofs.Decisions.{closed_result}
 use Rattle.sx_run.proofs.judging.settle.Goals as goal
 
 pub returns-in-After : goal.returns-in-After

@@ -1,4 +1,4 @@
-use Rattle.sx_run.proofs.Conserving as conserving
+use Rattle.sx_run.proofs.ConservationLaws as conserving
 use Rattle.sx_run.proofs.laws.payments_conserve.Goals as goal
 
 pub returns : goal.returns

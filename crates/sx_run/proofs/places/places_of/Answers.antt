@@ -2,7 +2,7 @@ use Rattle.std.proofs.Common.{◌<◌, length, sym, subst, arith}
 use Rattle.std.proofs.lemmas.List.{take_all}
 use Rattle.std.proofs.lemmas.List.Elements.{All-more, All-same}
 use Rattle.sx_run.specs.Places.{MayPay}
-use Rattle.sx_run.proofs.Standing.{StandAt-push}
+use Rattle.sx_run.proofs.AccountPlaces.{StandAt-push}
 use Rattle.sx_run.proofs.places.places_of.Goals as goal
 
 pub loop-at-preserved : goal.loop-at-preserved

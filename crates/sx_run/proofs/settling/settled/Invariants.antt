@@ -9,5 +9,5 @@ invariant-loop-account l = record {
   is_finite : (goal.iterator-loop-account).is_finite l.account-iterator;
   as_many : length l.after.items ≡ length l.yielded;
   each : (place : ℕ) (entry : Account) → slice_get l.yielded place ≡ Some entry →
-      IfSome (slice_get l.after.items place) (IsSettled l.flows place entry);
+      IfSome (slice_get l.after.items place) (IsSettled l.totals place entry);
 }

@@ -1,8 +1,8 @@
 use Rattle.std.proofs.Common.{◌≡◌, ◌+◌, ◌<◌, ◌==◌, ◌&&◌, cond, length, get_or, ◌∙◌, arith}
 use Rattle.std.proofs.lemmas.List.{get_or_default}
 use Rattle.sx_run.specs.Sums.{sum_at}
-use Rattle.sx_run.proofs.Counting.{units_at-drop}
-use Rattle.sx_run.proofs.Table.{added_at, cond_zero-le}
+use Rattle.sx_run.proofs.SumsAreEffects.{paid_at-drop}
+use Rattle.sx_run.proofs.SumsTable.{added_at, cond_zero-le}
 use Rattle.sx_run.proofs.sums.sums_of.Goals as goal
 
 pub loop-at-preserved : goal.loop-at-preserved
@@ -23,7 +23,7 @@ loop-at-preserved c =
       shape = record { assets = c.add.ensures.assets ∙ kept.shape.assets; cells = c.add.ensures.cells ∙ kept.shape.cells };
       sums = λ place asset in_place in_asset.
           let here : sum_at new place asset ≡ sum_at old place asset + cond ((at == place) && (payment.asset == asset)) payment.amount 0 = added place asset (omega arith) in
-          let rest = units_at-drop place asset places payments i at payment in_places in_payments at_is c.at-payment.ensures in
+          let rest = paid_at-drop place asset places payments i at payment in_places in_payments at_is c.at-payment.ensures in
           omega (arith, here, rest, kept.sums place asset in_place in_asset);
       small = λ place asset in_place in_asset.
           let here : sum_at new place asset ≡ sum_at old place asset + cond ((at == place) && (payment.asset == asset)) payment.amount 0 = added place asset (omega arith) in

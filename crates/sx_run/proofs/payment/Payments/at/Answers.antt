@@ -1,7 +1,7 @@
 use Rattle.std.proofs.Common.{◌≡◌, ◌<◌, length, sym, ap, ◌∙◌, arith}
 use Rattle.std.proofs.lemmas.Option.{same_Some}
 use Rattle.sx_run.specs.Payments.{payment_in, payments_among}
-use Rattle.sx_run.proofs.Among.{as_many, at_place}
+use Rattle.sx_run.proofs.PaymentsAmong.{as_many, at_place}
 use Rattle.sx_run.proofs.payment.Payments.at.Goals as goal
 use Rattle.sx_tx.specs.declared.tx.Tx.{Tx}
 

@@ -1,8 +1,8 @@
 use Rattle.std.proofs.Common.{sym, arith}
 use Rattle.std.proofs.lemmas.List.{take_all}
 use Rattle.std.proofs.lemmas.List.Elements.{All-same}
-use Rattle.sx_run.specs.Effects.{IsPay}
-use Rattle.sx_run.proofs.Among.{txs_are}
+use Rattle.sx_run.specs.PaymentEffects.{IsPay}
+use Rattle.sx_run.proofs.PaymentsAmong.{txs_are}
 use Rattle.sx_run.proofs.payment.Payments.of.Goals as goal
 
 pub returns-clause-same : goal.returns-clause-same

@@ -1,5 +1,5 @@
 use Rattle.std.proofs.Common.{All, take}
-use Rattle.sx_run.specs.Effects.{IsPay}
+use Rattle.sx_run.specs.PaymentEffects.{IsPay}
 use Rattle.sx_run.proofs.payment.Payments.of.Given as goal
 
 abbrev pub invariant-loop-tx : goal.invariant-loop-tx

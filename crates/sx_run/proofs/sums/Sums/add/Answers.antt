@@ -1,6 +1,6 @@
 use Rattle.std.proofs.Common.{◌*◌, ◌+◌}
 use Rattle.std.proofs.lemmas.List.{get_or-set_other}
-use Rattle.sx_run.proofs.Table.{apart_in_table}
+use Rattle.sx_run.proofs.SumsTable.{apart_in_table}
 use Rattle.sx_run.proofs.sums.Sums.add.Goals as goal
 
 pub returns-clause-elsewhere : goal.returns-clause-elsewhere

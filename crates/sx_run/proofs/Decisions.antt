@@ -1,5 +1,5 @@
 -- From what was applied to what is decided.
-use Rattle.std.proofs.Common.{◌≡◌, ℕ, ◌+◌, ◌^◌, ◌<◌, Bool, true, false, eqb, List, [], length, All, map, Result, Ok, Err, refl, sym, ap, subst, ◌∙◌}
+use Rattle.std.proofs.Common.{◌≡◌, ℕ, ◌+◌, ◌≤◌, Bool, true, false, eqb, List, [], length, All, map, Result, Ok, Err, refl, sym, ap, subst, ◌∙◌}
 use Rattle.std.specs.Prelude.{IfOk, IsTrue}
 use Rattle.std.specs.Cmp.Lexicographic.{pointwise, other_text, same_text}
 use Rattle.std.proofs.lemmas.List.{nil_from_length}
@@ -17,13 +17,14 @@ use Rattle.sx_run.specs.declared.payment.Payment.{Payment}
 use Rattle.sx_run.specs.declared.judging.Ready.{Ready}
 use Rattle.sx_run.specs.Block.{block_bytes, IsBlock}
 use Rattle.sx_run.specs.BlockReading.{block_at}
-use Rattle.sx_run.specs.Effects.{IsPay, Passes, ledger_after, NoneOverdrawn, IsFirstOverdrawn}
+use Rattle.sx_run.specs.PaymentEffects.{IsPay, Passes, ledger_after, NoneOverdrawn, IsFirstOverdrawn}
 use Rattle.sx_run.specs.Payments.{tx_of}
 use Rattle.sx_run.specs.Places.{MayPay}
 use Rattle.sx_run.specs.Validity.{IsReplayable, HasParent, HasBody, Refuses, state_record, ledger_digest}
-use Rattle.sx_run.specs.Verdict.{Closes, Decides, Judges, SpellsNone, IsNext, IsReady}
+use Rattle.sx_run.specs.Verdict.{Closes, Decides, Judges, ArePayloadsOfNone, IsNext, IsReady}
 use Rattle.sx_run.proofs.BlockLaws.{block_again}
-use Rattle.sx_run.proofs.Paying.{all_may_pay, all_pass, all_pay}
+use Rattle.sx_run.proofs.PaymentsAsTxs.{all_may_pay, all_pass, all_pay}
+use Rattle.sx_ledger.specs.Ledger.{most_height}
 
 pub closed : (parts after : Parts) (block : Block) (verdict : Verdict) → HasParent parts block → HasBody block → NoneOverdrawn parts block.txs
     → after ≡ ledger_after parts block.txs → Closes after block.header.after verdict → Decides parts block verdict
@@ -54,7 +55,7 @@ abbrev pub IsOnly : List ℕ → Parts → Type 0
 IsOnly state parts = (other : Parts) → IsLedger other → state ≡ state_bytes other → other ≡ parts
 
 pub none_of_form : (state block : List ℕ) (parts : Parts) (said : Block) → IsOnly state parts → IsBlock said → block ≡ block_bytes said
-    → (IsReplayable parts said → ⊥) → SpellsNone state block
+    → (IsReplayable parts said → ⊥) → ArePayloadsOfNone state block
 none_of_form state block parts said only is block_is none = λ other_parts other form other_state other_block.
     let one : other_parts ≡ parts = only other_parts form.ledger other_state in
     let two : other ≡ said = one_block other said form.form is (sym other_block ∙ block_is) in
@@ -78,7 +79,7 @@ is_replayable parts block found ledger is ready =
 pub judged : (state block : List ℕ) (parts : Parts) (said : Block) (found : Ready) (verdict : Verdict) → IsLedger parts → state ≡ state_bytes parts → IsBlock said → block ≡ block_bytes said
     → IsReady parts said found → Decides parts said verdict → Judges state block verdict
 judged state block parts said found verdict ledger state_is is block_is ready decided =
-    record { parts = parts; said = said; spelled = record { form = is_replayable parts said found ledger is ready; state_is = state_is; block_is = block_is }; decided = decided }
+    record { parts = parts; said = said; payloads = record { form = is_replayable parts said found ledger is ready; state_is = state_is; block_is = block_is }; decided = decided }
 
 -- a block of payments is of the form only where they may all be made
 pub form_may_pay : (parts : Parts) (block : Block) (payments : List Payment) → block.txs ≡ map tx_of payments → IsReplayable parts block → All (MayPay parts) payments
@@ -86,12 +87,12 @@ form_may_pay parts block payments same form = all_may_pay parts form.ledger.by_i
 
 -- ---- the tests before the payments
 
-next_told : (parts : Parts) (block : Block) → parts.offers ≡ [] → parts.height + 1 < 2 ^ 63 → block.header.height ≡ parts.height + 1
+next_told : (parts : Parts) (block : Block) → parts.offers ≡ [] → parts.height + 1 ≤ most_height → block.header.height ≡ parts.height + 1
     → (same : Bool) → same ≡ pointwise eqb block.header.prices parts.prices → (IsTrue same → IsNext parts block) × (IsNext parts block → IsTrue same)
 next_told parts block none room height true told = (λ _. record { no_offers = none; room = room; height = height; prices = same_text block.header.prices parts.prices told }, λ _. refl)
 next_told parts block none room height false told = (λ e. absurd cc, λ next. absurd (other_text block.header.prices parts.prices told next.prices))
 
-pub is_next : (parts : Parts) (block : Block) (offers : ℕ) (same : Bool) → offers ≡ length parts.offers → offers ≡ 0 → parts.height + 1 < 2 ^ 63 → block.header.height ≡ parts.height + 1
+pub is_next : (parts : Parts) (block : Block) (offers : ℕ) (same : Bool) → offers ≡ length parts.offers → offers ≡ 0 → parts.height + 1 ≤ most_height → block.header.height ≡ parts.height + 1
     → same ≡ pointwise eqb block.header.prices parts.prices → (IsTrue same → IsNext parts block) × (IsNext parts block → IsTrue same)
 is_next parts block offers same number none room height told =
     next_told parts block (nil_from_length parts.offers (sym number ∙ none)) room height same told

@@ -14,12 +14,12 @@ use Rattle.sx_ledger.specs.Body.{account_after, accounts_after, cancelled, creat
 use Rattle.sx_ledger.specs.Ledger.{assets_of, holds_id, ids}
 use Rattle.sx_ledger.specs.Static.{has_account, last_of}
 use Rattle.sx_ledger.proofs.Lookup.{entry_at, is_known, known, last_is}
-use Rattle.sx_ledger.proofs.Standing.{stands}
+use Rattle.sx_ledger.proofs.PlacesOfIds.{stands}
 use Rattle.sx_run.specs.declared.payment.Payment.{Payment}
-use Rattle.sx_run.specs.Effects.{IsPay, Passes}
+use Rattle.sx_run.specs.PaymentEffects.{IsPay, Passes}
 use Rattle.sx_run.specs.Payments.{tx_of}
 use Rattle.sx_run.specs.Places.{MayPay}
-use Rattle.sx_run.proofs.Standing.{contains_at}
+use Rattle.sx_run.proofs.AccountPlaces.{contains_at}
 
 -- ---- transactions that are payments
 

@@ -16,12 +16,13 @@ use Rattle.sx_run.specs.declared.judging.Verdict.TheVariants as verdict
 use Rattle.sx_run.specs.declared.status.Status.{Status}
 use Rattle.sx_run.specs.declared.status.Status.TheVariants as status
 use Rattle.sx_record.specs.Frame.{most_bytes, record_bytes}
+use Rattle.sx_record.specs.Tags.{state_tag, block_tag}
 use Rattle.sx_run.specs.Block.{block_bytes, IsBlock}
 use Rattle.sx_run.specs.Replay.{IsInput, IsNotBuilt, IsRead, IsWritten, Answers, OneReading, input_of}
 use Rattle.sx_run.specs.Stream.{HasNotBoth, TookBoth}
-use Rattle.sx_run.specs.Verdict.{Judges, JudgesInput, SpellsNone}
-use Rattle.sx_run.proofs.Deciding.{one_block}
-use Rattle.sx_run.proofs.Framing.{records_same}
+use Rattle.sx_run.specs.Verdict.{Judges, JudgesInput, ArePayloadsOfNone}
+use Rattle.sx_run.proofs.Decisions.{one_block}
+use Rattle.sx_run.proofs.InputRecords.{records_same}
 use Rattle.sx_tx.specs.declared.kind.Kind.{Kind}
 use Rattle.sx_tx.specs.declared.kind.Kind.TheVariants as kind
 use Rattle.sx_tx.specs.declared.tx.Tx.{Tx}
@@ -71,11 +72,11 @@ not_built_of_both (Some bytes) none = λ parts block form e.
     none (state_bytes parts) (block_bytes block) (omega (arith, state_fits parts form.ledger)) (block_fits block form.form) e
 
 pub not_built_of_none : (input after : Option (List ℕ)) (state block : List ℕ) → TookBoth input after state block → length state ≤ most_bytes → length block ≤ most_bytes
-    → SpellsNone state block → IsNotBuilt input
+    → ArePayloadsOfNone state block → IsNotBuilt input
 not_built_of_none None after state block took small_state small_block none = tt
 not_built_of_none (Some bytes) after state block took small_state small_block none = λ parts said form e.
-    let first = records_same 1 state (state_bytes parts) (record_bytes 3 block) (record_bytes 3 (block_bytes said)) (omega arith) small_state (omega (arith, state_fits parts form.ledger)) (sym took.0 ∙ e) in
-    let two : record_bytes 3 block ++ [] ≡ record_bytes 3 (block_bytes said) ++ [] = ap (λ (t : List ℕ). t ++ []) first.1 in
+    let first = records_same state_tag state (state_bytes parts) (record_bytes block_tag block) (record_bytes block_tag (block_bytes said)) (omega arith) small_state (omega (arith, state_fits parts form.ledger)) (sym took.0 ∙ e) in
+    let two : record_bytes block_tag block ++ [] ≡ record_bytes block_tag (block_bytes said) ++ [] = ap (λ (t : List ℕ). t ++ []) first.1 in
     let second = records_same 3 block (block_bytes said) [] [] (omega arith) small_block (block_fits said form.form) two in
     none parts said form first.0 second.0
 
@@ -84,7 +85,7 @@ not_built_of_none (Some bytes) after state block took small_state small_block no
 whole_input : (input after : Option (List ℕ)) (state block : List ℕ) (parts : Parts) (said : Block) → TookBoth input after state block → state ≡ state_bytes parts → block ≡ block_bytes said → IsInput input (input_of parts said)
 whole_input None after state block parts said took state_is block_is = tt
 whole_input (Some bytes) after state block parts said took state_is block_is =
-    took.0 ∙ ap (λ (s : List ℕ). record_bytes 1 s ++ record_bytes 3 block) state_is ∙ ap (λ (b : List ℕ). record_bytes 1 (state_bytes parts) ++ record_bytes 3 b) block_is
+    took.0 ∙ ap (λ (s : List ℕ). record_bytes state_tag s ++ record_bytes block_tag block) state_is ∙ ap (λ (b : List ℕ). record_bytes state_tag (state_bytes parts) ++ record_bytes block_tag b) block_is
 
 whole_read : (input after : Option (List ℕ)) (state block : List ℕ) → TookBoth input after state block → IsRead input after
 whole_read None after state block took = tt
@@ -94,16 +95,16 @@ pub input_judged : (input after : Option (List ℕ)) (state block : List ℕ) (v
 input_judged input after state block (verdict.Valid output) took judged = record {
   parts = judged.parts;
   block = judged.said;
-  form = judged.spelled.form;
-  read = whole_input input after state block judged.parts judged.said took judged.spelled.state_is judged.spelled.block_is;
+  form = judged.payloads.form;
+  read = whole_input input after state block judged.parts judged.said took judged.payloads.state_is judged.payloads.block_is;
   valid = judged.decided.0;
   written = (judged.decided.1, whole_read input after state block took);
 }
 input_judged input after state block (verdict.Refused why) took judged = record {
   parts = judged.parts;
   block = judged.said;
-  form = judged.spelled.form;
-  read = whole_input input after state block judged.parts judged.said took judged.spelled.state_is judged.spelled.block_is;
+  form = judged.payloads.form;
+  read = whole_input input after state block judged.parts judged.said took judged.payloads.state_is judged.payloads.block_is;
   refused = judged.decided;
 }
 
@@ -134,11 +135,11 @@ answered input after before now output status.NoMemory judged written = absurd w
 
 -- ---- one reading
 
--- where two states of one spelling are the same, an input is one ledger and one block at most
+-- where two states of one encoding are the same, an input is one ledger and one block at most
 pub one_input : IsInjective state_bytes IsLedger → OneReading
 one_input one_state parts other block next form form_next e =
-    let first = records_same 1 (state_bytes parts) (state_bytes other) (record_bytes 3 (block_bytes block)) (record_bytes 3 (block_bytes next)) (omega arith)
+    let first = records_same state_tag (state_bytes parts) (state_bytes other) (record_bytes block_tag (block_bytes block)) (record_bytes block_tag (block_bytes next)) (omega arith)
     (omega (arith, state_fits parts form.ledger)) (omega (arith, state_fits other form_next.ledger)) e in
-    let two : record_bytes 3 (block_bytes block) ++ [] ≡ record_bytes 3 (block_bytes next) ++ [] = ap (λ (t : List ℕ). t ++ []) first.1 in
+    let two : record_bytes block_tag (block_bytes block) ++ [] ≡ record_bytes block_tag (block_bytes next) ++ [] = ap (λ (t : List ℕ). t ++ []) first.1 in
     let second = records_same 3 (block_bytes block) (block_bytes next) [] [] (omega arith) (block_fits block form.form) (block_fits next form_next.form) two in
     (one_state parts other form.ledger form_next.ledger first.0, one_block block next form.form form_next.form second.0)

@@ -1,10 +1,11 @@
--- What reading a record, or the end, says of the bytes that a source had.
+-- What the next record, or the end, says of the bytes that a source had.
 use Rattle.std.proofs.Common.{◌≡◌, ℕ, ◌+◌, ◌<◌, ◌≤◌, List, [], ◌∷◌, ◌++◌, length, Option, Some, None, Result, Ok, Err, Contains, refl, sym, ap, ◌∙◌, arith}
 use Rattle.std.proofs.lemmas.List.{append-nil}
 use Rattle.sx_bytes.specs.declared.fault.FormFault.{FormFault}
 use Rattle.sx_record.specs.declared.fault.RecordFault.TheVariants as record_fault
 use Rattle.sx_record.specs.declared.frame.Record.{Record}
 use Rattle.sx_record.specs.Frame.{most_bytes, record_bytes}
+use Rattle.sx_record.specs.Tags.{state_tag, block_tag}
 use Rattle.sx_record.specs.Decoding.{record_at}
 use Rattle.sx_record.specs.Stream.{Took, DecodesStream}
 use Rattle.sx_record.proofs.Encoding.{decodes_every_record, are_records_prefix_free, ends_only_at_end}
@@ -15,7 +16,7 @@ use Rattle.sx_run.specs.Stream.{HasNoRecord, HasMore, IsAtEnd, HasNotBoth}
 abbrev Answer : Type 0
 Answer = Result (Option Record) FormFault × List ℕ
 
--- a record of the tag in front is read
+-- a record of the tag at the beginning is decoded
 front_read : (tag at : ℕ) (bytes payload rest : List ℕ) → tag < 256 → length payload ≤ most_bytes → bytes ≡ record_bytes tag payload ++ rest
     → (found : Record) × (record_at (tag ∷ []) at bytes ≡ (Ok (Some found), rest))
 front_read tag at bytes payload rest small fits e =
@@ -53,29 +54,29 @@ none_listed a tag (i, lt, is) = absurd (omega arith)
 
 -- ---- the two records
 
--- two records of one tag in front of one text are one
+-- two records of one tag at the beginning of one text are the same
 pub records_same : (tag : ℕ) (p q x y : List ℕ) → tag < 256 → length p ≤ most_bytes → length q ≤ most_bytes → record_bytes tag p ++ x ≡ record_bytes tag q ++ y → (p ≡ q) × (x ≡ y)
 records_same tag p q x y small small_p small_q e = let same = are_records_prefix_free tag tag p q x y small small small_p small_q e in (same.1, same.2)
 
--- what is behind the first record is the second one, wherever both are there
-second : (bytes rest s state block : List ℕ) → bytes ≡ record_bytes 1 s ++ rest → length s ≤ most_bytes → length state ≤ most_bytes → bytes ≡ record_bytes 1 state ++ record_bytes 3 block → rest ≡ record_bytes 3 block
-second bytes rest s state block parts small small_state e = (records_same 1 s state rest (record_bytes 3 block) (omega arith) small small_state (sym parts ∙ e)).1
+-- after the first record comes the second one, wherever both are there
+second : (bytes rest s state block : List ℕ) → bytes ≡ record_bytes state_tag s ++ rest → length s ≤ most_bytes → length state ≤ most_bytes → bytes ≡ record_bytes state_tag state ++ record_bytes block_tag block → rest ≡ record_bytes block_tag block
+second bytes rest s state block parts small small_state e = (records_same state_tag s state rest (record_bytes block_tag block) (omega arith) small small_state (sym parts ∙ e)).1
 
-pub not_both_second : (a b : Option (List ℕ)) (s : List ℕ) → Took a b (record_bytes 1 s) → length s ≤ most_bytes → HasNoRecord b 3 → HasNotBoth a
+pub not_both_second : (a b : Option (List ℕ)) (s : List ℕ) → Took a b (record_bytes state_tag s) → length s ≤ most_bytes → HasNoRecord b block_tag → HasNotBoth a
 not_both_second None b s took small none = tt
 not_both_second (Some bytes) None s took small none = absurd (let e : Some took.0 ≡ None = sym took.2 in cc)
 not_both_second (Some bytes) (Some mid) s took small none = λ state block small_state small_block e.
     let mid_is : mid ≡ took.0 = cc in
-    let rest : took.0 ≡ record_bytes 3 block = second bytes took.0 s state block took.1 small small_state e in
-    none block [] small_block (mid_is ∙ rest ∙ sym (append-nil (record_bytes 3 block)))
+    let rest : took.0 ≡ record_bytes block_tag block = second bytes took.0 s state block took.1 small small_state e in
+    none block [] small_block (mid_is ∙ rest ∙ sym (append-nil (record_bytes block_tag block)))
 
-pub not_both_end : (a b c : Option (List ℕ)) (s k : List ℕ) → Took a b (record_bytes 1 s) → length s ≤ most_bytes → Took b c (record_bytes 3 k) → length k ≤ most_bytes → HasMore c → HasNotBoth a
+pub not_both_end : (a b c : Option (List ℕ)) (s k : List ℕ) → Took a b (record_bytes state_tag s) → length s ≤ most_bytes → Took b c (record_bytes block_tag k) → length k ≤ most_bytes → HasMore c → HasNotBoth a
 not_both_end None b c s k took small took_block small_k more = tt
 not_both_end (Some bytes) None c s k took small took_block small_k more = absurd (let e : Some took.0 ≡ None = sym took.2 in cc)
 not_both_end (Some bytes) (Some mid) None s k took small took_block small_k more = absurd (let e : Some took_block.0 ≡ None = sym took_block.2 in cc)
 not_both_end (Some bytes) (Some mid) (Some last) s k took small took_block small_k more = λ state block small_state small_block e.
     let mid_is : mid ≡ took.0 = cc in
     let last_is : last ≡ took_block.0 = cc in
-    let rest : took.0 ≡ record_bytes 3 block = second bytes took.0 s state block took.1 small small_state e in
-    let two : record_bytes 3 k ++ took_block.0 ≡ record_bytes 3 block ++ [] = sym took_block.1 ∙ mid_is ∙ rest ∙ sym (append-nil (record_bytes 3 block)) in
-    more (last_is ∙ (records_same 3 k block took_block.0 [] (omega arith) small_k small_block two).1)
+    let rest : took.0 ≡ record_bytes block_tag block = second bytes took.0 s state block took.1 small small_state e in
+    let two : record_bytes block_tag k ++ took_block.0 ≡ record_bytes block_tag block ++ [] = sym took_block.1 ∙ mid_is ∙ rest ∙ sym (append-nil (record_bytes block_tag block)) in
+    more (last_is ∙ (records_same block_tag k block took_block.0 [] (omega arith) small_k small_block two).1)

@@ -20,11 +20,11 @@ IsPayKind (kind.Cancel sell buy limit seq) = ⊥
 abbrev pub IsPay : Tx → Type 0
 IsPay tx = IsPayKind tx.kind
 
--- the ledger has no reason to refuse the transaction, whatever stands beside it
+-- the ledger has no reason to refuse the transaction by itself
 abbrev pub Passes : Parts → Tx → Type 0
 Passes parts tx = static_of parts tx ≡ Ok tt
 
--- the ledger after a block of payments: no offer trades, so no rounding arises and the prices stay
+-- the ledger after a block of payments: no offer trades, so no rounding arises and the prices do not change
 abbrev pub ledger_after : Parts → List Tx → Parts
 ledger_after parts txs = record (body_after parts txs) { height = parts.height + 1 }
 

@@ -1,9 +1,9 @@
 use Rattle.std.proofs.Common.{length, ap, ◌∙◌}
 use Rattle.std.proofs.lemmas.Option.{slice_get_within}
 use Rattle.sx_ledger.specs.declared.parts.Parts.{Parts}
-use Rattle.sx_run.proofs.Counting.{number_at-greatest, units_at-credits, units_at-debits}
-use Rattle.sx_run.proofs.Standing.{All-StandAt, id_at}
-use Rattle.sx_run.proofs.flows.flows_of.Goals as goal
+use Rattle.sx_run.proofs.SumsAreEffects.{greatest_at-greatest, paid_at-credits, paid_at-debits}
+use Rattle.sx_run.proofs.AccountPlaces.{All-StandAt, id_at}
+use Rattle.sx_run.proofs.account_totals.totals_of.Goals as goal
 
 pub sums_of-requires-clause-places : goal.sums_of-requires-clause-places
 sums_of-requires-clause-places c =
@@ -30,19 +30,19 @@ returns c =
     let assets = c.items-assets.ensures ∙ ap (λ (parts : Parts). parts.prices) c.parts-2.ensures.parts in
     let takes = rw (accounts, assets, c.deref.ensures.value) at c.in_ok-debits.ensures.sums in
     let gives = rw (accounts, assets, c.deref-2.ensures.value) at c.in_ok-credits.ensures.sums in
-    let uses = rw (accounts, c.deref-3.ensures.value) at c.in_ok-numbers.ensures.greatest in
+    let uses = rw (accounts, c.deref-3.ensures.value) at c.in_ok-greatest_seqs.ensures.greatest in
     record {
       debits_shape = rw (accounts, assets) at c.in_ok-debits.ensures.shape;
       credits_shape = rw (accounts, assets) at c.in_ok-credits.ensures.shape;
-      one_number = c.in_ok-numbers.ensures.length ∙ ap length accounts;
-      in_range = c.in_ok-numbers.ensures.in_range;
+      one_seq = c.in_ok-greatest_seqs.ensures.length ∙ ap length accounts;
+      in_range = c.in_ok-greatest_seqs.ensures.in_range;
       debits = λ place entry asset there lt.
           takes place asset (slice_get_within parts.accounts place entry there) lt
-          ∙ units_at-debits parts up place entry.id.0 asset (id_at parts.accounts place entry there) payments places.payers.items c.requires.placed.payers;
+          ∙ paid_at-debits parts up place entry.id.0 asset (id_at parts.accounts place entry there) payments places.payers.items c.requires.placed.payers;
       credits = λ place entry asset there lt.
           gives place asset (slice_get_within parts.accounts place entry there) lt
-          ∙ units_at-credits parts up parts.offers place entry.id.0 asset (id_at parts.accounts place entry there) payments places.payees.items c.requires.placed.payees;
-      numbers = λ place entry there.
+          ∙ paid_at-credits parts up parts.offers place entry.id.0 asset (id_at parts.accounts place entry there) payments places.payees.items c.requires.placed.payees;
+      greatest_seqs = λ place entry there.
           uses place (slice_get_within parts.accounts place entry there)
-          ∙ number_at-greatest parts up place entry.id.0 (id_at parts.accounts place entry there) payments places.payers.items c.requires.placed.payers;
+          ∙ greatest_at-greatest parts up place entry.id.0 (id_at parts.accounts place entry there) payments places.payers.items c.requires.placed.payers;
     }

@@ -10,16 +10,16 @@ use Rattle.sx_ledger.specs.declared.parts.Parts.{Parts}
 use Rattle.sx_ledger.specs.Body.{account_after, accounts_after, balances_after, offers_after}
 use Rattle.sx_ledger.specs.Effects.{credit, credits, debit, debits}
 use Rattle.sx_ledger.specs.Ledger.{IsLedger, assets_of, balance_at, offered, total_of}
-use Rattle.sx_ledger.proofs.Adding.{sum_by-moved}
-use Rattle.sx_ledger.proofs.Flowing.{units_of}
-use Rattle.sx_ledger.proofs.Flowing as flowing
+use Rattle.sx_ledger.proofs.ListSums.{sum_by-moved}
+use Rattle.sx_ledger.proofs.PostingTotals.{units_of}
+use Rattle.sx_ledger.proofs.PostingTotals as totals
 use Rattle.sx_run.specs.declared.payment.Payment.{Payment}
 use Rattle.sx_run.specs.Conservation.{PaymentsConserve}
-use Rattle.sx_run.specs.Effects.{NoneOverdrawn, Passes, ledger_after}
+use Rattle.sx_run.specs.PaymentEffects.{NoneOverdrawn, Passes, ledger_after}
 use Rattle.sx_run.specs.Payments.{payments_among, tx_of}
 use Rattle.sx_tx.specs.declared.tx.Tx.{Tx}
-use Rattle.sx_run.proofs.Among.{txs_are}
-use Rattle.sx_run.proofs.Paying.{accounts_are, offers_are}
+use Rattle.sx_run.proofs.PaymentsAmong.{txs_are}
+use Rattle.sx_run.proofs.PaymentsAsTxs.{accounts_are, offers_are}
 
 -- what payments take of an asset is what they give
 taken_is_given : (offers : List Offer) (asset : ℕ) (payments : List Payment)
@@ -64,19 +64,19 @@ balances_stay parts payments asset keeps pass covered lt =
     let number = λ (account : Account). account.id.0 in
     let taken = λ (account : Account). debits txs account.id.0 asset in
     let given = λ (account : Account). credits parts.offers txs account.id.0 asset in
-    let all : All (flowing.Passes parts) txs = λ k d below. flowing.passes parts (get_or txs k d) (pass k d below) in
-    let flows : sum_by taken accounts ≡ sum_by given accounts =
+    let all : All (totals.Passes parts) txs = λ k d below. totals.passes parts (get_or txs k d) (pass k d below) in
+    let moved : sum_by taken accounts ≡ sum_by given accounts =
     sym (fold-map (λ s x. s + debits txs x asset) number 0 accounts)
-    ∙ flowing.debits_in_all accounts keeps.by_id asset txs (flowing.debits_there parts txs all)
+    ∙ totals.debits_in_all accounts keeps.by_id asset txs (totals.debits_there parts txs all)
     ∙ taken_is_given parts.offers asset payments
-    ∙ sym (flowing.credits_in_all accounts keeps.by_id parts.offers asset txs (flowing.credits_there parts txs all))
+    ∙ sym (totals.credits_in_all accounts keeps.by_id parts.offers asset txs (totals.credits_there parts txs all))
     ∙ fold-map (λ s x. s + credits parts.offers txs x asset) number 0 accounts in
     let covers : All (λ account. taken account ≤ balance_at asset account) accounts = λ k d below. covered k (get_or accounts k d) asset (slice_get-get_or accounts k d below) lt in
     let each : All (λ account. balance_at asset (account_after parts txs account) ≡ (balance_at asset account - taken account) + given account) accounts =
     λ k d below. balance_at-after parts txs (get_or accounts k d) asset (let wide = (keeps.accounts k d below).balances in omega (arith, wide)) in
     let after : sum_by (balance_at asset) (map (account_after parts txs) accounts) ≡ sum_by (λ account. (balance_at asset account - taken account) + given account) accounts =
     fold-map (λ s x. s + balance_at asset x) (account_after parts txs) 0 accounts ∙ sum_by-alike _ _ accounts each in
-    omega (arith, after, flows, sum_by-moved (balance_at asset) taken given accounts covers)
+    omega (arith, after, moved, sum_by-moved (balance_at asset) taken given accounts covers)
 
 pub totals_stay : (parts : Parts) (payments : List Payment) (asset : ℕ) → IsLedger parts → All (Passes parts) (map tx_of payments) → NoneOverdrawn parts (map tx_of payments)
     → asset < assets_of parts → total_of (ledger_after parts (map tx_of payments)) asset ≡ total_of parts asset

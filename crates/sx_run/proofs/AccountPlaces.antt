@@ -8,9 +8,10 @@ use Rattle.sx_ledger.specs.declared.account.Account.{Account}
 use Rattle.sx_ledger.specs.declared.parts.Parts.{Parts}
 use Rattle.sx_ledger.specs.Ledger.{ids}
 use Rattle.sx_ledger.proofs.Lookup.{entry_at}
-use Rattle.sx_ledger.proofs.Standing.{same_place}
+use Rattle.sx_ledger.proofs.PlacesOfIds.{same_place}
 use Rattle.sx_run.specs.declared.payment.Payment.{Payment}
 use Rattle.sx_run.specs.Places.{IsOpenTo, StandAt}
+use Rattle.sx_tx.specs.Window.{open_numbers}
 
 -- ---- one place
 
@@ -25,22 +26,22 @@ contains_at xs place x e = (place, slice_get_within xs place x e, get_or_from_sl
 
 -- ---- the window of a place
 
-abbrev pub TakesNumber : ℕ → Account → Type 0
-TakesNumber number entry = (entry.window.last < number) × (number ≤ entry.window.last + 64)
+abbrev pub TakesSeq : ℕ → Account → Type 0
+TakesSeq seq entry = (entry.window.last < seq) × (seq ≤ entry.window.last + open_numbers)
 
--- an account is open to a number as its entry says
-pub takes_number : (parts : Parts) → IsStrictlyIncreasing (ids parts.accounts) → (place account number : ℕ) → slice_get (ids parts.accounts) place ≡ Some account
-    → IsOpenTo parts account number → IfSome (slice_get parts.accounts place) (TakesNumber number)
-takes_number parts up place account number here open_to =
+-- a sequence number is in the window of an account as its entry says
+pub takes_seq : (parts : Parts) → IsStrictlyIncreasing (ids parts.accounts) → (place account seq : ℕ) → slice_get (ids parts.accounts) place ≡ Some account
+    → IsOpenTo parts account seq → IfSome (slice_get parts.accounts place) (TakesSeq seq)
+takes_seq parts up place account seq here open_to =
     let same : open_to.place ≡ place = same_place (ids parts.accounts) up open_to.place place account (id_at parts.accounts open_to.place open_to.entry open_to.there ∙ ap (λ (id : ℕ). Some id) open_to.id) here in
     let there : slice_get parts.accounts place ≡ Some open_to.entry = ap (slice_get parts.accounts) (sym same) ∙ open_to.there in
     rw there (open_to.above, open_to.within)
 
-pub open_to_number : (parts : Parts) (place account number : ℕ) → slice_get (ids parts.accounts) place ≡ Some account
-    → IfSome (slice_get parts.accounts place) (TakesNumber number) → IsOpenTo parts account number
-open_to_number parts place account number here takes =
+pub open_to_seq : (parts : Parts) (place account seq : ℕ) → slice_get (ids parts.accounts) place ≡ Some account
+    → IfSome (slice_get parts.accounts place) (TakesSeq seq) → IsOpenTo parts account seq
+open_to_seq parts place account seq here takes =
     let found = entry_at (λ (entry : Account). entry.id.0) parts.accounts place account here in
-    let both : TakesNumber number found.0 = rw found.1 at takes in
+    let both : TakesSeq seq found.0 = rw found.1 at takes in
     record { place = place; entry = found.0; there = found.1; id = sym found.2; above = both.0; within = both.1 }
 
 -- ---- the places of payments

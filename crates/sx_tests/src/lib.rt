@@ -1,0 +1,13 @@
+//! Tests that need a source or a sink in memory, or several crates.
+//!
+//! What is a row through the program is a stored case under `examples/cases/` and no test. Here is
+//! what no input of the program can show: sources and sinks that give and take their bytes in pieces
+//! of any size, that fail in mid-stream, and that overcome an interruption.
+#![tactic(auto)]
+
+#[cfg(test)]
+mod payment;
+#[cfg(test)]
+mod recovering;
+#[cfg(test)]
+mod replay;
