@@ -5,3 +5,4 @@ pub mod Ordered
 pub mod DecodingSteps
 pub mod Written
 pub mod Parts
+mod Cases
