@@ -1,6 +1,6 @@
 //! What a flow sells and buys of each asset, and in all.
 
-ghost use Rattle.std.specs.Prelude.{◌≡◌, ℕ, ◌*◌, ◌<◌, ◌≤◌, ◌^◌, MatchOption};
+ghost use Rattle.std.specs.Prelude.{◌≡◌, ℕ, ◌*◌, ◌<◌, ◌≤◌, ◌^◌, IfNone, IfSome};
 ghost use Rattle.sx_dual.specs.Circulation.{IsBalanced, bought, sold, traded_value};
 ghost use Rattle.sx_dual.specs.Misfit.{IsFirstAsset};
 ghost use Rattle.sx_dual.specs.Tables.{value_of};
@@ -37,7 +37,8 @@ pub(crate) fn value_bought(flow: &Flow, asset: AssetId) -> u128
 
 // The first asset of which as much is not bought as sold.
 pub(crate) fn first_unbalanced(flow: &Flow) -> Option<AssetId>
-    ensures { MatchOption result ((asset : ℕ) → asset < flow.now.assets → IsBalanced flow.now.assets (value_of flow.now) asset) (IsFirstAsset flow.now.assets (IsBalanced flow.now.assets (value_of flow.now))) }
+    ensures none { IfNone result ((asset : ℕ) → asset < flow.now.assets → IsBalanced flow.now.assets (value_of flow.now) asset) }
+    ensures first { IfSome result (IsFirstAsset flow.now.assets (IsBalanced flow.now.assets (value_of flow.now))) }
 {
     for number in 0..flow.assets() {
         let asset = asset_of(number);

@@ -1,10 +1,10 @@
 //! Whether a flow and potentials fit.
 
-ghost use Rattle.std.specs.Prelude.{◌≡◌, ◌<◌, ◌↔◌, length, IsTrue, IsOk, IfErr, OnOk, MatchOption};
-ghost use Rattle.sx_dual.specs.Circulation.{IsGreatest, IsWithin};
-ghost use Rattle.sx_dual.specs.Fit.{Fits, IsTight, gain_of};
+ghost use Rattle.std.specs.Prelude.{◌≡◌, ◌<◌, ◌↔◌, length, IsTrue, IsOk, IfErr, OnOk, IfNone, IfSome};
+ghost use Rattle.sx_dual.specs.Circulation.{IsGreatest};
+ghost use Rattle.sx_dual.specs.Fit.{Fits, gain_of};
 ghost use Rattle.sx_dual.specs.Misfit.{IsFirstPair, IsMisfit};
-ghost use Rattle.sx_dual.specs.Search.{EachFrom, IsFirstFrom};
+ghost use Rattle.sx_dual.specs.Search.{EachFrom, IsFirstFrom, PairTight, PairWithin};
 ghost use Rattle.sx_dual.specs.Sums.{EachPair};
 ghost use Rattle.sx_dual.specs.Tables.{high_of, low_of, potential_of, value_of};
 
@@ -20,7 +20,7 @@ fn is_within(bounds: &Bounds, flow: &Flow, sell: AssetId, buy: AssetId) -> bool
     requires flow { flow.now.assets ≡ bounds.now.assets }
     requires sell { sell < bounds.now.assets }
     requires buy { buy < bounds.now.assets }
-    ensures { IsTrue result ↔ IsWithin (low_of bounds.now) (high_of bounds.now) (value_of flow.now) sell buy }
+    ensures { IsTrue result ↔ PairWithin bounds.now flow.now sell buy }
 {
     let y = flow.at(sell, buy);
     bounds.low(sell, buy) <= y && y <= bounds.high(sell, buy)
@@ -30,7 +30,8 @@ fn is_within(bounds: &Bounds, flow: &Flow, sell: AssetId, buy: AssetId) -> bool
 fn outside_from(bounds: &Bounds, flow: &Flow, sell: AssetId) -> Option<AssetId>
     requires flow { flow.now.assets ≡ bounds.now.assets }
     requires sell { sell < bounds.now.assets }
-    ensures { MatchOption result (EachFrom bounds.now.assets (IsWithin (low_of bounds.now) (high_of bounds.now) (value_of flow.now)) sell) (IsFirstFrom bounds.now.assets (IsWithin (low_of bounds.now) (high_of bounds.now) (value_of flow.now)) sell) }
+    ensures none { IfNone result (EachFrom bounds.now.assets (PairWithin bounds.now flow.now) sell) }
+    ensures first { IfSome result (IsFirstFrom bounds.now.assets (PairWithin bounds.now flow.now) sell) }
 {
     for number in 0..bounds.assets() {
         let buy = asset_of(number);
@@ -44,7 +45,8 @@ fn outside_from(bounds: &Bounds, flow: &Flow, sell: AssetId) -> Option<AssetId>
 // The first pair that trades a value out of bounds.
 fn first_outside(bounds: &Bounds, flow: &Flow) -> Option<(AssetId, AssetId)>
     requires { flow.now.assets ≡ bounds.now.assets }
-    ensures { MatchOption result (EachPair bounds.now.assets (IsWithin (low_of bounds.now) (high_of bounds.now) (value_of flow.now))) (λ pair. IsFirstPair bounds.now.assets (IsWithin (low_of bounds.now) (high_of bounds.now) (value_of flow.now)) pair.0 pair.1) }
+    ensures none { IfNone result (EachPair bounds.now.assets (PairWithin bounds.now flow.now)) }
+    ensures first { IfSome result (λ pair. IsFirstPair bounds.now.assets (PairWithin bounds.now flow.now) pair.0 pair.1) }
 {
     for number in 0..bounds.assets() {
         let sell = asset_of(number);
@@ -76,7 +78,7 @@ fn is_tight(
     requires potentials { length potentials.now ≡ bounds.now.assets }
     requires sell { sell < bounds.now.assets }
     requires buy { buy < bounds.now.assets }
-    ensures { IsTrue result ↔ IsTight (low_of bounds.now) (high_of bounds.now) (value_of flow.now) (potential_of potentials.now) sell buy }
+    ensures { IsTrue result ↔ PairTight bounds.now flow.now potentials.now sell buy }
 {
     let gain = gain(potentials, sell, buy);
     let y = flow.at(sell, buy);
@@ -99,7 +101,8 @@ fn slack_from(
     requires flow { flow.now.assets ≡ bounds.now.assets }
     requires potentials { length potentials.now ≡ bounds.now.assets }
     requires sell { sell < bounds.now.assets }
-    ensures { MatchOption result (EachFrom bounds.now.assets (IsTight (low_of bounds.now) (high_of bounds.now) (value_of flow.now) (potential_of potentials.now)) sell) (IsFirstFrom bounds.now.assets (IsTight (low_of bounds.now) (high_of bounds.now) (value_of flow.now) (potential_of potentials.now)) sell) }
+    ensures none { IfNone result (EachFrom bounds.now.assets (PairTight bounds.now flow.now potentials.now) sell) }
+    ensures first { IfSome result (IsFirstFrom bounds.now.assets (PairTight bounds.now flow.now potentials.now) sell) }
 {
     for number in 0..bounds.assets() {
         let buy = asset_of(number);
@@ -114,7 +117,8 @@ fn slack_from(
 fn first_slack(bounds: &Bounds, flow: &Flow, potentials: &Potentials) -> Option<(AssetId, AssetId)>
     requires flow { flow.now.assets ≡ bounds.now.assets }
     requires potentials { length potentials.now ≡ bounds.now.assets }
-    ensures { MatchOption result (EachPair bounds.now.assets (IsTight (low_of bounds.now) (high_of bounds.now) (value_of flow.now) (potential_of potentials.now))) (λ pair. IsFirstPair bounds.now.assets (IsTight (low_of bounds.now) (high_of bounds.now) (value_of flow.now) (potential_of potentials.now)) pair.0 pair.1) }
+    ensures none { IfNone result (EachPair bounds.now.assets (PairTight bounds.now flow.now potentials.now)) }
+    ensures first { IfSome result (λ pair. IsFirstPair bounds.now.assets (PairTight bounds.now flow.now potentials.now) pair.0 pair.1) }
 {
     for number in 0..bounds.assets() {
         let sell = asset_of(number);

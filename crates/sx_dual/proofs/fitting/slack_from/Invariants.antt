@@ -1,8 +1,7 @@
 use Rattle.std.proofs.Common.{ℕ, ◌<◌, ◌≢◌}
-use Rattle.sx_dual.specs.Fit.{IsTight}
-use Rattle.sx_dual.specs.Tables.{high_of, low_of, potential_of, value_of}
+use Rattle.sx_dual.specs.Search.{PairTight}
 use Rattle.sx_dual.proofs.fitting.slack_from.Given as goal
 
 abbrev pub invariant-loop-number : goal.invariant-loop-number
 invariant-loop-number l =
-    (b : ℕ) → b < l.number → l.sell ≢ b → IsTight (low_of l.bounds) (high_of l.bounds) (value_of l.flow) (potential_of l.potentials) l.sell b
+    (b : ℕ) → b < l.number → l.sell ≢ b → PairTight l.bounds l.flow l.potentials l.sell b
