@@ -1,8 +1,7 @@
 -- A cut leaves no circulation: as much goes into a set as out of it.
-use Rattle.std.proofs.Common.{◌≡◌, ℕ, ◌+◌, ◌*◌, ◌<◌, ◌≤◌, Bool, true, false, not, ◌&&◌, cond, refl, sym, ◌∙◌, arith}
-use Rattle.sx_dual.specs.Circulation.{HaveNoCirculation, IsBalanced, IsCirculation}
+use Rattle.std.proofs.Common.{◌≡◌, ℕ, ◌+◌, ◌*◌, ◌<◌, ◌≤◌, Bool, true, false, not, ◌&&◌, cond, refl, arith}
+use Rattle.sx_dual.specs.Circulation.{HaveNoCirculation, IsBalanced}
 use Rattle.sx_dual.specs.Cuts.{IsCut, goes_in, goes_out, is_in, sum_in, sum_out}
-use Rattle.sx_dual.specs.Sums.{pair_sum}
 use Rattle.sx_dual.proofs.Duality.{weighed}
 use Rattle.sx_dual.proofs.SumLaws.{pair_sum-add, pair_sum-le, pair_sum-same}
 

@@ -1,10 +1,10 @@
 -- Weak duality: a flow that fits some potentials trades as much as any circulation within its bounds.
-use Rattle.std.proofs.Common.{◌≡◌, ◌≢◌, ℕ, ◌+◌, ◌-◌, ◌*◌, ◌<◌, ◌≤◌, pos, ◌<ℤ◌, inl, inr, refl, sym, ap, ◌∙◌, arith}
+use Rattle.std.proofs.Common.{◌≡◌, ℕ, ◌+◌, ◌-◌, ◌*◌, ◌<◌, ◌≤◌, pos, ◌<ℤ◌, inl, inr, refl, sym, ap, ◌∙◌, arith}
 use Rattle.std.proofs.lemmas.Bool.{cases_eq, cases_order}
 use Rattle.std.proofs.lemmas.Int.{ints}
 use Rattle.std.proofs.Math.Nat.{mul-le-mul_right}
-use Rattle.sx_dual.specs.Circulation.{IsBalanced, IsCirculation, IsGreatest, IsWithin, bought, sold, traded_value}
-use Rattle.sx_dual.specs.Fit.{Fits, IsTight, gain_of}
+use Rattle.sx_dual.specs.Circulation.{IsBalanced, IsGreatest, bought, sold, traded_value}
+use Rattle.sx_dual.specs.Fit.{Fits, gain_of}
 use Rattle.sx_dual.specs.Sums.{between, pair_sum, sum_below}
 use Rattle.sx_dual.proofs.SumLaws.{between-other, between-self, pair_sum-add, pair_sum-le, sum_below-same, sum_below-swap, sum_below-times}
 

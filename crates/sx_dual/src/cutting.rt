@@ -3,8 +3,8 @@
 //! In a circulation as much value goes into any set of assets as goes out of it, since each asset
 //! balances. A pair goes into the set where its sold asset is outside and its bought asset inside.
 //! So where the lower bounds of the pairs into a set add up to more than the upper bounds of the
-//! pairs out of it, there is no circulation. Here 16 must go into the set of A and B, and 15 may go
-//! out of it:
+//! pairs out of it, there is no circulation. In this drawing an arrow leads from the sold asset to
+//! the bought one: 16 must go into the set of A and B, and 15 may go out of it.
 //!
 //! ```text
 //!     the set

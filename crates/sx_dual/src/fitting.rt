@@ -4,7 +4,8 @@
 //! potential of its bought asset. Along a circulation the potentials cancel, so its traded value is
 //! the sum of value times gain over all pairs. Where each pair with a gain above 0 trades all that it
 //! may, and each with a gain below 0 only what it must, no pair can add to that sum, and no
-//! circulation within the bounds trades more value. In this drawing nothing must trade:
+//! circulation within the bounds trades more value. In this drawing an arrow leads from the sold
+//! asset to the bought one, and nothing must trade.
 //!
 //! ```text
 //!          10 of 10, gain 2
