@@ -1,0 +1,58 @@
+//! Digests of ledgers and of transactions, by SHA-256.
+
+ghost use Rattle.std.specs.Prelude.{◌≡◌, ◌^◌, ◌<◌, ◌≤◌, length, IfOk};
+ghost use Rattle.sha2.specs.Sha256.{sha256};
+ghost use Rattle.sx_ledger.specs.Encoding.{state_bytes};
+ghost use Rattle.sx_record.specs.Frame.{record_bytes};
+ghost use Rattle.sx_tx.specs.Transactions.{list_bytes};
+
+use crate::digest::Digest;
+use sha2::{Digest as Hasher, Sha256};
+use std::alloc::Global;
+use sx_bytes::{NoMemory, Writer};
+use sx_ledger::Ledger;
+use sx_tx::{Tx, write_candidates};
+
+// The tag of a state's record.
+const STATE: u8 = 1;
+
+/// SHA-256 of these bytes. It takes no memory.
+pub fn digest_of(bytes: &[u8]) -> Digest
+    ensures { result ≡ sha256 bytes.now }
+{
+    Digest::of(Sha256::digest(bytes))
+}
+
+/// SHA-256 of the record of this tag and payload: of the tag, the length of the payload in four bytes,
+/// and the payload. It takes no memory.
+pub fn record_digest(tag: u8, payload: &[u8]) -> Digest
+    requires { length payload.now < 2 ^ 32 }
+    ensures { result ≡ sha256 (record_bytes tag payload.now) }
+{
+    let mut hasher = Sha256::new();
+    hasher.update([tag].as_slice());
+    hasher.update((payload.len() as u32).to_be_bytes().as_slice());
+    hasher.update(payload);
+    Digest::of(hasher.finalize())
+}
+
+/// The digest of a ledger: that of its whole state record.
+pub fn ledger_digest(alloc: Global, ledger: &Ledger) -> Result<Digest, NoMemory>
+    ensures { IfOk result (λ digest. digest ≡ sha256 (record_bytes 1 (state_bytes ledger.now))) }
+{
+    let length = ledger.state_length();
+    let mut payload = Writer::new(alloc);
+    ledger.write_state(&mut payload)?;
+    prove!(payload.bytes().len() == length as usize);
+    Ok(record_digest(STATE, payload.bytes()))
+}
+
+/// The digest of a list of transactions: that of the list's encoding, their number included.
+pub fn body_digest(alloc: Global, txs: &[Tx]) -> Result<Digest, NoMemory>
+    requires { length txs.now ≤ 1000000 }
+    ensures { IfOk result (λ digest. digest ≡ sha256 (list_bytes txs.now)) }
+{
+    let mut list = Writer::new(alloc);
+    write_candidates(&mut list, txs)?;
+    Ok(digest_of(list.bytes()))
+}
