@@ -1,4 +1,4 @@
--- Prices, units and accounts: what is read is spelled so, and what is spelled so is read.
+-- Prices, units and accounts: decoding inverts encoding, and back.
 use Rattle.std.proofs.Common.{◌≡◌, ℕ, zero, suc, ◌+◌, ◌-◌, ◌^◌, ◌<◌, ◌≤◌, true, List, [], ◌∷◌, ◌++◌, length, Option, Some, None, Ok, All, refl, sym, ap, subst, arith}
 use Rattle.std.specs.Prelude.{nat_lt}
 use Rattle.std.specs.List.{flat_map}
@@ -18,11 +18,12 @@ use Rattle.sx_tx.specs.Transactions.{IsId}
 use Rattle.sx_tx.specs.TransactionDecoding.{id_at}
 use Rattle.sx_tx.proofs.FieldLaws.{id_takes, id_again}
 use Rattle.sx_ledger.specs.declared.account.Account.{Account}
-use Rattle.sx_ledger.specs.Ledger.{ids, IsPrice, IsAccount}
+use Rattle.sx_price.specs.Limits.{IsPrice}
+use Rattle.sx_ledger.specs.Ledger.{ids, IsAccount}
 use Rattle.sx_ledger.specs.Encoding.{account_bytes}
-use Rattle.sx_ledger.specs.Decoding.{price_at, units_at, last_at, account_at, next_account_at, accounts_at, account_list_at}
-use Rattle.sx_ledger.proofs.Chained.{AreNumbers, numbers_take, numbers_again, guard_takes, guard_again, chained_takes, chained_again}
-use Rattle.sx_ledger.proofs.Each.{IsTaken, each_takes, each_again}
+use Rattle.sx_ledger.specs.Decoding.{price_at, units_field_at, last_at, account_at, next_account_at, accounts_at, account_list_at}
+use Rattle.sx_ledger.proofs.DependentParts.{AreNumbers, numbers_take, numbers_again, guard_takes, guard_again, chained_takes, chained_again}
+use Rattle.sx_ledger.proofs.EntriesInOrder.{IsTaken, each_takes, each_again}
 
 -- no more than 2 ^ 62 units
 abbrev pub InRange : ℕ → Type 0
@@ -37,10 +38,10 @@ price_takes c next x bytes e = let t = range_takes 8 (2 ^ 8) (2 ^ 40) form.Price
 pub price_again : ReadsAgain price_at (big_bytes 8) IsPrice
 price_again c x after is within e = range_again 8 (2 ^ 8) (2 ^ 40) form.PriceRange c x after (omega arith) is.0 is.1 within e
 
-pub units_takes : TakesAll units_at (big_bytes 8) InRange
+pub units_takes : TakesAll units_field_at (big_bytes 8) InRange
 units_takes c next x bytes e = let t = range_takes 8 0 (2 ^ 62) form.AmountRange c next x bytes e in (t.0, t.2)
 
-pub units_again : ReadsAgain units_at (big_bytes 8) InRange
+pub units_again : ReadsAgain units_field_at (big_bytes 8) InRange
 units_again c x after is within e = range_again 8 0 (2 ^ 62) form.AmountRange c x after (omega arith) (omega arith) is within e
 
 last_takes : TakesAll last_at (big_bytes 8) IsLast
@@ -57,8 +58,8 @@ made id last balances = record { id = record { 0 = id }; window = record { last 
 pub account_takes : (assets : ℕ) → TakesAll (account_at assets) account_bytes (IsAccount assets)
 unfolding account_at
 account_takes assets c next account bytes e =
-    let t = three_take id_at last_at (many_at units_at assets) made (big_bytes 8) (big_bytes 8) (flat_map (big_bytes 8)) IsId IsLast (AreNumbers InRange assets)
-    id_takes last_takes (numbers_take units_at InRange assets units_takes) c next account bytes e in
+    let t = three_take id_at last_at (many_at units_field_at assets) made (big_bytes 8) (big_bytes 8) (flat_map (big_bytes 8)) IsId IsLast (AreNumbers InRange assets)
+    id_takes last_takes (numbers_take units_field_at InRange assets units_takes) c next account bytes e in
     let is : IsAccount assets (made t.0 t.1 t.2) = record { id = t.5; last = t.6; used = refl; balances = t.7.number; in_range = t.7.are } in
     subst (λ (a : Account). Takes c (account_bytes a) next × IsAccount assets a) t.3 (t.4, is)
 
@@ -66,8 +67,8 @@ pub account_again : (assets : ℕ) → ReadsAgain (account_at assets) account_by
 unfolding account_at
 account_again assets c account after is within e =
     let balances : AreNumbers InRange assets account.balances = record { number = is.balances; are = is.in_range } in
-    let read = three_again id_at last_at (many_at units_at assets) made (big_bytes 8) (big_bytes 8) (flat_map (big_bytes 8)) IsId IsLast (AreNumbers InRange assets)
-    id_again last_again (numbers_again units_at InRange assets units_again) c account.id.0 account.window.last account.balances after is.id is.last balances within e in
+    let read = three_again id_at last_at (many_at units_field_at assets) made (big_bytes 8) (big_bytes 8) (flat_map (big_bytes 8)) IsId IsLast (AreNumbers InRange assets)
+    id_again last_again (numbers_again units_field_at InRange assets units_again) c account.id.0 account.window.last account.balances after is.id is.last balances within e in
     let same : made account.id.0 account.window.last account.balances ≡ account =
     ap (λ (used : ℕ). record { id = account.id; window = record { last = account.window.last; used = used }; balances = account.balances }) (sym is.used) in
     subst (λ (a : Account). Again (account_at assets c) c a after) same read
@@ -96,25 +97,25 @@ pub increasing_from_order : (before : Option ℕ) (xs : List ℕ) → in_order n
 increasing_from_order before [] ordered k lt = absurd (omega arith)
 increasing_from_order before (x ∷ []) ordered k lt = absurd (omega arith)
 increasing_from_order before (x ∷ y ∷ xs) ordered zero lt =
-    let behind = and_parts (may_follow nat_lt before x) (in_order nat_lt (Some x) (y ∷ xs)) ordered in
-    ltb-true x y (and_parts (nat_lt x y) (in_order nat_lt (Some y) xs) behind.1).0
+    let rest = and_parts (may_follow nat_lt before x) (in_order nat_lt (Some x) (y ∷ xs)) ordered in
+    ltb-true x y (and_parts (nat_lt x y) (in_order nat_lt (Some y) xs) rest.1).0
 increasing_from_order before (x ∷ y ∷ xs) ordered (suc k) lt =
-    let behind = and_parts (may_follow nat_lt before x) (in_order nat_lt (Some x) (y ∷ xs)) ordered in
+    let rest = and_parts (may_follow nat_lt before x) (in_order nat_lt (Some x) (y ∷ xs)) ordered in
     let step : suc k + 1 ≡ suc (k + 1) = omega arith in
-    rw step (increasing_from_order (Some x) (y ∷ xs) behind.1 k (omega arith))
+    rw step (increasing_from_order (Some x) (y ∷ xs) rest.1 k (omega arith))
 
-order_behind : (x : ℕ) (xs : List ℕ) → IsStrictlyIncreasing (x ∷ xs) → in_order nat_lt (Some x) xs ≡ true
-order_behind x [] up = refl
-order_behind x (y ∷ ys) up =
-    and_from _ _ (lt-ltb x y (up 0 (omega arith))) (order_behind y ys (λ k lt. let step : suc k + 1 ≡ suc (k + 1) = omega arith in rw step at (up (suc k) (omega arith))))
+order_after : (x : ℕ) (xs : List ℕ) → IsStrictlyIncreasing (x ∷ xs) → in_order nat_lt (Some x) xs ≡ true
+order_after x [] up = refl
+order_after x (y ∷ ys) up =
+    and_from _ _ (lt-ltb x y (up 0 (omega arith))) (order_after y ys (λ k lt. let step : suc k + 1 ≡ suc (k + 1) = omega arith in rw step at (up (suc k) (omega arith))))
 
-order_from_increasing : (xs : List ℕ) → IsStrictlyIncreasing xs → in_order nat_lt None xs ≡ true
+pub order_from_increasing : (xs : List ℕ) → IsStrictlyIncreasing xs → in_order nat_lt None xs ≡ true
 order_from_increasing [] up = refl
-order_from_increasing (x ∷ xs) up = order_behind x xs up
+order_from_increasing (x ∷ xs) up = order_after x xs up
 
 -- ---- their number, and the accounts
 
--- accounts of a state of so many assets
+-- accounts of a state of `assets` assets
 pub record AreAccounts (assets : ℕ) (accounts : List Account) : Type 0 where
   pub few : length accounts ≤ 65536
   pub are : All (IsAccount assets) accounts
@@ -123,18 +124,18 @@ pub record AreAccounts (assets : ℕ) (accounts : List Account) : Type 0 where
 abbrev pub account_list_bytes : List Account → List ℕ
 account_list_bytes accounts = big_bytes 4 (length accounts) ++ flat_map account_bytes accounts
 
--- so many accounts
-record SoMany (assets n : ℕ) (accounts : List Account) : Type 0 where
+-- n accounts
+record AreMany (assets n : ℕ) (accounts : List Account) : Type 0 where
   number : n ≡ length accounts
   are : All (IsAccount assets) accounts
   by_id : IsStrictlyIncreasing (ids accounts)
 
-accounts_take : (assets n : ℕ) → TakesAll (accounts_at assets n None) (flat_map account_bytes) (SoMany assets n)
+accounts_take : (assets n : ℕ) → TakesAll (accounts_at assets n None) (flat_map account_bytes) (AreMany assets n)
 accounts_take assets n c next accounts bytes e =
     let t = each_takes (next_account_at assets) id_of account_bytes nat_lt (IsAccount assets) (next_takes assets) n None c next accounts bytes e in
     (t.0, record { number = sym t.1; are = All-from_recursion (IsAccount assets) accounts t.2; by_id = increasing_from_order None (ids accounts) t.3 })
 
-accounts_again : (assets n : ℕ) → ReadsAgain (accounts_at assets n None) (flat_map account_bytes) (SoMany assets n)
+accounts_again : (assets n : ℕ) → ReadsAgain (accounts_at assets n None) (flat_map account_bytes) (AreMany assets n)
 accounts_again assets n c accounts after is within e =
     let read = each_again (next_account_at assets) id_of account_bytes nat_lt (IsAccount assets) (next_again assets) accounts None c after
     (recursion_from_All (IsAccount assets) accounts is.are) (order_from_increasing (ids accounts) is.by_id) within e in
@@ -152,13 +153,13 @@ count_again c x after is within e = range_again 4 0 65536 form.TooMany c x after
 pub account_list_takes : (assets : ℕ) → TakesAll (account_list_at assets) account_list_bytes (AreAccounts assets)
 unfolding account_list_at
 account_list_takes assets c next accounts bytes e =
-    let t = chained_takes (field_at 4 (between 0 65536) form.TooMany) (λ n. accounts_at assets n None) (big_bytes 4) (flat_map account_bytes) IsCount (SoMany assets) length
+    let t = chained_takes (field_at 4 (between 0 65536) form.TooMany) (λ n. accounts_at assets n None) (big_bytes 4) (flat_map account_bytes) IsCount (AreMany assets) length
     count_takes (λ n is. accounts_take assets n) (λ n xs is. is.number) c next accounts bytes e in
     (t.0, record { few = t.1.0; are = t.1.1.are; by_id = t.1.1.by_id })
 
 pub account_list_again : (assets : ℕ) → ReadsAgain (account_list_at assets) account_list_bytes (AreAccounts assets)
 unfolding account_list_at
 account_list_again assets c accounts after is within e =
-    let many : SoMany assets (length accounts) accounts = record { number = refl; are = is.are; by_id = is.by_id } in
-    chained_again (field_at 4 (between 0 65536) form.TooMany) (λ n. accounts_at assets n None) (big_bytes 4) (flat_map account_bytes) IsCount (SoMany assets) length
+    let many : AreMany assets (length accounts) accounts = record { number = refl; are = is.are; by_id = is.by_id } in
+    chained_again (field_at 4 (between 0 65536) form.TooMany) (λ n. accounts_at assets n None) (big_bytes 4) (flat_map account_bytes) IsCount (AreMany assets) length
     count_again (λ n is. accounts_again assets n) c accounts after (is.few, many) within e

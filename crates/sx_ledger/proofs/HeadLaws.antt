@@ -1,4 +1,4 @@
--- What stands before the accounts of a state: what is read is spelled so, and what is spelled so is read.
+-- The fields before the accounts of a state: decoding inverts encoding, and back.
 use Rattle.std.proofs.Common.{◌≡◌, ℕ, ◌-◌, ◌^◌, ◌<◌, ◌≤◌, List, ◌++◌, length, refl, sym, subst, arith}
 use Rattle.std.specs.List.{flat_map}
 use Rattle.byteorder.specs.Endian.{big_bytes}
@@ -7,9 +7,9 @@ use Rattle.sx_bytes.specs.Grammar.{◌>>=◌, between, field_at, many_at}
 use Rattle.sx_bytes.proofs.Grammar.{Takes, Again}
 use Rattle.sx_bytes.proofs.Parts.{Reading, TakesAll, ReadsAgain, two_at, two_take, two_again}
 use Rattle.sx_bytes.proofs.DecodingSteps.{range_takes, range_again}
-use Rattle.sx_ledger.specs.Ledger.{IsPrice}
-use Rattle.sx_ledger.specs.Decoding.{price_at, units_at, head_at}
-use Rattle.sx_ledger.proofs.Chained.{AreNumbers, numbers_take, numbers_again, chained_takes, chained_again}
+use Rattle.sx_price.specs.Limits.{IsPrice}
+use Rattle.sx_ledger.specs.Decoding.{price_at, units_field_at, head_at}
+use Rattle.sx_ledger.proofs.DependentParts.{AreNumbers, numbers_take, numbers_again, chained_takes, chained_again}
 use Rattle.sx_ledger.proofs.AccountLaws.{InRange, price_takes, price_again, units_takes, units_again}
 
 -- the version, the height, the prices and the rounding
@@ -20,7 +20,7 @@ abbrev pub joined : ℕ → ℕ → List ℕ → List ℕ → Head
 joined version height prices rounding = (version, height, prices, rounding)
 
 abbrev pub from_prices : ℕ → ℕ → ℕ → Reading Head
-from_prices version height n = two_at (many_at price_at n) (many_at units_at n) (joined version height)
+from_prices version height n = two_at (many_at price_at n) (many_at units_field_at n) (joined version height)
 
 abbrev pub from_assets : ℕ → ℕ → Reading Head
 from_assets version height c = field_at 1 (between 1 32) form.AssetCount c >>= λ n. from_prices version height n.0 n.1
@@ -40,7 +40,7 @@ height_text head = big_bytes 8 head.1 ++ assets_text head
 abbrev pub head_bytes : Head → List ℕ
 head_bytes head = big_bytes 1 head.0 ++ height_text head
 
--- a head of this version, this height and so many assets
+-- a head of this version, this height and n assets
 pub record IsFrom (version height n : ℕ) (head : Head) : Type 0 where
   pub version_is : version ≡ head.0
   pub height_is : height ≡ head.1
@@ -51,7 +51,7 @@ abbrev IsVersion : ℕ → Type 0
 IsVersion version = version ≡ 1
 
 abbrev IsHeight : ℕ → Type 0
-IsHeight height = height < 2 ^ 63
+IsHeight height = height ≤ 2 ^ 63 - 1
 
 abbrev IsCount : ℕ → Type 0
 IsCount n = (1 ≤ n) × (n ≤ 32)
@@ -72,10 +72,10 @@ version_again : ReadsAgain (field_at 1 (between 1 1) form.Version) (big_bytes 1)
 version_again c x after is within e = range_again 1 1 1 form.Version c x after (omega arith) (omega (arith, is)) (omega (arith, is)) within e
 
 height_takes : TakesAll (field_at 8 (between 0 (2 ^ 63 - 1)) form.HeightRange) (big_bytes 8) IsHeight
-height_takes c next x bytes e = let t = range_takes 8 0 (2 ^ 63 - 1) form.HeightRange c next x bytes e in (t.0, omega (arith, t.2))
+height_takes c next x bytes e = let t = range_takes 8 0 (2 ^ 63 - 1) form.HeightRange c next x bytes e in (t.0, t.2)
 
 height_again : ReadsAgain (field_at 8 (between 0 (2 ^ 63 - 1)) form.HeightRange) (big_bytes 8) IsHeight
-height_again c x after is within e = range_again 8 0 (2 ^ 63 - 1) form.HeightRange c x after (omega arith) (omega arith) (omega (arith, is)) within e
+height_again c x after is within e = range_again 8 0 (2 ^ 63 - 1) form.HeightRange c x after (omega arith) (omega arith) is within e
 
 count_takes : TakesAll (field_at 1 (between 1 32) form.AssetCount) (big_bytes 1) IsCount
 count_takes c next x bytes e = let t = range_takes 1 1 32 form.AssetCount c next x bytes e in (t.0, (t.1, t.2))
@@ -85,15 +85,15 @@ count_again c x after is within e = range_again 1 1 32 form.AssetCount c x after
 
 prices_take : (version height n : ℕ) → TakesAll (from_prices version height n) prices_text (IsFrom version height n)
 prices_take version height n c next head bytes e =
-    let t = two_take (many_at price_at n) (many_at units_at n) (joined version height) (flat_map (big_bytes 8)) (flat_map (big_bytes 8)) (AreNumbers IsPrice n) (AreNumbers InRange n)
-    (numbers_take price_at IsPrice n price_takes) (numbers_take units_at InRange n units_takes) c next head bytes e in
+    let t = two_take (many_at price_at n) (many_at units_field_at n) (joined version height) (flat_map (big_bytes 8)) (flat_map (big_bytes 8)) (AreNumbers IsPrice n) (AreNumbers InRange n)
+    (numbers_take price_at IsPrice n price_takes) (numbers_take units_field_at InRange n units_takes) c next head bytes e in
     let is : IsFrom version height n (joined version height t.0 t.1) = record { version_is = refl; height_is = refl; prices = t.4; rounding = t.5 } in
     subst (λ (h : Head). Takes c (prices_text h) next × IsFrom version height n h) t.2 (t.3, is)
 
 prices_again : (version height n : ℕ) → ReadsAgain (from_prices version height n) prices_text (IsFrom version height n)
 prices_again version height n c head after is within e =
-    let read = two_again (many_at price_at n) (many_at units_at n) (joined version height) (flat_map (big_bytes 8)) (flat_map (big_bytes 8)) (AreNumbers IsPrice n) (AreNumbers InRange n)
-    (numbers_again price_at IsPrice n price_again) (numbers_again units_at InRange n units_again) c head.2 head.3 after is.prices is.rounding within e in
+    let read = two_again (many_at price_at n) (many_at units_field_at n) (joined version height) (flat_map (big_bytes 8)) (flat_map (big_bytes 8)) (AreNumbers IsPrice n) (AreNumbers InRange n)
+    (numbers_again price_at IsPrice n price_again) (numbers_again units_field_at InRange n units_again) c head.2 head.3 after is.prices is.rounding within e in
     let same : joined version height head.2 head.3 ≡ head = rw (is.version_is, is.height_is) refl in
     subst (λ (h : Head). Again (from_prices version height n c) c h after) same read
 

@@ -1,16 +1,14 @@
 -- The order of keys: total, what the derived comparisons give, and which keys are the same.
-use Rattle.std.proofs.Common.{◌≡◌, ℕ, Bool, true, false, ◌&&◌, Option, Some, List, [], ◌∷◌, refl, sym, ap, ◌∙◌}
-use Rattle.std.specs.Prelude.{nat_eq}
+use Rattle.std.proofs.Common.{◌≡◌, ◌≢◌, ℕ, true, false, List, [], ◌∷◌, refl, sym, ap, ◌∙◌}
 use Rattle.std.specs.Cmp.{IsTotalOrder}
 use Rattle.std.specs.Cmp.Lexicographic.{bytes_decides, texts_ties}
 use Rattle.std.specs.declared.cmp.Ordering.{Ordering}
 use Rattle.std.specs.declared.cmp.Ordering.TheVariants.{Less, Equal, Greater}
-use Rattle.std.specs.Ordering.{nat_cmp, is_eq, is_lt, is_some_and, ordering_then, partial_ordering_then}
+use Rattle.std.specs.Ordering.{nat_cmp, is_eq, is_lt, ordering_reverse, ordering_then}
+use Rattle.std.proofs.lemmas.Bool.{false_from_ne_true}
 use Rattle.std.proofs.lemmas.Cmp.{nat_list_cmp_total, on_total, tied_itself}
 use Rattle.sx_ledger.specs.declared.key.Key.{Key}
 use Rattle.sx_ledger.specs.contracts.key.KeyOrd.TheImpl as derived
-use Rattle.sx_ledger.specs.contracts.key.KeyPartialEq.TheImpl as equality
-use Rattle.sx_ledger.specs.contracts.key.KeyPartialOrd.TheImpl as partial
 use Rattle.sx_ledger.specs.Order.{numbers_of, key_before, key_cmp, same_key}
 
 pub key_cmp_total : IsTotalOrder key_cmp
@@ -46,29 +44,32 @@ equal_is one other e = same_key_is one other (texts_ties (numbers_of one) (numbe
 pub equal_from : (one other : Key) → one ≡ other → key_cmp one other ≡ Equal
 equal_from one other e = ap (key_cmp one) (sym e) ∙ tied_itself key_cmp_total one
 
-and_true : (b : Bool) → b ≡ (b && true)
-and_true true = refl
-and_true false = refl
+-- ---- one key before another
 
--- the derived test
-pub same_key_derived : (one other : Key) → equality.ghosts.eq one other ≡ same_key one other
-same_key_derived one other =
-    ap (λ (last : Bool). nat_eq one.sell other.sell && (nat_eq one.buy other.buy && (nat_eq one.limit other.limit && (nat_eq one.account.0 other.account.0 && last))))
-    (and_true (nat_eq one.seq other.seq))
+is_less : (o : Ordering) → is_lt o ≡ true → o ≡ Less
+is_less Less e = refl
+is_less Equal e = absurd cc
+is_less Greater e = absurd cc
 
-some_then : (one other : Ordering) → partial_ordering_then (Some one) (Some other) ≡ Some (ordering_then one other)
-some_then Less other = refl
-some_then Equal other = refl
-some_then Greater other = refl
+pub before_both : (x y z : Key) → key_before x y ≡ true → key_before y z ≡ true → key_before x z ≡ true
+before_both x y z first second =
+    ap is_lt (key_cmp_total.trans x y z (is_less (key_cmp x y) first) (is_less (key_cmp y z) second))
 
-before_rest : (one other : Ordering) (rest : Option Ordering) → rest ≡ Some other → partial_ordering_then (Some one) rest ≡ Some (ordering_then one other)
-before_rest one other rest e = rw e (some_then one other)
+before_itself : (x : Key) → key_before x x ≡ true → ⊥
+before_itself x before = let less = is_less (key_cmp x x) before in let tied = tied_itself key_cmp_total x in cc
 
-five : (a b c d e : Ordering) → partial_ordering_then (Some a) (partial_ordering_then (Some b) (partial_ordering_then (Some c) (partial_ordering_then (Some d) (Some e))))
-    ≡ Some (ordering_then a (ordering_then b (ordering_then c (ordering_then d (ordering_then e Equal)))))
-five a b c d e = before_rest a _ _ (before_rest b _ _ (before_rest c _ _ (before_rest d _ _ (ap (λ (o : Ordering). Some o) (then_equal e)))))
+pub before_differs : (x y : Key) → key_before x y ≡ true → same_key y x ≡ false
+before_differs x y before =
+    false_from_ne_true (same_key y x) (λ e. before_itself x (ap (key_before x) (sym (same_key_is y x e)) ∙ before))
 
--- what the derived `<` tests
-pub key_before_derived : (one other : Key) → is_some_and is_lt (partial.ghosts.partial_cmp one other) ≡ key_before one other
-key_before_derived one other =
-    ap (is_some_and is_lt) (five (nat_cmp one.sell other.sell) (nat_cmp one.buy other.buy) (nat_cmp one.limit other.limit) (nat_cmp one.account.0 other.account.0) (nat_cmp one.seq other.seq))
+swapped : (o back : Ordering) → o ≡ ordering_reverse back → o ≢ Equal → is_lt back ≡ false → is_lt o ≡ true
+swapped Less back e other not_back = refl
+swapped Equal back e other not_back = absurd (other refl)
+swapped Greater Less e other not_back = absurd cc
+swapped Greater Equal e other not_back = absurd cc
+swapped Greater Greater e other not_back = absurd cc
+
+-- of two keys that differ, one stands before the other
+pub before_or_after : (new key : Key) → (key ≡ new → ⊥) → key_before new key ≡ false → key_before key new ≡ true
+before_or_after new key differ not_before =
+    swapped (key_cmp key new) (key_cmp new key) (key_cmp_total.antisymm key new) (λ e. differ (equal_is key new e)) not_before

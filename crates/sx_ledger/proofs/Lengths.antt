@@ -1,4 +1,4 @@
--- How long the spelling of a state is.
+-- How long the encoding of a state is.
 use Rattle.std.proofs.Common.{◌≡◌, ℕ, ◌+◌, ◌*◌, ◌≤◌, List, [], ◌∷◌, ◌++◌, length, All, refl, ◌∙◌, arith}
 use Rattle.std.specs.List.{flat_map, AllByRecursion}
 use Rattle.std.proofs.Math.Nat.{mul-le-mul_right}
@@ -13,12 +13,12 @@ use Rattle.sx_ledger.specs.Encoding.{account_bytes, offer_bytes, state_bytes}
 use Rattle.sx_ledger.specs.Laws.{EveryStateFits}
 
 -- texts of one length
-length-texts : {X : Type 0} (spell : X → List ℕ) (k : ℕ) (xs : List X) → AllByRecursion (λ x. length (spell x) ≡ k) xs → length (flat_map spell xs) ≡ length xs * k
-length-texts spell k [] each = omega arith
-length-texts spell k (x ∷ xs) each =
-    let others : length (flat_map spell xs) ≡ length xs * k = length-texts spell k xs each.1 in
-    let first : length (spell x) ≡ k = each.0 in
-    length-append (spell x) (flat_map spell xs) ∙ grind (arith, others, first)
+length-texts : {X : Type 0} (encode : X → List ℕ) (k : ℕ) (xs : List X) → AllByRecursion (λ x. length (encode x) ≡ k) xs → length (flat_map encode xs) ≡ length xs * k
+length-texts encode k [] each = omega arith
+length-texts encode k (x ∷ xs) each =
+    let others : length (flat_map encode xs) ≡ length xs * k = length-texts encode k xs each.1 in
+    let first : length (encode x) ≡ k = each.0 in
+    length-append (encode x) (flat_map encode xs) ∙ grind (arith, others, first)
 
 pub length-numbers : (xs : List ℕ) → length (flat_map (big_bytes 8) xs) ≡ length xs * 8
 length-numbers [] = refl

@@ -9,8 +9,7 @@ use Rattle.std.proofs.lemmas.Option.{slice_get-map, slice_get_within, slice_get_
 use Rattle.sx_ledger.specs.declared.account.Account.{Account}
 use Rattle.sx_ledger.specs.declared.key.Key.{Key}
 use Rattle.sx_ledger.specs.declared.offer.Offer.{Offer}
-use Rattle.sx_ledger.specs.Body.{holding_of}
-use Rattle.sx_ledger.specs.Ledger.{balance_at, has_owner, ids, keys}
+use Rattle.sx_ledger.specs.Ledger.{has_owner, ids, keys}
 use Rattle.sx_ledger.specs.Order.{key_of, same_key}
 use Rattle.sx_ledger.specs.Static.{has_account, has_offer, last_of}
 use Rattle.sx_ledger.proofs.KeyOrder.{same_key_is, same_key_from}
@@ -47,9 +46,9 @@ ascends_from : (accounts : List Account) → IsStrictlyIncreasing (ids accounts)
 ascends_from [] up = tt
 ascends_from (account ∷ accounts) up = above_from account accounts up
 
-ascends_behind : (bound : ℕ) (accounts : List Account) → Above bound accounts → Ascends accounts
-ascends_behind bound [] above = tt
-ascends_behind bound (account ∷ accounts) above = above.1
+ascends_after : (bound : ℕ) (accounts : List Account) → Above bound accounts → Ascends accounts
+ascends_after bound [] above = tt
+ascends_after bound (account ∷ accounts) above = above.1
 
 above_at : (bound : ℕ) (accounts : List Account) (place : ℕ) (entry : Account) → Above bound accounts → slice_get accounts place ≡ Some entry → bound < entry.id.0
 above_at bound [] place entry above at = absurd cc
@@ -76,7 +75,7 @@ any_at test (account ∷ accounts) zero entry up at others =
 any_at test (account ∷ accounts) (suc place) entry up at others =
     let later : account.id.0 < entry.id.0 = above_at account.id.0 accounts place entry up at in
     let not_here : test account ≡ false = others account (λ equal. absurd (omega arith)) in
-    rw not_here (any_at test accounts place entry (ascends_behind account.id.0 accounts up) at others)
+    rw not_here (any_at test accounts place entry (ascends_after account.id.0 accounts up) at others)
 
 last_at : (accounts : List Account) (place : ℕ) (entry : Account) → Ascends accounts → slice_get accounts place ≡ Some entry → last_of accounts entry.id.0 ≡ entry.window.last
 last_at [] place entry up at = absurd cc
@@ -85,16 +84,7 @@ last_at (account ∷ accounts) zero entry up at =
     cond-true _ _ _ (eq-eqb account.id.0 entry.id.0 (ap (λ (x : Account). x.id.0) same)) ∙ ap (λ (x : Account). x.window.last) same
 last_at (account ∷ accounts) (suc place) entry up at =
     let later : account.id.0 < entry.id.0 = above_at account.id.0 accounts place entry up at in
-    cond-false _ _ _ (ne_eqb account.id.0 entry.id.0 (λ equal. absurd (omega arith))) ∙ last_at accounts place entry (ascends_behind account.id.0 accounts up) at
-
-holding_at : (asset : ℕ) (accounts : List Account) (place : ℕ) (entry : Account) → Ascends accounts → slice_get accounts place ≡ Some entry → holding_of accounts entry.id.0 asset ≡ balance_at asset entry
-holding_at asset [] place entry up at = absurd cc
-holding_at asset (account ∷ accounts) zero entry up at =
-    let same : account ≡ entry = same_Some account entry at in
-    cond-true _ _ _ (eq-eqb account.id.0 entry.id.0 (ap (λ (x : Account). x.id.0) same)) ∙ ap (balance_at asset) same
-holding_at asset (account ∷ accounts) (suc place) entry up at =
-    let later : account.id.0 < entry.id.0 = above_at account.id.0 accounts place entry up at in
-    cond-false _ _ _ (ne_eqb account.id.0 entry.id.0 (λ equal. absurd (omega arith))) ∙ holding_at asset accounts place entry (ascends_behind account.id.0 accounts up) at
+    cond-false _ _ _ (ne_eqb account.id.0 entry.id.0 (λ equal. absurd (omega arith))) ∙ last_at accounts place entry (ascends_after account.id.0 accounts up) at
 
 -- an account of this id, where accounts stand by id
 module _ (accounts : List Account) (place : ℕ) (entry : Account) (at : slice_get accounts place ≡ Some entry) where
@@ -104,9 +94,6 @@ module _ (accounts : List Account) (place : ℕ) (entry : Account) (at : slice_g
   module _ (up : IsStrictlyIncreasing (ids accounts)) where
     pub last_is : last_of accounts entry.id.0 ≡ entry.window.last
     last_is = last_at accounts place entry (ascends_from accounts up) at
-
-    pub holding_is : (asset : ℕ) → holding_of accounts entry.id.0 asset ≡ balance_at asset entry
-    holding_is asset = holding_at asset accounts place entry (ascends_from accounts up) at
 
     pub owner_is : (offer : Offer) → offer.account.0 ≡ entry.id.0 → has_owner accounts offer ≡ nat_le offer.seq entry.window.last
     owner_is offer same =

@@ -1,4 +1,4 @@
--- Offers: what is read is spelled so, and what is spelled so is read.
+-- Offers: decoding inverts encoding, and back.
 use Rattle.std.proofs.Common.{◌≡◌, ◌≢◌, ℕ, ◌-◌, ◌<◌, ◌≤◌, true, List, ◌++◌, length, Option, None, Ok, All, refl, sym, ap, subst, ◌∙◌, arith}
 use Rattle.std.specs.Prelude.{IsTrue, not, ◌==◌}
 use Rattle.std.specs.List.{flat_map}
@@ -23,8 +23,8 @@ use Rattle.sx_ledger.specs.Ledger.{keys, has_owner, IsOffer}
 use Rattle.sx_ledger.specs.Order.{key_of, key_before}
 use Rattle.sx_ledger.specs.Encoding.{offer_bytes}
 use Rattle.sx_ledger.specs.Decoding.{guarded, sell_at, buy_at, offer_at, next_offer_at, offers_at, offer_list_at}
-use Rattle.sx_ledger.proofs.Chained.{guard_takes, guard_again, chained_takes, chained_again}
-use Rattle.sx_ledger.proofs.Each.{IsTaken, each_takes, each_again}
+use Rattle.sx_ledger.proofs.DependentParts.{guard_takes, guard_again, chained_takes, chained_again}
+use Rattle.sx_ledger.proofs.EntriesInOrder.{IsTaken, each_takes, each_again}
 
 -- ---- the fields of an offer, the last first
 
@@ -158,7 +158,7 @@ module _ (assets : ℕ) (some : 1 ≤ assets) (few : assets ≤ 32) where
       let one = offer_again accounts c offer after is within e in
       record { next = one.next; is = rw one.is (rw follows (rw is.owner refl)); rest_is = one.rest_is; same = one.same; within = one.within }
 
-  -- so many offers
+  -- n offers
   record SoMany (accounts : List Account) (n : ℕ) (offers : List Offer) : Type 0 where
     number : n ≡ length offers
     are : All (IsOffer assets accounts) offers
@@ -177,7 +177,7 @@ module _ (assets : ℕ) (some : 1 ≤ assets) (few : assets ≤ 32) where
 
 -- ---- their number, and the offers
 
--- offers of a state of so many assets, by these accounts
+-- offers of a state of `assets` assets, by these accounts
 pub record AreOffers (assets : ℕ) (accounts : List Account) (offers : List Offer) : Type 0 where
   pub few : length offers ≤ 262144
   pub are : All (IsOffer assets accounts) offers

@@ -1,4 +1,4 @@
--- The fields of a state: what is read is spelled so, and what is spelled so is read.
+-- The fields of a state: decoding inverts encoding, and back.
 use Rattle.std.proofs.Common.{◌≡◌, ℕ, ◌≤◌, ◌<◌, ◌^◌, List, ◌++◌, length, Ok, refl, sym, ap, subst, append_assoc}
 use Rattle.std.specs.List.{flat_map}
 use Rattle.byteorder.specs.Endian.{big_bytes}
@@ -12,7 +12,7 @@ use Rattle.sx_ledger.specs.declared.parts.Parts.{Parts}
 use Rattle.sx_ledger.specs.Ledger.{assets_of, total_of, IsLedger}
 use Rattle.sx_ledger.specs.Encoding.{state_bytes}
 use Rattle.sx_ledger.specs.Decoding.{head_at, account_list_at, offer_list_at, parts_at}
-use Rattle.sx_ledger.proofs.Chained.{chained_takes, chained_again}
+use Rattle.sx_ledger.proofs.DependentParts.{chained_takes, chained_again}
 use Rattle.sx_ledger.proofs.AccountLaws.{AreAccounts, account_list_bytes, account_list_takes, account_list_again}
 use Rattle.sx_ledger.proofs.OfferLaws.{AreOffers, offer_list_bytes, offer_list_takes, offer_list_again}
 use Rattle.sx_ledger.proofs.HeadLaws.{Head, IsFrom, IsHead, head_bytes, head_takes, head_again}

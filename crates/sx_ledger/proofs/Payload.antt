@@ -17,24 +17,8 @@ use Rattle.sx_ledger.specs.declared.parts.Parts.{Parts}
 use Rattle.sx_ledger.specs.Ledger.{assets_of, total_of, IsLedger}
 use Rattle.sx_ledger.specs.Encoding.{state_bytes}
 use Rattle.sx_ledger.specs.Decoding.{guarded, totals_fit, parts_at, state_at}
+use Rattle.sx_ledger.proofs.TotalsInRange.{totals_in_range, totals_fit_from}
 use Rattle.sx_ledger.proofs.PartsLaws.{parts_take, parts_again, ledger_from_read, read_from_ledger}
-
--- ---- totals that fit are in range, and back
-
-in_range_from_fit : (parts : Parts) (n : ℕ) → totals_fit parts n ≡ true → (asset : ℕ) → asset < n → total_of parts asset ≤ 2 ^ 62
-unfolding totals_fit
-in_range_from_fit parts zero fit asset lt = absurd (omega arith)
-in_range_from_fit parts (suc n) fit asset lt =
-    let both = and_parts _ _ fit in
-    elim (cases_lt asset n) [
-      | inl below ↦ in_range_from_fit parts n both.0 asset below
-      | inr above ↦ let same : asset ≡ n = omega arith in rw same (leb-true _ _ both.1)
-    ]
-
-fit_from_in_range : (parts : Parts) (n : ℕ) → ((asset : ℕ) → asset < n → total_of parts asset ≤ 2 ^ 62) → totals_fit parts n ≡ true
-unfolding totals_fit
-fit_from_in_range parts zero each = refl
-fit_from_in_range parts (suc n) each = and_from _ _ (fit_from_in_range parts n (λ asset lt. each asset (omega arith))) (le-leb _ _ (each n (omega arith)))
 
 -- ---- a payload
 
@@ -47,7 +31,7 @@ over = record { at = 0; fault = form.Total }
 abbrev at_end : Parts × Cursor → Result Parts FormFault
 at_end read = cond (eqb (left read.1) 0) (Ok read.0) (Err (record { at = read.1.place; fault = form.Rest }))
 
--- a payload that is read is the spelling of what was read
+-- a payload that is decoded is the encoding of what it gives
 pub state_takes : (bytes : List ℕ) (parts : Parts) → AreBytes bytes → state_at bytes ≡ Ok parts → IsLedger parts × (bytes ≡ state_bytes parts)
 unfolding state_at
 state_takes bytes parts are e =
@@ -60,35 +44,26 @@ state_takes bytes parts are e =
     let ended : left a.0.1 ≡ 0 = ap (λ (y : Parts × Cursor). left y.1) fit.1 ∙ eqb-true (left b.0.1) 0 whole.0 in
     let none : rest a.0.1 ≡ [] = nil_from_length (rest a.0.1) (length-rest a.0.1 ∙ ended) in
     let text : bytes ≡ state_bytes a.0.0 = t.0.parts ∙ ap (λ (r : List ℕ). state_bytes a.0.0 ++ r) none ∙ append-nil (state_bytes a.0.0) in
-    let is : IsLedger a.0.0 = ledger_from_read a.0.0 t.1 (in_range_from_fit a.0.0 (assets_of a.0.0) fit.0) in
+    let is : IsLedger a.0.0 = ledger_from_read a.0.0 t.1 (totals_in_range a.0.0 (assets_of a.0.0) fit.0) in
     subst (λ (p : Parts). IsLedger p × (bytes ≡ state_bytes p)) same (is, text)
 
--- the spelling of a state is read as that state
+-- the encoding of a state is decoded as that state
 pub state_again : (parts : Parts) → IsLedger parts → state_at (state_bytes parts) ≡ Ok parts
 unfolding state_at
 state_again parts is =
     let bytes = state_bytes parts in
     let read = parts_again (start_of bytes) parts [] (read_from_ledger parts is) (omega arith) (sym (append-nil bytes)) in
-    let fit : totals_fit parts (assets_of parts) ≡ true = fit_from_in_range parts (assets_of parts) is.totals in
+    let fit : totals_fit parts (assets_of parts) ≡ true = totals_fit_from parts (assets_of parts) is.totals in
     let ended : left read.next ≡ 0 = sym (length-rest read.next) ∙ ap length read.rest_is in
     rw read.is (rw fit (rw (eq-eqb (left read.next) 0 ended) refl))
 
--- ---- what the reader answers
-
-pub found_in : (bytes : List ℕ) (r : Result Parts ReadError) → AreBytes bytes → Gives (λ parts. parts) r (state_at bytes) → IfOk r (λ parts. IsLedger parts × (bytes ≡ state_bytes parts))
-found_in bytes (Ok parts) are e = state_takes bytes parts are e
-found_in bytes (Err error) are e = tt
-
-pub only_in : (bytes : List ℕ) (r : Result Parts ReadError) (parts : Parts) → Gives (λ found. found) r (state_at bytes) → IsLedger parts → bytes ≡ state_bytes parts → Gives (λ found. found) r (Ok parts)
-only_in bytes r parts given is e = subst (λ (read : Result Parts FormFault). Gives (λ found. found) r read) (ap state_at e ∙ state_again parts is) given
-
--- ---- the laws of the spelling
+-- ---- the laws of the encoding
 
 ledger_again : ReadsAgain parts_at state_bytes IsLedger
 ledger_again c parts after is within e = parts_again c parts after (read_from_ledger parts is) within e
 
-pub states_of_one_spelling : IsInjective state_bytes IsLedger
-states_of_one_spelling = is_injective parts_at state_bytes IsLedger ledger_again
+pub state_is_injective : IsInjective state_bytes IsLedger
+state_is_injective = is_injective parts_at state_bytes IsLedger ledger_again
 
-pub states_no_prefix : IsPrefixFree state_bytes IsLedger
-states_no_prefix = is_prefix_free parts_at state_bytes IsLedger ledger_again
+pub state_is_prefix_free : IsPrefixFree state_bytes IsLedger
+state_is_prefix_free = is_prefix_free parts_at state_bytes IsLedger ledger_again

@@ -7,7 +7,7 @@ use Rattle.sx_ledger.specs.declared.key.Key.{Key}
 use Rattle.sx_ledger.specs.declared.offer.Offer.{Offer}
 use Rattle.sx_ledger.specs.declared.parts.Parts.{Parts}
 use Rattle.sx_ledger.specs.Effects.{debits, credits}
-use Rattle.sx_ledger.specs.Ledger.{assets_of, balance_at}
+use Rattle.sx_ledger.specs.Ledger.{assets_of, balance_at, most_accounts, most_offers}
 use Rattle.sx_ledger.specs.Order.{key_of, offer_before, same_key}
 use Rattle.sx_ledger.specs.Static.{static_of}
 use Rattle.sx_tx.specs.declared.kind.Kind.{Kind}
@@ -15,7 +15,7 @@ use Rattle.sx_tx.specs.declared.kind.Kind.TheVariants as kind
 use Rattle.sx_tx.specs.declared.tx.Tx.{Tx}
 use Rattle.sx_tx.specs.Window.{Next}
 
--- a transaction stands before another: by account, then by number
+-- a transaction stands before another: by account, then by sequence number
 abbrev pub tx_before : Tx → Tx → Bool
 tx_before one other = nat_lt one.account.0 other.account.0 || ((one.account.0 == other.account.0) && nat_lt one.seq other.seq)
 
@@ -63,17 +63,17 @@ pub record IsAdmissible (parts : Parts) (txs : List Tx) : Type 0 where
   pub passes : All (λ tx. static_of parts tx ≡ Ok tt) txs
   pub cancels_once : IsDistinct same_key (cancelled txs)
   pub creates_once : IsDistinct nat_eq (created txs)
-  pub accounts_fit : length parts.accounts + length (created txs) ≤ 65536
-  pub offers_fit : length parts.offers + length (made txs) ≤ 262144
+  pub accounts_fit : length parts.accounts + length (created txs) ≤ most_accounts
+  pub offers_fit : length parts.offers + length (made txs) ≤ most_offers
   pub covered : (account asset : ℕ) → debits txs account asset ≤ holding_of parts.accounts account asset
 
 -- ---- what is left of an account
 
--- the account uses this number
+-- the account uses this sequence number
 abbrev pub uses : List Tx → ℕ → ℕ → Bool
 uses txs account seq = list_any (λ tx. (tx.account.0 == account) && (tx.seq == seq)) txs
 
--- the numbers from last + 1 on that the account uses, as a word of so many bits: bit i stands for last + 1 + i
+-- the sequence numbers after `last` that the account uses, as a word of n bits: bit i stands for last + 1 + i
 abbrev pub used_below : List Tx → ℕ → ℕ → ℕ → ℕ
 used_below txs account last zero = 0
 used_below txs account last (suc n) = (if uses txs account (last + 1 + n) then 2 ^ n else 0) + used_below txs account last n
@@ -94,7 +94,7 @@ account_after parts txs account = record {
   balances = balances_after parts.offers txs account.id.0 0 account.balances;
 }
 
--- an account that is created: it used no number, and holds what it is given
+-- an account that is created: it used no sequence number, and holds what it is given
 abbrev pub new_account : Parts → List Tx → ℕ → Account
 new_account parts txs id = record {
   id = record { 0 = id };

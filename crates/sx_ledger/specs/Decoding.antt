@@ -8,7 +8,7 @@ use Rattle.sx_ledger.specs.declared.account.Account.{Account}
 use Rattle.sx_ledger.specs.declared.key.Key.{Key}
 use Rattle.sx_ledger.specs.declared.offer.Offer.{Offer}
 use Rattle.sx_ledger.specs.declared.parts.Parts.{Parts}
-use Rattle.sx_ledger.specs.Ledger.{assets_of, has_owner, total_of}
+use Rattle.sx_ledger.specs.Ledger.{assets_of, has_owner, most_accounts, most_height, most_offers, total_of}
 use Rattle.sx_ledger.specs.Order.{key_of, key_before}
 use Rattle.sx_tx.specs.TransactionDecoding.{id_at, seq_at, amount_at, limit_at}
 
@@ -16,10 +16,10 @@ abbrev pub price_at : Cursor → Result (ℕ × Cursor) FormFault
 price_at = field_at 8 (between (2 ^ 8) (2 ^ 40)) form.PriceRange
 
 -- a balance, or the rounding of an asset
-abbrev pub units_at : Cursor → Result (ℕ × Cursor) FormFault
-units_at = field_at 8 (between 0 (2 ^ 62)) form.AmountRange
+abbrev pub units_field_at : Cursor → Result (ℕ × Cursor) FormFault
+units_field_at = field_at 8 (between 0 (2 ^ 62)) form.AmountRange
 
--- the greatest number that an account used, 0 where it used none
+-- the greatest sequence number that an account used, 0 where it used none
 abbrev pub last_at : Cursor → Result (ℕ × Cursor) FormFault
 last_at = field_at 8 (between 0 (2 ^ 63 - 1)) form.SeqRange
 
@@ -27,7 +27,7 @@ last_at = field_at 8 (between 0 (2 ^ 63 - 1)) form.SeqRange
 abbrev pub guarded : {X : Type 0} → Bool → X × Cursor → FormFault → Result (X × Cursor) FormFault
 guarded passes entry fault = if passes then Ok entry else Err fault
 
--- so many entries, each read with the mark of the one before it in view
+-- a number of entries, each read with the mark of the one before it in view
 unfoldable pub each_at : {X M : Type 0} → (Option M → Cursor → Result (X × Cursor) FormFault) → (X → M) → ℕ → Option M → Cursor → Result (List X × Cursor) FormFault
 each_at entry mark zero before c = Ok ([], c)
 each_at entry mark (suc n) before c = do
@@ -41,7 +41,7 @@ unfoldable pub account_at : ℕ → Cursor → Result (Account × Cursor) FormFa
 account_at assets c = do
   id ← id_at c
   last ← last_at id.1
-  balances ← many_at units_at assets last.1
+  balances ← many_at units_field_at assets last.1
   Ok (record { id = record { 0 = id.0 }; window = record { last = last.0; used = 0 }; balances = balances.0 }, balances.1)
 
 -- an account that comes after the one before it, of which the id is known
@@ -55,7 +55,7 @@ accounts_at assets = each_at (next_account_at assets) (λ account. account.id.0)
 
 -- ---- offers
 
--- what is sold, one of so many assets
+-- what is sold, one of `assets` assets
 abbrev pub sell_at : ℕ → Cursor → Result (ℕ × Cursor) FormFault
 sell_at assets = field_at 1 (between 0 (assets - 1)) form.AssetRange
 
@@ -91,22 +91,22 @@ offers_at accounts assets = each_at (next_offer_at accounts assets) key_of
 unfoldable pub head_at : Cursor → Result ((ℕ × ℕ × List ℕ × List ℕ) × Cursor) FormFault
 head_at c = do
   version ← field_at 1 (between 1 1) form.Version c
-  height ← field_at 8 (between 0 (2 ^ 63 - 1)) form.HeightRange version.1
+  height ← field_at 8 (between 0 most_height) form.HeightRange version.1
   assets ← field_at 1 (between 1 32) form.AssetCount height.1
   prices ← many_at price_at assets.0 assets.1
-  rounding ← many_at units_at assets.0 prices.1
+  rounding ← many_at units_field_at assets.0 prices.1
   Ok ((version.0, height.0, prices.0, rounding.0), rounding.1)
 
 -- the number of accounts, and the accounts
 unfoldable pub account_list_at : ℕ → Cursor → Result (List Account × Cursor) FormFault
 account_list_at assets c = do
-  count ← field_at 4 (between 0 65536) form.TooMany c
+  count ← field_at 4 (between 0 most_accounts) form.TooMany c
   accounts_at assets count.0 None count.1
 
 -- the number of offers, and the offers
 unfoldable pub offer_list_at : List Account → ℕ → Cursor → Result (List Offer × Cursor) FormFault
 offer_list_at accounts assets c = do
-  count ← field_at 4 (between 0 262144) form.TooMany c
+  count ← field_at 4 (between 0 most_offers) form.TooMany c
   offers_at accounts assets count.0 None count.1
 
 -- the fields of a payload
@@ -117,7 +117,7 @@ parts_at c = do
   offers ← offer_list_at accounts.0 (length head.0.2) accounts.1
   Ok (record { version = head.0.0; height = head.0.1; prices = head.0.2; rounding = head.0.3; accounts = accounts.0; offers = offers.0 }, offers.1)
 
--- the total of each asset below so many is in range
+-- the total of each of the first assets is in range
 unfoldable pub totals_fit : Parts → ℕ → Bool
 totals_fit parts zero = true
 totals_fit parts (suc n) = totals_fit parts n && nat_le (total_of parts n) (2 ^ 62)

@@ -6,13 +6,14 @@ use Rattle.sx_ledger.specs.declared.account.Account.{Account}
 use Rattle.sx_ledger.specs.declared.offer.Offer.{Offer}
 use Rattle.sx_ledger.specs.declared.parts.Parts.{Parts}
 use Rattle.sx_ledger.specs.Body.{IsAdmissible, account_after, body_after, used_numbers}
-use Rattle.sx_ledger.specs.Bounds.{amounts, high_of, low_of, may_trade, must_trade}
+use Rattle.sx_ledger.specs.Bounds.{amounts, high_of, low_of, may_trade_at, must_trade_at}
 use Rattle.sx_ledger.specs.Effects.{credits, debits}
 use Rattle.sx_ledger.specs.Ledger.{IsLedger, assets_of, total_of}
 use Rattle.sx_tx.specs.declared.kind.Kind.{Kind}
 use Rattle.sx_tx.specs.declared.kind.Kind.TheVariants as kind
 use Rattle.sx_tx.specs.declared.tx.Tx.{Tx}
 use Rattle.sx_tx.specs.declared.window.Window.{Window}
+use Rattle.sx_tx.specs.Transactions.{IsTx}
 use Rattle.sx_tx.specs.Window.{Next}
 
 -- ---- debits and credits
@@ -43,7 +44,7 @@ CreditsPermuted =
 abbrev pub MustWithinMay : Type 0
 MustWithinMay =
     (prices : List ℕ) (j : ℕ) (offers : List Offer) →
-    amounts (filter (must_trade prices j) offers) ≤ amounts (filter (may_trade prices) offers)
+    amounts (filter (must_trade_at prices j) offers) ≤ amounts (filter (may_trade_at prices) offers)
 
 -- the least value of a pair is at most the greatest
 abbrev pub LowWithinHigh : Type 0
@@ -64,22 +65,22 @@ pays account (kind.Cancel sell buy limit seq) = false
 abbrev pub names : ℕ → Tx → Bool
 names account tx = (tx.account.0 == account) || pays account tx.kind
 
--- an account that no transaction names stays as it was
+-- an account that no transaction names does not change
 abbrev pub UnnamedStays : Type 0
 UnnamedStays =
     (parts : Parts) (txs : List Tx) (account : Account) → All (λ tx. names account.id.0 tx ≡ false) txs →
     account_after parts txs account ≡ account
 
--- the greatest number that an account uses, 0 where it uses none
+-- the greatest sequence number that an account uses, 0 where it uses none
 abbrev pub greatest_number : List Tx → ℕ → ℕ
 greatest_number [] account = 0
 greatest_number (tx ∷ txs) account = max (if tx.account.0 == account then tx.seq else 0) (greatest_number txs account)
 
--- each number that the account uses is among the 64 above the last one
+-- each sequence number that the account uses is among the 64 above the last one
 abbrev pub InWindow : List Tx → ℕ → ℕ → Type 0
 InWindow txs account last = All (λ tx. tx.account.0 ≡ account → (last < tx.seq) × (tx.seq ≤ last + 64)) txs
 
--- the last number of a window is afterwards the greatest one that was used, or stays where none was
+-- the last sequence number of a window is afterwards the greatest one that was used, or the old one where none was
 abbrev pub LastIsGreatest : Type 0
 LastIsGreatest =
     (txs : List Tx) (account : ℕ) (window : Window) → window.used ≡ 0 → InWindow txs account window.last →
@@ -87,6 +88,11 @@ LastIsGreatest =
     ≡ record { last = (if greatest_number txs account == 0 then window.last else greatest_number txs account); used = 0 }
 
 -- ---- the whole body
+
+-- the ledger after the body of a block is a ledger, where each number of the transactions is in its range
+abbrev pub BodyKeepsLedger : Type 0
+BodyKeepsLedger =
+    (parts : Parts) (txs : List Tx) → IsLedger parts → All IsTx txs → IsAdmissible parts txs → IsLedger (body_after parts txs)
 
 -- the body of a block makes and loses nothing of any asset
 abbrev pub BodyConserves : Type 0

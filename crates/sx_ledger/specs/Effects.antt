@@ -7,7 +7,7 @@ use Rattle.sx_tx.specs.declared.kind.Kind.{Kind}
 use Rattle.sx_tx.specs.declared.kind.Kind.TheVariants as kind
 use Rattle.sx_tx.specs.declared.tx.Tx.{Tx}
 
--- so many units of an asset at an account
+-- units of an asset at an account
 pub record Posting : Type 0 where
   pub account : ℕ
   pub asset : ℕ
@@ -40,15 +40,15 @@ credit_of offers account (kind.Cancel sell buy limit seq) =
 abbrev pub credit : List Offer → Tx → Option Posting
 credit offers tx = credit_of offers tx.account.0 tx.kind
 
--- what a posting has of an asset at an account
-abbrev pub units_at : Option Posting → ℕ → ℕ → ℕ
-units_at None account asset = 0
-units_at (Some posting) account asset = if (posting.account == account) && (posting.asset == asset) then posting.units else 0
+-- the units that are posted of an asset at an account
+abbrev pub posted : Option Posting → ℕ → ℕ → ℕ
+posted None account asset = 0
+posted (Some posting) account asset = if (posting.account == account) && (posting.asset == asset) then posting.units else 0
 
 abbrev pub debits : List Tx → ℕ → ℕ → ℕ
 debits [] account asset = 0
-debits (tx ∷ txs) account asset = units_at (debit tx) account asset + debits txs account asset
+debits (tx ∷ txs) account asset = posted (debit tx) account asset + debits txs account asset
 
 abbrev pub credits : List Offer → List Tx → ℕ → ℕ → ℕ
 credits offers [] account asset = 0
-credits offers (tx ∷ txs) account asset = units_at (credit offers tx) account asset + credits offers txs account asset
+credits offers (tx ∷ txs) account asset = posted (credit offers tx) account asset + credits offers txs account asset

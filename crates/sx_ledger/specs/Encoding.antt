@@ -1,4 +1,4 @@
--- The one spelling of a state as bytes.
+-- The one encoding of a state as bytes.
 use Rattle.std.specs.Prelude.{ℕ, List, ◌++◌, length}
 use Rattle.std.specs.List.{flat_map}
 use Rattle.byteorder.specs.Endian.{big_bytes}

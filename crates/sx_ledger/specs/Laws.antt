@@ -1,9 +1,9 @@
--- Laws of a state's spelling.
+-- Laws of a state's encoding.
 use Rattle.std.specs.Prelude.{◌≤◌, length}
 use Rattle.sx_ledger.specs.declared.parts.Parts.{Parts}
-use Rattle.sx_ledger.specs.Ledger.{IsLedger}
+use Rattle.sx_ledger.specs.Ledger.{IsLedger, longest_state}
 use Rattle.sx_ledger.specs.Encoding.{state_bytes}
 
--- the longest spelling has 26,739,218 bytes, which fit the payload of a record
+-- the longest encoding has 26,739,218 bytes, which fit the payload of a record
 abbrev pub EveryStateFits : Type 0
-EveryStateFits = (parts : Parts) → IsLedger parts → length (state_bytes parts) ≤ 26739218
+EveryStateFits = (parts : Parts) → IsLedger parts → length (state_bytes parts) ≤ longest_state

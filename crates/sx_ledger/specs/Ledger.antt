@@ -1,5 +1,5 @@
 -- What a ledger keeps, over its parts: lists and whole numbers.
-use Rattle.std.specs.Prelude.{◌≡◌, ◌≢◌, ℕ, ◌+◌, ◌^◌, ◌<◌, ◌≤◌, Bool, IsTrue, List, length, map, slice_index, None, nat_le, ◌==◌, ◌&&◌, if◌then◌else◌}
+use Rattle.std.specs.Prelude.{◌≡◌, ◌≢◌, ℕ, ◌+◌, ◌-◌, ◌^◌, ◌<◌, ◌≤◌, Bool, IsTrue, List, length, map, slice_index, None, nat_le, ◌==◌, ◌&&◌, if◌then◌else◌}
 use Rattle.std.specs.List.{All, Contains, list_any, sum_by}
 use Rattle.std.specs.List.Sorted.{IsStrictlyIncreasing}
 use Rattle.sx_bytes.specs.Grammar.{in_order}
@@ -8,7 +8,25 @@ use Rattle.sx_ledger.specs.declared.key.Key.{Key}
 use Rattle.sx_ledger.specs.declared.offer.Offer.{Offer}
 use Rattle.sx_ledger.specs.declared.parts.Parts.{Parts}
 use Rattle.sx_ledger.specs.Order.{key_of, key_before}
-use Rattle.sx_tx.specs.Transactions.{IsId, IsSeq, IsAmount, IsLimit}
+use Rattle.sx_price.specs.Limits.{IsPrice, IsLimit}
+use Rattle.sx_tx.specs.Transactions.{IsId, IsSeq, IsAmount}
+
+-- ---- the most that a ledger takes
+
+abbrev pub most_accounts : ℕ
+most_accounts = 65536
+
+abbrev pub most_offers : ℕ
+most_offers = 262144
+
+abbrev pub most_height : ℕ
+most_height = 2 ^ 63 - 1
+
+-- the bytes of the longest state
+abbrev pub longest_state : ℕ
+longest_state = 26739218
+
+-- ---- accounts, offers and totals
 
 -- what an account holds of an asset
 abbrev pub balance_at : ℕ → Account → ℕ
@@ -40,11 +58,9 @@ offered asset offer = if offer.sell == asset then offer.amount else 0
 abbrev pub total_of : Parts → ℕ → ℕ
 total_of parts asset = sum_by (balance_at asset) parts.accounts + (sum_by (offered asset) parts.offers + slice_index parts.rounding asset)
 
--- a price, in units of 2 ^ -24
-abbrev pub IsPrice : ℕ → Type 0
-IsPrice price = (2 ^ 8 ≤ price) × (price ≤ 2 ^ 40)
+-- ---- what a ledger keeps
 
--- an account with a balance of each of so many assets
+-- an account with a balance of each of `assets` assets
 pub record IsAccount (assets : ℕ) (account : Account) : Type 0 where
   pub id : IsId account.id.0
   pub last : account.window.last < 2 ^ 63
@@ -52,11 +68,11 @@ pub record IsAccount (assets : ℕ) (account : Account) : Type 0 where
   pub balances : length account.balances ≡ assets
   pub in_range : All (λ balance. balance ≤ 2 ^ 62) account.balances
 
--- the account of an offer is there, and has used the offer's number or a greater one
+-- the account of an offer is there, and its last sequence number is that of the offer or a greater one
 abbrev pub has_owner : List Account → Offer → Bool
 has_owner accounts offer = list_any (λ account. (account.id.0 == offer.account.0) && nat_le offer.seq account.window.last) accounts
 
--- an offer of two different assets out of so many, by one of these accounts
+-- an offer of two different assets out of `assets`, by one of these accounts
 pub record IsOffer (assets : ℕ) (accounts : List Account) (offer : Offer) : Type 0 where
   pub sell : offer.sell < assets
   pub buy : offer.buy < assets
@@ -69,16 +85,16 @@ pub record IsOffer (assets : ℕ) (accounts : List Account) (offer : Offer) : Ty
 
 pub record IsLedger (parts : Parts) : Type 0 where
   pub version : parts.version ≡ 1
-  pub height : parts.height < 2 ^ 63
+  pub height : parts.height ≤ most_height
   pub some_asset : 1 ≤ assets_of parts
   pub few_assets : assets_of parts ≤ 32
   pub prices : All IsPrice parts.prices
   pub one_rounding : length parts.rounding ≡ assets_of parts
   pub rounding : All (λ units. units ≤ 2 ^ 62) parts.rounding
-  pub few_accounts : length parts.accounts ≤ 65536
+  pub few_accounts : length parts.accounts ≤ most_accounts
   pub accounts : All (IsAccount (assets_of parts)) parts.accounts
   pub by_id : IsStrictlyIncreasing (ids parts.accounts)
-  pub few_offers : length parts.offers ≤ 262144
+  pub few_offers : length parts.offers ≤ most_offers
   pub offers : All (IsOffer (assets_of parts) parts.accounts) parts.offers
   pub by_key : IsTrue (in_order key_before None (keys parts.offers))
   pub totals : (asset : ℕ) → asset < assets_of parts → total_of parts asset ≤ 2 ^ 62

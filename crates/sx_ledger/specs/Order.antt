@@ -1,4 +1,4 @@
--- The order of offers: by what is sold, what is bought, the limit, the account and the number.
+-- The order of offers: by what is sold, what is bought, the limit, the account and the sequence number.
 use Rattle.std.specs.Prelude.{ℕ, Bool, List, [], ◌∷◌, nat_eq}
 use Rattle.std.specs.declared.cmp.Ordering.{Ordering}
 use Rattle.std.specs.Ordering.{is_lt, nat_cmp}

@@ -13,22 +13,22 @@ use Rattle.sx_tx.specs.declared.kind.Kind.{Kind}
 use Rattle.sx_tx.specs.declared.kind.Kind.TheVariants as kind
 use Rattle.sx_tx.specs.declared.tx.Tx.{Tx}
 
-abbrev pub number_of : Static → ℕ
-number_of UnknownAccount = 1
-number_of SeqBehind = 2
-number_of SeqBeyond = 3
-number_of UnknownAsset = 4
-number_of SamePair = 5
-number_of UnknownPayee = 6
-number_of AccountExists = 7
-number_of NoSuchOffer = 8
-number_of Dust = 9
+abbrev pub number_of_static : Static → ℕ
+number_of_static UnknownAccount = 1
+number_of_static SeqBehind = 2
+number_of_static SeqBeyond = 3
+number_of_static UnknownAsset = 4
+number_of_static SamePair = 5
+number_of_static UnknownPayee = 6
+number_of_static AccountExists = 7
+number_of_static NoSuchOffer = 8
+number_of_static Dust = 9
 
 -- an account of this id is there
 abbrev pub has_account : List Account → ℕ → Bool
 has_account accounts id = list_any (λ account. account.id.0 == id) accounts
 
--- the greatest number that the account used, 0 where it is not there
+-- the greatest sequence number that the account used, 0 where it is not there
 abbrev pub last_of : List Account → ℕ → ℕ
 last_of [] id = 0
 last_of (account ∷ accounts) id = if account.id.0 == id then account.window.last else last_of accounts id
@@ -37,7 +37,7 @@ last_of (account ∷ accounts) id = if account.id.0 == id then account.window.la
 abbrev pub has_offer : List Offer → Key → Bool
 has_offer offers key = list_any (λ offer. same_key (key_of offer) key) offers
 
--- it names an asset that is not among so many
+-- it names an asset that is not among `assets` assets
 abbrev pub names_beyond : ℕ → Kind → Bool
 names_beyond assets (kind.Pay to asset amount) = nat_le assets asset
 names_beyond assets (kind.Create id) = false

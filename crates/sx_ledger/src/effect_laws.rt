@@ -1,3 +1,5 @@
+//! Laws of what transactions do to accounts and offers.
+
 ghost use Rattle.sx_ledger.specs.EffectLaws.{
   DebitsAppend,
   CreditsAppend,
@@ -7,6 +9,7 @@ ghost use Rattle.sx_ledger.specs.EffectLaws.{
   LowWithinHigh,
   UnnamedStays,
   LastIsGreatest,
+  BodyKeepsLedger,
   BodyConserves,
 };
 
@@ -26,10 +29,12 @@ pub fn bound_laws()
     ensures low_within_high { LowWithinHigh }
 {}
 
-/// An account that no transaction names stays as it was, the last number of an account is the
-/// greatest one that it used, and the body of a block makes and loses nothing of any asset.
+/// An account that no transaction names does not change, and the last sequence number of an account
+/// is the greatest one that it used. The ledger after the body of a block is a ledger, and there is
+/// as much of each asset as before.
 pub fn body_laws()
     ensures unnamed_stays { UnnamedStays }
     ensures last_is_greatest { LastIsGreatest }
+    ensures keeps_ledger { BodyKeepsLedger }
     ensures conserves { BodyConserves }
 {}

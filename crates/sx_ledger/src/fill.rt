@@ -1,3 +1,5 @@
+//! What each offer trades in a block.
+
 use sx_bytes::ListOf;
 
 /// What an offer trades in a block: its place in the list of its pair, the value that it trades in

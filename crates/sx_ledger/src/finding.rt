@@ -12,7 +12,7 @@ use crate::ledger::Ledger;
 use crate::offer::Offer;
 use sx_base::AccountId;
 
-/// The place of the account of this id among accounts that stand by id.
+// The place of the account of this id among accounts that stand by id.
 pub fn find_account(accounts: &[Account], id: AccountId) -> Option<usize>
     requires { IsStrictlyIncreasing (ids accounts.now) }
     ensures found { IfSome result (λ place. slice_get (ids accounts.now) place ≡ Some id.0) }
@@ -23,8 +23,8 @@ pub fn find_account(accounts: &[Account], id: AccountId) -> Option<usize>
         .ok()
 }
 
-/// Whether the account of an offer is among these accounts, of which the ids are given, and has used
-/// the offer's number or a greater one.
+// Whether the account of an offer is among these accounts, of which the ids are given, and has used
+// the offer's sequence number or a greater one.
 pub fn has_owner(index: &AccountIndex, accounts: &[Account], offer: &Offer) -> bool
     requires { index.now ≡ ids accounts.now }
     ensures { result ≡ is_owned accounts.now offer.now }

@@ -2,7 +2,7 @@
 
 ghost use Rattle.std.specs.Prelude.{◌≡◌, ◌≤◌, length, slice_get, IfOk, IfSome, IfNone, Some, Contains};
 ghost use Rattle.std.specs.List.Sorted.{IsStrictlyIncreasing};
-ghost use Rattle.sx_ledger.specs.Ledger.{ids};
+ghost use Rattle.sx_ledger.specs.Ledger.{ids, most_accounts};
 
 use crate::account::Account;
 use crate::ledger::Ledger;
@@ -11,7 +11,7 @@ use std::marker::Model;
 use sx_base::AccountId;
 use sx_bytes::NoMemory;
 
-/// The ids of accounts, which lie close together to be searched. Contracts see the list.
+/// The ids of accounts, side by side to be searched fast. Contracts see the list.
 #[derive(Debug, Drop)]
 pub struct AccountIndex {
     entries: Vec<u64>,
@@ -20,19 +20,20 @@ pub struct AccountIndex {
 impl Model for AccountIndex {
     ghost use Rattle.std.specs.Prelude.{ℕ, ◌≤◌, List, length};
     ghost use Rattle.std.specs.List.Sorted.{IsStrictlyIncreasing};
+    ghost use Rattle.sx_ledger.specs.Ledger.{most_accounts};
 
     ghost Value = { List ℕ };
 
     ghost view = { λ index. index.entries.items };
 
-    ghost invariant = { λ index. IsStrictlyIncreasing index.entries.items × (length index.entries.items ≤ 65536) };
+    ghost invariant = { λ index. IsStrictlyIncreasing index.entries.items × (length index.entries.items ≤ most_accounts) };
 }
 
 impl AccountIndex {
     /// The ids of accounts that stand by id, at most 65,536.
     pub fn of(alloc: Global, accounts: &[Account]) -> Result<AccountIndex, NoMemory>
         requires by_id { IsStrictlyIncreasing (ids accounts.now) }
-        requires few { length accounts.now ≤ 65536 }
+        requires few { length accounts.now ≤ most_accounts }
         ensures { IfOk result (λ index. index ≡ ids accounts.now) }
     {
         let entries = accounts.iter().map(|account| account.id.0).collect(alloc)?;
@@ -55,9 +56,10 @@ impl AccountIndex {
 
 impl Ledger {
     /// The ids of the accounts, to look many of them up.
-    pub fn index(&self, alloc: Global) -> Result<AccountIndex, NoMemory>
+    pub fn index(&self) -> Result<AccountIndex, NoMemory>
         ensures { IfOk result (λ index. index ≡ ids self.now.accounts) }
     {
-        AccountIndex::of(alloc, self.parts().accounts.items())
+        let accounts = &self.parts().accounts;
+        AccountIndex::of(accounts.allocator(), accounts.items())
     }
 }

@@ -1,5 +1,7 @@
+//! The state between two blocks, and what it tells.
+
 ghost use Rattle.std.specs.Prelude.{◌≡◌, ◌<◌, ◌≤◌, ◌^◌, length, slice_index, slice_get, IfSome, Some};
-ghost use Rattle.sx_ledger.specs.Ledger.{IsLedger, assets_of, balance_at};
+ghost use Rattle.sx_ledger.specs.Ledger.{IsLedger, assets_of, balance_at, most_accounts, most_height, most_offers};
 
 use crate::account::Account;
 use crate::offer::Offer;
@@ -26,6 +28,18 @@ impl Model for Ledger {
 }
 
 impl Ledger {
+    /// The most accounts.
+    pub const MOST_ACCOUNTS: u32 = 65_536;
+
+    /// The most offers.
+    pub const MOST_OFFERS: u32 = 262_144;
+
+    /// The greatest height.
+    pub const MOST_HEIGHT: u64 = (1 << 63) - 1;
+
+    /// How many bytes the longest state has.
+    pub const LONGEST: u32 = 26_739_218;
+
     /// The ledger of these parts, which keep what a ledger keeps.
     pub fn of(parts: Parts) -> Ledger
         requires { IsLedger parts }
@@ -50,7 +64,7 @@ impl Ledger {
         &self.parts
     }
 
-    /// The version of the state's form, which is 1.
+    /// The version of the state's encoding, which is 1.
     pub fn version(&self) -> u8
         ensures version { result ≡ self.now.version }
         ensures kept { IsLedger self.now }
@@ -58,9 +72,10 @@ impl Ledger {
         self.parts.version
     }
 
-    /// How many blocks came before.
+    /// How many blocks came before, at most `2^63 - 1`.
     pub fn height(&self) -> u64
         ensures height { result ≡ self.now.height }
+        ensures in_range { result ≤ most_height }
         ensures kept { IsLedger self.now }
     {
         self.parts.height
@@ -98,7 +113,7 @@ impl Ledger {
     /// How many accounts there are, at most 65,536.
     pub fn accounts(&self) -> u32
         ensures number { result ≡ length self.now.accounts }
-        ensures few { result ≤ 65536 }
+        ensures few { result ≤ most_accounts }
         ensures kept { IsLedger self.now }
     {
         self.parts.accounts.items().len() as u32
@@ -126,7 +141,7 @@ impl Ledger {
     /// How many offers there are, at most 262,144.
     pub fn offers(&self) -> u32
         ensures number { result ≡ length self.now.offers }
-        ensures few { result ≤ 262144 }
+        ensures few { result ≤ most_offers }
         ensures kept { IsLedger self.now }
     {
         self.parts.offers.items().len() as u32

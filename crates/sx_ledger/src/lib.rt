@@ -6,15 +6,21 @@
 //! number in its range, and for each asset a total of balances, offers and rounding of at most
 //! `2^62`. Contracts see a ledger as its [`Parts`].
 //!
-//! [`read_state`] answers a ledger exactly where the bytes spell one, and else the first fault from
-//! left to right; [`Ledger::write_state`] writes the one spelling. [`Ledger::static_check`] answers
-//! the first reason why the ledger refuses a transaction by itself. An [`AccountIndex`] finds many
-//! accounts fast. Any call that takes memory may answer instead that it ran out.
+//! [`read_state`] answers a ledger exactly where the bytes are the encoding of one, and else the
+//! first fault from left to right; [`Ledger::write_state`] writes the one encoding, and
+//! [`read_prices`] reads a price for each asset. [`Ledger::static_check`] answers the first reason,
+//! a [`Static`], why the ledger refuses a transaction by itself. [`Ledger::find`] and
+//! [`Ledger::find_offer`] search for an account and for an offer, an [`AccountIndex`] finds many
+//! accounts fast, and [`Ledger::copy`] makes a ledger of its own. Any call that takes memory may
+//! answer out of memory instead.
+//!
+//! An [`Account`] has its [`Window`](sx_tx::Window) and its balances, an [`Offer`] its terms and its
+//! amount, and a [`Fill`] what an offer trades. [`Accounts`], [`Offers`] and [`Fills`] are lists.
 //!
 //! `specs/` holds the definitions that the crates above share: effects of transactions, the body of
 //! a block and what it leaves, bounds of trade, fills, rounding and what trading leaves.
 //! [`posting_laws`], [`bound_laws`] and [`body_laws`] carry their laws, and [`state_laws`] those of
-//! the spelling.
+//! the encoding.
 //!
 //! Not here: computing what a block leaves, and whether a block is valid.
 #![tactic(auto)]
@@ -32,6 +38,7 @@ mod offer;
 mod offer_reading;
 mod parts;
 mod reading;
+mod sizes;
 mod statics;
 mod totals;
 mod writing;
@@ -48,7 +55,5 @@ pub use parts::Parts;
 pub use reading::{read_prices, read_state};
 pub use statics::Static;
 
-#[cfg(test)]
-mod static_tests;
 #[cfg(test)]
 mod tests;

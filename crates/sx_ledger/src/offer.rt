@@ -1,3 +1,5 @@
+//! Offers.
+
 ghost use Rattle.std.specs.Prelude.{◌≡◌};
 ghost use Rattle.sx_ledger.specs.Order.{key_of};
 
@@ -7,7 +9,7 @@ use sx_bytes::ListOf;
 use sx_price::Limit;
 
 /// An offer of an account: it sells `amount` units of `sell` for `buy`, at `limit` or better. Its
-/// number `seq` is that of the transaction that made it.
+/// sequence number `seq` is that of the transaction that made it.
 #[derive(Clone, Copy, Debug, PartialEq, Eq)]
 pub struct Offer {
     pub sell: AssetId,

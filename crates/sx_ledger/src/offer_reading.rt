@@ -3,7 +3,7 @@
 ghost use Rattle.std.specs.Prelude.{◌≡◌, ◌≤◌, None, length};
 ghost use Rattle.std.specs.List.Sorted.{IsStrictlyIncreasing};
 ghost use Rattle.sx_bytes.specs.Grammar.{DecodesOrStrays, MayDecodeOrStray, may_follow};
-ghost use Rattle.sx_ledger.specs.Ledger.{ids};
+ghost use Rattle.sx_ledger.specs.Ledger.{ids, most_accounts};
 ghost use Rattle.sx_ledger.specs.Order.{key_before};
 ghost use Rattle.sx_ledger.specs.Decoding.{sell_at, buy_at, offer_at, next_offer_at, offers_at, offer_list_at};
 
@@ -11,19 +11,16 @@ use crate::account::Account;
 use crate::finding::has_owner;
 use crate::index::AccountIndex;
 use crate::key::Key;
+use crate::ledger::Ledger;
 use crate::offer::{Offer, Offers};
 use crate::reading::refusal;
+use crate::sizes::OFFER_BYTES;
 use std::alloc::Global;
 use sx_base::AssetId;
 use sx_bytes::{Form, FormFault, ReadError, Reader};
 use sx_tx::{read_amount, read_id, read_limit, read_seq};
 
-const MOST_OFFERS: u32 = 262_144;
-
-// How many bytes an offer takes.
-const OFFER_BYTES: usize = 34;
-
-// What is sold, one of so many assets.
+// What is sold, one of `assets` assets.
 #[inline]
 fn sell(from: &mut Reader, assets: u8) -> Result<AssetId, FormFault>
     requires some { 1 ≤ assets }
@@ -73,7 +70,7 @@ fn offer(from: &mut Reader, assets: u8) -> Result<Offer, FormFault>
     })
 }
 
-// Whether an offer of this key may stand behind the one before it.
+// Whether an offer of this key may stand after the one before it.
 fn follows(before: Option<Key>, key: &Key) -> bool
     ensures { result ≡ may_follow key_before before key.now }
 {
@@ -121,7 +118,7 @@ fn offers(
     requires indexed { index.now ≡ ids accounts.now }
     ensures { MayDecodeOrStray (λ x. x) (offers_at accounts.now assets count None from.old) from.new result }
 {
-    let room = from.left() / OFFER_BYTES;
+    let room = from.left() / OFFER_BYTES as usize;
     let mut offers = Vec::with_capacity(alloc, room.min(count as usize))?;
     let mut before = None;
     for _ in 0..count {
@@ -132,7 +129,7 @@ fn offers(
     Ok(Offers::of(offers))
 }
 
-/// The offers at the place, by these accounts: their number, and so many offers.
+// The offers at the place, by these accounts: how many there are, and each of them.
 #[tactic(auto, unfolding(crate::specs::Decoding::offer_list_at))]
 pub fn offer_list(
     alloc: Global,
@@ -143,10 +140,10 @@ pub fn offer_list(
     requires some { 1 ≤ assets }
     requires few { assets ≤ 32 }
     requires by_id { IsStrictlyIncreasing (ids accounts.now) }
-    requires few_accounts { length accounts.now ≤ 65536 }
+    requires few_accounts { length accounts.now ≤ most_accounts }
     ensures { MayDecodeOrStray (λ x. x) (offer_list_at accounts.now assets from.old) from.new result }
 {
-    let count = from.field_u32(0, MOST_OFFERS, Form::TooMany)?;
+    let count = from.field_u32(0, Ledger::MOST_OFFERS, Form::TooMany)?;
     let index = AccountIndex::of(alloc, accounts)?;
     offers(alloc, from, assets, &index, accounts, count)
 }

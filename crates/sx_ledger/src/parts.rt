@@ -1,3 +1,5 @@
+//! What a ledger is made of.
+
 use crate::account::Accounts;
 use crate::offer::Offers;
 use sx_base::Balances;
@@ -5,7 +7,7 @@ use sx_price::Prices;
 
 /// What a ledger is made of: the version of its form, its height (how many blocks came before),
 /// the price of each asset in units of `2^-24`, the units of each asset kept by rounding, the
-/// accounts by id, and the offers by what is sold, what is bought, limit, account and number.
+/// accounts by id, and the offers by their keys.
 #[derive(Debug, Drop)]
 pub struct Parts {
     pub version: u8,

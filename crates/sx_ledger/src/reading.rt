@@ -1,41 +1,29 @@
 //! Reading a state, field by field from left to right. Each field is read whole and then tested, and
 //! an entry is compared with the one before it once its last field is read.
 
-ghost use Rattle.std.specs.Prelude.{◌≡◌, ◌≤◌, List, IfOk, None, Ok};
+ghost use Rattle.std.specs.Prelude.{◌≡◌, ◌≤◌, List, IfOk, OnErr, None, Ok};
 ghost use Rattle.sx_bytes.specs.declared.fault.Form.TheVariants as form;
 ghost use Rattle.sx_bytes.specs.Cursor.{Decodes};
 ghost use Rattle.sx_bytes.specs.Grammar.{between, Gives, MayDecodeOrStray, field_at, many_at};
 ghost use Rattle.sx_ledger.specs.declared.parts.Parts.{Parts};
 ghost use Rattle.sx_ledger.specs.Ledger.{IsLedger};
 ghost use Rattle.sx_ledger.specs.Encoding.{state_bytes};
-ghost use Rattle.sx_ledger.specs.Decoding.{price_at, units_at, account_at, next_account_at, accounts_at, account_list_at, head_at, parts_at, state_at};
+ghost use Rattle.sx_ledger.specs.Decoding.{price_at, units_field_at, account_at, next_account_at, accounts_at, account_list_at, head_at, parts_at, state_at};
 
 use crate::account::{Account, Accounts};
 use crate::ledger::Ledger;
 use crate::offer_reading::offer_list;
 use crate::parts::Parts;
+use crate::sizes::ACCOUNT_BYTES;
 use crate::totals::totals_fit;
 use std::alloc::Global;
-use sx_base::{Balances, Seq};
+use sx_base::{Amount, AssetId, Balances, Seq};
 use sx_bytes::{Form, FormFault, ReadError, Reader};
 use sx_price::{Price, Prices};
 use sx_tx::{Window, read_id};
 
-// The version of the form.
+// The version of a state's encoding.
 const VERSION: u8 = 1;
-
-// The greatest height.
-const LAST_HEIGHT: u64 = (1 << 63) - 1;
-
-const MOST_ASSETS: u8 = 32;
-
-// The most units of a balance or a rounding.
-const MOST_UNITS: u64 = 1 << 62;
-
-const MOST_ACCOUNTS: u32 = 65_536;
-
-// How many bytes an account takes beside its balances.
-const ACCOUNT_BYTES: usize = 16;
 
 // The fault of what begins at this place.
 pub fn refusal(at: usize, fault: Form) -> ReadError
@@ -49,17 +37,19 @@ pub fn refusal(at: usize, fault: Form) -> ReadError
 
 #[inline]
 fn price(from: &mut Reader) -> Result<Price, FormFault>
-    ensures { Decodes (λ x. x) (price_at from.old) from.old from.new result }
+    ensures exact { Decodes (λ x. x) (price_at from.old) from.old from.new result }
+    ensures same { from.new.bytes ≡ from.old.bytes }
+    ensures onward { from.old.place ≤ from.new.place }
 {
     let raw = from.field_u64(Price::LEAST, Price::MOST, Form::PriceRange)?;
     Ok(Price::new(raw).unwrap())
 }
 
-/// The prices of so many assets at the place, eight bytes each. An error is the first fault from left
-/// to right, or `NoMemory`, which may come in place of any other answer. The faults are `Short`, and
-/// `PriceRange` at the field. On a refusal the reader may stand at any place behind its old one.
-pub fn read_prices(alloc: Global, from: &mut Reader, assets: u8) -> Result<Prices, ReadError>
-    ensures { MayDecodeOrStray (λ prices. prices) (many_at price_at assets from.old) from.new result }
+// The prices of `assets` assets.
+fn prices(alloc: Global, from: &mut Reader, assets: u8) -> Result<Prices, ReadError>
+    ensures exact { MayDecodeOrStray (λ prices. prices) (many_at price_at assets from.old) from.new result }
+    ensures same { from.new.bytes ≡ from.old.bytes }
+    ensures onward { from.old.place ≤ from.new.place }
 {
     let mut prices = Vec::with_capacity(alloc, usize::from(assets))?;
     for _ in 0..assets {
@@ -68,13 +58,28 @@ pub fn read_prices(alloc: Global, from: &mut Reader, assets: u8) -> Result<Price
     Ok(Prices::of(prices))
 }
 
+/// The prices of `assets` assets at the place, eight bytes each, or the first fault from left to
+/// right. The faults are `Short`, and `PriceRange` at the field. It may answer `NoMemory` in place of
+/// any other answer. A refusal leaves the reader where it was.
+pub fn read_prices(alloc: Global, from: &mut Reader, assets: u8) -> Result<Prices, ReadError>
+    ensures exact { MayDecodeOrStray (λ prices. prices) (many_at price_at assets from.old) from.new result }
+    ensures refused { OnErr result (from.new ≡ from.old) }
+{
+    let place = from.place();
+    let read = prices(alloc, from, assets);
+    if read.is_err() {
+        from.back(place);
+    }
+    read
+}
+
 // Balances, or roundings: one for each asset.
 fn units(alloc: Global, from: &mut Reader, assets: u8) -> Result<Vec<u64>, ReadError>
-    ensures { MayDecodeOrStray (λ v. v.items) (many_at units_at assets from.old) from.new result }
+    ensures { MayDecodeOrStray (λ v. v.items) (many_at units_field_at assets from.old) from.new result }
 {
     let mut units = Vec::with_capacity(alloc, usize::from(assets))?;
     for _ in 0..assets {
-        units.push(from.field_u64(0, MOST_UNITS, Form::AmountRange)?)?;
+        units.push(from.field_u64(0, Amount::MOST, Form::AmountRange)?)?;
     }
     Ok(units)
 }
@@ -121,7 +126,7 @@ fn accounts(
 ) -> Result<Vec<Account>, ReadError>
     ensures { MayDecodeOrStray (λ v. v.items) (accounts_at assets count None from.old) from.new result }
 {
-    let room = from.left() / ACCOUNT_BYTES;
+    let room = from.left() / ACCOUNT_BYTES as usize;
     let mut accounts = Vec::with_capacity(alloc, room.min(count as usize))?;
     let mut before = None;
     for _ in 0..count {
@@ -136,7 +141,7 @@ fn accounts(
 fn account_list(alloc: Global, from: &mut Reader, assets: u8) -> Result<Vec<Account>, ReadError>
     ensures { MayDecodeOrStray (λ v. v.items) (account_list_at assets from.old) from.new result }
 {
-    let count = from.field_u32(0, MOST_ACCOUNTS, Form::TooMany)?;
+    let count = from.field_u32(0, Ledger::MOST_ACCOUNTS, Form::TooMany)?;
     accounts(alloc, from, assets, count)
 }
 
@@ -154,9 +159,9 @@ fn read_head(alloc: Global, from: &mut Reader) -> Result<Head, ReadError>
     ensures { MayDecodeOrStray (λ head. (head.version, head.height, head.prices, head.rounding.items)) (head_at from.old) from.new result }
 {
     let version = from.field_u8(VERSION, VERSION, Form::Version)?;
-    let height = from.field_u64(0, LAST_HEIGHT, Form::HeightRange)?;
-    let assets = from.field_u8(1, MOST_ASSETS, Form::AssetCount)?;
-    let prices = read_prices(alloc, from, assets)?;
+    let height = from.field_u64(0, Ledger::MOST_HEIGHT, Form::HeightRange)?;
+    let assets = from.field_u8(1, AssetId::LIMIT, Form::AssetCount)?;
+    let prices = prices(alloc, from, assets)?;
     let rounding = units(alloc, from, assets)?;
     Ok(Head {
         version,
@@ -204,21 +209,20 @@ fn whole(alloc: Global, payload: &[u8]) -> Result<Parts, ReadError>
     Ok(parts)
 }
 
-/// The ledger that a payload spells, all of the payload. An error is the first fault from left to
-/// right, its offset counted from the payload's first byte, or `NoMemory`, which may come in place
-/// of any other answer.
+/// The ledger of which a payload is the encoding, or the first fault from left to right, its offset
+/// counted from the payload's first byte. It may answer `NoMemory` in place of any other answer.
 ///
 /// The faults are `Version`, `HeightRange`, `AssetCount`, `PriceRange`, `AmountRange` of a rounding,
 /// a balance or the amount of an offer, `TooMany` of a count above its limit, `SeqRange` of an
-/// account's last number or an offer's number, `AssetRange` of what an offer sells or buys,
+/// account's last sequence number or of an offer's, `AssetRange` of what an offer sells or buys,
 /// `LimitRange`, and `Short` where a field passes the end. `Order` comes at an account that does not
 /// stand after the one before it, or at an offer that does not, and `Owner` at an offer whose
-/// account is not in the state or has not used a number as great. `Total` comes at the first byte,
-/// behind all of these, and `Rest` at the first byte behind the last offer.
+/// account is not in the state or has not used a sequence number as great. `Total` comes at the first
+/// byte, after all of these, and `Rest` at the first byte after the last offer.
 pub fn read_state(alloc: Global, payload: &[u8]) -> Result<Ledger, ReadError>
-    // What is read is spelled so.
+    // The payload is the encoding of what is read.
     ensures found { IfOk result (λ ledger. IsLedger ledger × (payload.now ≡ state_bytes ledger)) }
-    // What is spelled so is read, unless memory runs out.
+    // The encoding of a ledger is read as that ledger, unless memory runs out.
     ensures only { (parts : Parts) → IsLedger parts → payload.now ≡ state_bytes parts →
         Gives (λ ledger. ledger) result (Ok parts) }
     // Which fault it is.

@@ -3,7 +3,7 @@
 ghost use Rattle.std.specs.Prelude.{◌≡◌, ◌*◌, ◌^◌, ◌==◌, ◌||◌, nat_lt, nat_le, not, take, drop, [], ◌∷◌};
 ghost use Rattle.sx_ledger.specs.declared.statics.Static.TheVariants.{UnknownAsset, SamePair, UnknownPayee, AccountExists, NoSuchOffer, Dust};
 ghost use Rattle.sx_ledger.specs.Ledger.{assets_of};
-ghost use Rattle.sx_ledger.specs.Static.{first_holding, has_account as is_there, has_offer as is_offered, number_of, static_list, static_of};
+ghost use Rattle.sx_ledger.specs.Static.{first_holding, has_account as is_there, has_offer as is_offered, number_of_static, static_list, static_of};
 
 use crate::key::Key;
 use crate::ledger::Ledger;
@@ -19,11 +19,11 @@ pub enum Static {
     /// 1: its account is not in the ledger.
     #[error("its account is not in the ledger")]
     UnknownAccount = 1,
-    /// 2: its number is at most the account's last one.
-    #[error("its number is not above the account's last one")]
+    /// 2: its sequence number is at most the account's last one.
+    #[error("its sequence number is not above the account's last one")]
     SeqBehind = 2,
-    /// 3: its number is more than 64 above the account's last one.
-    #[error("its number is more than 64 above the account's last one")]
+    /// 3: its sequence number is more than 64 above the account's last one.
+    #[error("its sequence number is more than 64 above the account's last one")]
     SeqBeyond = 3,
     /// 4: it names an asset that the ledger does not have.
     #[error("it names an asset that the ledger does not have")]
@@ -48,7 +48,7 @@ pub enum Static {
 impl Static {
     /// The number of the refusal.
     pub fn number(self) -> u8
-        ensures { result ≡ number_of self }
+        ensures { result ≡ number_of_static self }
     {
         self as u8
     }
@@ -76,7 +76,7 @@ impl Ledger {
         self.assets() <= u32::from(asset.get())
     }
 
-    // The account is there, and the number is in its window.
+    // The account is there, and the sequence number is in its window.
     fn check_number(&self, tx: &Tx) -> Result<(), Static>
         ensures { result ≡ first_holding (take 3 (static_list self.now tx.now)) }
     {
@@ -180,7 +180,7 @@ impl Ledger {
     }
 
     /// Why the ledger refuses a transaction, whatever stands beside it: exactly the first reason
-    /// that holds, in the order of their numbers. It takes no memory.
+    /// that holds, in the order in which they are listed. It takes no memory.
     pub fn static_check(&self, tx: &Tx) -> Result<(), Static>
         ensures { result ≡ static_of self.now tx.now }
     {

@@ -2,20 +2,17 @@
 
 ghost use Rattle.std.specs.Prelude.{◌≡◌, ℕ, ◌+◌, ◌<◌, ◌≤◌, ◌^◌, All, length, sum_by, slice_index, nat_le};
 ghost use Rattle.std.specs.List.{list_all};
-ghost use Rattle.sx_ledger.specs.Ledger.{assets_of, balance_at, offered, total_of};
+ghost use Rattle.sx_ledger.specs.Ledger.{assets_of, balance_at, most_accounts, most_offers, offered, total_of};
 ghost use Rattle.sx_ledger.specs.Decoding.{totals_fit as all_fit};
 
 use crate::account::Account;
 use crate::ledger::Ledger;
 use crate::offer::Offer;
 use crate::parts::Parts;
-use sx_base::AssetId;
-
-// The most units that there are of an asset.
-const MOST_UNITS: u128 = 1 << 62;
+use sx_base::{Amount, AssetId};
 
 // The most assets that there are.
-const MOST_ASSETS: usize = 32;
+const MOST_ASSETS: usize = AssetId::LIMIT as usize;
 
 // Adds the balances of one account.
 fn add_balances(totals: &mut [u128], balances: &[u64])
@@ -33,7 +30,7 @@ fn add_balances(totals: &mut [u128], balances: &[u64])
 fn add_accounts(totals: &mut [u128], accounts: &[Account])
     requires one_each { All (λ account. length account.balances ≡ length totals.old) accounts.now }
     requires room { All (λ total. total ≤ 2 ^ 100) totals.old }
-    requires few { length accounts.now ≤ 65536 }
+    requires few { length accounts.now ≤ most_accounts }
     requires small { All (λ account. All (λ balance. balance ≤ 2 ^ 62) account.balances) accounts.now }
     ensures as_many { length totals.new ≡ length totals.old }
     ensures added { (asset : ℕ) → asset < length totals.old → slice_index totals.new asset ≡ slice_index totals.old asset + sum_by (balance_at asset) accounts.now }
@@ -48,7 +45,7 @@ fn add_accounts(totals: &mut [u128], accounts: &[Account])
 fn add_offers(totals: &mut [u128], offers: &[Offer])
     requires sold { All (λ offer. offer.sell < length totals.old) offers.now }
     requires room { All (λ total. total ≤ 2 ^ 101) totals.old }
-    requires few { length offers.now ≤ 262144 }
+    requires few { length offers.now ≤ most_offers }
     ensures as_many { length totals.new ≡ length totals.old }
     ensures added { (asset : ℕ) → asset < length totals.old → slice_index totals.new asset ≡ slice_index totals.old asset + sum_by (offered asset) offers.now }
 {
@@ -57,7 +54,7 @@ fn add_offers(totals: &mut [u128], offers: &[Offer])
     }
 }
 
-// Adds up what there is of each asset: one pass over the accounts, and one over the offers.
+// Adds up what there is of each asset.
 fn add_all(totals: &mut [u128], parts: &Parts)
     requires zero { All (λ total. total ≡ 0) totals.old }
     requires assets { length totals.old ≡ assets_of parts.now }
@@ -65,9 +62,9 @@ fn add_all(totals: &mut [u128], parts: &Parts)
     requires kept { All (λ units. units ≤ 2 ^ 62) parts.now.rounding }
     requires balances { All (λ account. length account.balances ≡ assets_of parts.now) parts.now.accounts }
     requires small { All (λ account. All (λ balance. balance ≤ 2 ^ 62) account.balances) parts.now.accounts }
-    requires few_accounts { length parts.now.accounts ≤ 65536 }
+    requires few_accounts { length parts.now.accounts ≤ most_accounts }
     requires sold { All (λ offer. offer.sell < assets_of parts.now) parts.now.offers }
-    requires few_offers { length parts.now.offers ≤ 262144 }
+    requires few_offers { length parts.now.offers ≤ most_offers }
     ensures as_many { length totals.new ≡ length totals.old }
     ensures totals { (asset : ℕ) → asset < assets_of parts.now → slice_index totals.new asset ≡ total_of parts.now asset }
 {
@@ -79,19 +76,21 @@ fn add_all(totals: &mut [u128], parts: &Parts)
 fn are_in_range(totals: &[u128]) -> bool
     ensures { result ≡ list_all (λ total. nat_le total (2 ^ 62)) totals.now }
 {
-    totals.iter().all(|total| *total <= MOST_UNITS)
+    totals
+        .iter()
+        .all(|total| *total <= u128::from(Amount::MOST))
 }
 
-/// Whether the total of each asset is in range. One pass.
+// Whether the total of each asset is in range: one pass over the accounts, and one over the offers.
 pub fn totals_fit(parts: &Parts) -> bool
     requires few_assets { assets_of parts.now ≤ 32 }
     requires rounding { length parts.now.rounding ≡ assets_of parts.now }
     requires kept { All (λ units. units ≤ 2 ^ 62) parts.now.rounding }
     requires balances { All (λ account. length account.balances ≡ assets_of parts.now) parts.now.accounts }
     requires small { All (λ account. All (λ balance. balance ≤ 2 ^ 62) account.balances) parts.now.accounts }
-    requires few_accounts { length parts.now.accounts ≤ 65536 }
+    requires few_accounts { length parts.now.accounts ≤ most_accounts }
     requires sold { All (λ offer. offer.sell < assets_of parts.now) parts.now.offers }
-    requires few_offers { length parts.now.offers ≤ 262144 }
+    requires few_offers { length parts.now.offers ≤ most_offers }
     ensures { result ≡ all_fit parts.now (assets_of parts.now) }
 {
     let mut room = [0; MOST_ASSETS];

@@ -1,23 +1,19 @@
-//! Writing a state. What is written is the one spelling, and where memory runs out it is taken back.
+//! Writing a state. What is written is its one encoding, and where memory runs out it is taken back.
 
 ghost use Rattle.std.specs.Prelude.{◌≡◌, ◌≤◌, ◌++◌, length, OnOk, OnErr};
 ghost use Rattle.std.specs.List.{flat_map};
 ghost use Rattle.byteorder.specs.Endian.{big_bytes};
 ghost use Rattle.sx_bytes.specs.Written.{Begins};
-ghost use Rattle.sx_ledger.specs.Ledger.{IsLedger};
+ghost use Rattle.sx_ledger.specs.Ledger.{IsLedger, longest_state};
 ghost use Rattle.sx_ledger.specs.Encoding.{account_bytes, offer_bytes, state_bytes};
 
 use crate::account::Account;
 use crate::ledger::Ledger;
 use crate::offer::Offer;
 use crate::parts::Parts;
+use crate::sizes::{ACCOUNT_BYTES, FRAME_BYTES, OFFER_BYTES};
 use sx_bytes::{NoMemory, Writer};
 use sx_price::Price;
-
-// How many bytes the payload of a state has beside its assets, accounts and offers.
-const FRAME_BYTES: u32 = 18;
-
-const OFFER_BYTES: u32 = 34;
 
 #[tactic(auto, using(sx_bytes::proofs::Written::begins, sx_bytes::proofs::Written::begins_then))]
 fn put_prices(to: &mut Writer, prices: &[Price]) -> Result<(), NoMemory>
@@ -105,8 +101,8 @@ fn put_state(to: &mut Writer, parts: &Parts) -> Result<(), NoMemory>
 }
 
 impl Ledger {
-    /// Appends the payload of the state, which is its one spelling. Where memory runs out, what
-    /// was written before stays as it was.
+    /// Appends the payload of the state, which is its one encoding. Where memory runs out, nothing
+    /// is appended.
     #[tactic(auto, using(sx_bytes::proofs::Written::begins_cut))]
     pub fn write_state(&self, to: &mut Writer) -> Result<(), NoMemory>
         ensures ok { OnOk result (to.new ≡ to.old ++ state_bytes self.now) }
@@ -120,13 +116,13 @@ impl Ledger {
         written
     }
 
-    /// How many bytes the payload of the state has, at most 26,739,218. It takes no memory.
+    /// How many bytes the payload of the state has, at most [`Ledger::LONGEST`]. It takes no memory.
     pub fn state_length(&self) -> u32
         ensures exact { result ≡ length (state_bytes self.now) }
-        ensures bound { result ≤ 26739218 }
+        ensures bound { result ≤ longest_state }
     {
         let assets = self.assets();
-        let accounts = self.accounts() * (16 + 8 * assets);
+        let accounts = self.accounts() * (ACCOUNT_BYTES + 8 * assets);
         FRAME_BYTES + 16 * assets + accounts + OFFER_BYTES * self.offers()
     }
 }

@@ -1,7 +1,15 @@
 -- Laws of the two rules and of the two roundings, for all numbers.
-use Rattle.std.specs.Prelude.{◌≡◌, ℕ, ◌+◌, ◌*◌, ◌<◌, ◌≤◌}
-use Rattle.sx_price.specs.Limits.{MayTrade, MustTrade}
+use Rattle.std.specs.Prelude.{◌≡◌, ℕ, ◌+◌, ◌*◌, ◌<◌, ◌≤◌, ◌↔◌, IsTrue}
+use Rattle.sx_price.specs.Limits.{MayTrade, MustTrade, may_trade, must_trade}
 use Rattle.sx_price.specs.Rounding.{rounded_up, rounded_down, IsLeastToReach, IsGreatestWithin}
+
+-- the test says exactly what may trade
+abbrev pub MayIsDecided : Type 0
+MayIsDecided = (sell buy limit : ℕ) → IsTrue (may_trade sell buy limit) ↔ MayTrade sell buy limit
+
+-- and the other exactly what must trade
+abbrev pub MustIsDecided : Type 0
+MustIsDecided = (sell buy limit j : ℕ) → IsTrue (must_trade sell buy limit j) ↔ MustTrade sell buy limit j
 
 -- what must trade may trade
 abbrev pub MustIsMay : Type 0

@@ -1,4 +1,8 @@
+//! Laws of the two rules and of the two roundings, for all numbers.
+
 ghost use Rattle.sx_price.specs.Laws.{
+  MayIsDecided,
+  MustIsDecided,
   MustIsMay,
   RateKeepsMay,
   RateKeepsMust,
@@ -10,8 +14,11 @@ ghost use Rattle.sx_price.specs.Laws.{
   WholeUnitsStay,
 };
 
-/// What must trade may trade. A greater batch rate keeps both, and so does a lower limit.
+/// The tests of `specs/Limits` say exactly what may trade and what must trade. What must trade may
+/// trade. A greater batch rate keeps both, and so does a lower limit.
 pub fn limit_laws()
+    ensures may_is_decided { MayIsDecided }
+    ensures must_is_decided { MustIsDecided }
     ensures must_is_may { MustIsMay }
     ensures rate_keeps_may { RateKeepsMay }
     ensures rate_keeps_must { RateKeepsMust }

@@ -1,4 +1,7 @@
+//! Limits, as numbers that keep their range.
+
 ghost use Rattle.std.specs.Prelude.{◌≡◌, ◌<◌, ◌≤◌, ◌^◌, ◌↔◌, IsOk, IfOk};
+ghost use Rattle.sx_price.specs.Limits.{IsLimit};
 
 use std::marker::Model;
 use thiserror::Error;
@@ -16,13 +19,14 @@ pub struct Limit {
 pub struct LimitRange;
 
 impl Model for Limit {
-    ghost use Rattle.std.specs.Prelude.{ℕ, ◌<◌, ◌≤◌, ◌^◌};
+    ghost use Rattle.std.specs.Prelude.{ℕ};
+    ghost use Rattle.sx_price.specs.Limits.{IsLimit};
 
     ghost Value = { ℕ };
 
     ghost view = { λ limit. limit.raw };
 
-    ghost invariant = { λ limit. (1 ≤ limit.raw) × (limit.raw < 2 ^ 56) };
+    ghost invariant = { λ limit. IsLimit limit.raw };
 
     ghost inverse = { λ n. record { raw = n } };
 }
@@ -37,7 +41,7 @@ impl Limit {
     /// The limit of `raw` units of `2^-24`. `LimitRange` comes exactly where that is 0, or `2^56` or
     /// more.
     pub fn new(raw: u64) -> Result<Self, LimitRange>
-        ensures in_range { IsOk result ↔ ((1 ≤ raw) × (raw < 2 ^ 56)) }
+        ensures in_range { IsOk result ↔ IsLimit raw }
         ensures value { IfOk result (λ limit. limit ≡ raw) }
     {
         if Self::LEAST <= raw && raw <= Self::MOST {

@@ -1,4 +1,7 @@
+//! The margin μ, as a number that keeps its range.
+
 ghost use Rattle.std.specs.Prelude.{◌≡◌, ◌≤◌, ◌↔◌, IsOk, IfOk};
+ghost use Rattle.sx_price.specs.Limits.{IsExponent};
 
 use std::marker::Model;
 use thiserror::Error;
@@ -16,13 +19,14 @@ pub struct Mu {
 pub struct MuRange;
 
 impl Model for Mu {
-    ghost use Rattle.std.specs.Prelude.{ℕ, ◌≤◌};
+    ghost use Rattle.std.specs.Prelude.{ℕ};
+    ghost use Rattle.sx_price.specs.Limits.{IsExponent};
 
     ghost Value = { ℕ };
 
     ghost view = { λ mu. mu.exponent };
 
-    ghost invariant = { λ mu. (1 ≤ mu.exponent) × (mu.exponent ≤ 20) };
+    ghost invariant = { λ mu. IsExponent mu.exponent };
 
     ghost inverse = { λ n. record { exponent = n } };
 }
@@ -36,7 +40,7 @@ impl Mu {
 
     /// The margin `2^-j`. `MuRange` comes exactly where `j` is 0, or above 20.
     pub fn new(j: u8) -> Result<Self, MuRange>
-        ensures in_range { IsOk result ↔ ((1 ≤ j) × (j ≤ 20)) }
+        ensures in_range { IsOk result ↔ IsExponent j }
         ensures value { IfOk result (λ mu. mu ≡ j) }
     {
         if Self::LEAST <= j && j <= Self::MOST {

@@ -1,4 +1,7 @@
+//! Prices, as numbers that keep their range.
+
 ghost use Rattle.std.specs.Prelude.{◌≡◌, ◌≤◌, ◌^◌, ◌↔◌, IsOk, IfOk};
+ghost use Rattle.sx_price.specs.Limits.{IsPrice};
 
 use std::marker::Model;
 use thiserror::Error;
@@ -15,13 +18,14 @@ pub struct Price {
 pub struct PriceRange;
 
 impl Model for Price {
-    ghost use Rattle.std.specs.Prelude.{ℕ, ◌≤◌, ◌^◌};
+    ghost use Rattle.std.specs.Prelude.{ℕ};
+    ghost use Rattle.sx_price.specs.Limits.{IsPrice};
 
     ghost Value = { ℕ };
 
     ghost view = { λ price. price.raw };
 
-    ghost invariant = { λ price. (2 ^ 8 ≤ price.raw) × (price.raw ≤ 2 ^ 40) };
+    ghost invariant = { λ price. IsPrice price.raw };
 
     ghost inverse = { λ n. record { raw = n } };
 }
@@ -36,7 +40,7 @@ impl Price {
     /// The price of `raw` units of `2^-24`. `PriceRange` comes exactly where that is below `2^8`, or
     /// above `2^40`.
     pub fn new(raw: u64) -> Result<Self, PriceRange>
-        ensures in_range { IsOk result ↔ ((2 ^ 8 ≤ raw) × (raw ≤ 2 ^ 40)) }
+        ensures in_range { IsOk result ↔ IsPrice raw }
         ensures value { IfOk result (λ price. price ≡ raw) }
     {
         if Self::LEAST <= raw && raw <= Self::MOST {

@@ -1,3 +1,5 @@
+//! A price for each asset.
+
 use crate::price::Price;
 use sx_bytes::ListOf;
 

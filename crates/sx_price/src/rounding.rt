@@ -1,3 +1,5 @@
+//! From amounts to values, and back to whole units.
+
 ghost use Rattle.std.specs.Prelude.{◌≡◌, ◌*◌, ◌≤◌, ◌^◌};
 ghost use Rattle.sx_price.specs.Rounding.{
   rounded_up,

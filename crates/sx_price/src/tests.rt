@@ -1,3 +1,5 @@
+//! Worked rows, with numbers from outside.
+
 use super::*;
 use std::test::Fail;
 

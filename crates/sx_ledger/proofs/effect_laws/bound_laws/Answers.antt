@@ -1,4 +1,4 @@
-use Rattle.sx_ledger.proofs.Limits.{low_within_high, must_within_may}
+use Rattle.sx_ledger.proofs.MustWithinMay.{low_within_high, must_within_may}
 use Rattle.sx_ledger.proofs.effect_laws.bound_laws.Goals as goal
 
 pub returns-clause-must_within_may : goal.returns-clause-must_within_may

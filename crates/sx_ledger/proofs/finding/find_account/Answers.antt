@@ -1,6 +1,6 @@
 use Rattle.std.proofs.Common.{rules}
 use Rattle.std.proofs.lemmas.List.Sorted.{answers_always}
-use Rattle.sx_ledger.proofs.Find.{searched_ok}
+use Rattle.sx_ledger.proofs.SearchById.{searched_ok}
 use Rattle.sx_ledger.proofs.finding.find_account.Goals as goal
 
 -- the closure gives an account's id

@@ -2,7 +2,7 @@ use Rattle.std.proofs.Common.{None}
 use Rattle.std.proofs.lemmas.Result.{err_from_is_err_and}
 use Rattle.sx_ledger.specs.Order.{key_of}
 use Rattle.sx_ledger.specs.Decoding.{next_offer_at, offers_at}
-use Rattle.sx_ledger.proofs.Each.{each_goes_on, each_ends, each_done}
+use Rattle.sx_ledger.proofs.EntriesInOrder.{each_goes_on, each_ends, each_done}
 use Rattle.sx_ledger.proofs.offer_reading.offers.Goals as goal
 
 pub returns-in_err-offer : goal.returns-in_err-offer

@@ -2,7 +2,7 @@ use Rattle.std.proofs.Common.{ℕ, None}
 use Rattle.std.proofs.lemmas.Result.{err_from_is_err_and}
 use Rattle.sx_ledger.specs.declared.account.Account.{Account}
 use Rattle.sx_ledger.specs.Decoding.{next_account_at, accounts_at}
-use Rattle.sx_ledger.proofs.Each.{each_goes_on, each_ends, each_done}
+use Rattle.sx_ledger.proofs.EntriesInOrder.{each_goes_on, each_ends, each_done}
 use Rattle.sx_ledger.proofs.reading.accounts.Goals as goal
 
 abbrev id_of : Account → ℕ

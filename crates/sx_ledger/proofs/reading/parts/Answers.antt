@@ -1,5 +1,5 @@
 use Rattle.std.proofs.Common.{arith}
-use Rattle.sx_ledger.proofs.Known.{assets_known, accounts_by_id, accounts_few}
+use Rattle.sx_ledger.proofs.DecodedRanges.{assets_known, accounts_by_id, accounts_few}
 use Rattle.sx_ledger.proofs.reading.parts.Goals as goal
 
 pub overflow_cast-assets : goal.overflow_cast-assets

@@ -1,5 +1,5 @@
 use Rattle.std.proofs.Common.{◌≡◌, length, sym, ◌∙◌, arith}
-use Rattle.sx_ledger.proofs.Added.{room_more, sums_more}
+use Rattle.sx_ledger.proofs.RunningTotals.{room_more, sums_more}
 use Rattle.sx_ledger.proofs.totals.add_accounts.Goals as goal
 
 pub loop-account-preserved : goal.loop-account-preserved

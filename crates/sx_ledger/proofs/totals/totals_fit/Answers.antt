@@ -1,6 +1,6 @@
 use Rattle.std.proofs.Common.{◌≡◌, length, ◌∙◌, rules}
 use Rattle.sx_ledger.specs.Ledger.{assets_of}
-use Rattle.sx_ledger.proofs.Sums.{totals_fit_is}
+use Rattle.sx_ledger.proofs.TotalsInRange.{totals_fit_is}
 use Rattle.sx_ledger.proofs.totals.totals_fit.Goals as goal
 
 pub returns : goal.returns

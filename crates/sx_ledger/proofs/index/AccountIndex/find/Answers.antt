@@ -1,4 +1,4 @@
-use Rattle.sx_ledger.proofs.Searching.{searched}
+use Rattle.sx_ledger.proofs.SearchNumbers.{searched}
 use Rattle.sx_ledger.proofs.index.AccountIndex.find.Goals as goal
 
 pub returns-in-Ok-clause-found : goal.returns-in-Ok-clause-found

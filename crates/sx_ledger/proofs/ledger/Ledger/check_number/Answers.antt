@@ -3,7 +3,7 @@ use Rattle.std.proofs.lemmas.List.{length-map}
 use Rattle.std.proofs.lemmas.Option.{slice_get_within}
 use Rattle.sx_ledger.specs.declared.account.Account.{Account}
 use Rattle.sx_ledger.specs.Ledger.{ids}
-use Rattle.sx_ledger.proofs.Numbers.{not_there, inside, behind, beyond}
+use Rattle.sx_ledger.proofs.SequenceChecks.{not_there, inside, behind, beyond}
 use Rattle.sx_ledger.proofs.ledger.Ledger.check_number.Goals as goal
 
 pub returns-in_default : goal.returns-in_default

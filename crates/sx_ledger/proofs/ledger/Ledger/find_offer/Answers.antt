@@ -1,7 +1,7 @@
 use Rattle.std.proofs.Common.{rules}
 use Rattle.std.proofs.lemmas.List.Sorted.{answers_always}
 use Rattle.sx_ledger.specs.Order.{key_of}
-use Rattle.sx_ledger.proofs.FindKey.{searched_by}
+use Rattle.sx_ledger.proofs.SearchByKey.{searched_by}
 use Rattle.sx_ledger.proofs.ledger.Ledger.find_offer.Goals as goal
 
 -- the closure gives an offer's key, and the slice is the ledger's offers

@@ -1,4 +1,4 @@
--- A part of a format by which the part behind it is read, and a part that is tested once it is read.
+-- A part of a format by which the part after it is decoded, and a part that is tested once it is decoded.
 use Rattle.std.proofs.Common.{◌≡◌, ℕ, Bool, true, List, ◌++◌, length, Result, Ok, refl, sym, ap, subst, ◌∙◌, append_assoc}
 use Rattle.std.specs.List.{flat_map}
 use Rattle.std.specs.Prelude.{All}
@@ -49,9 +49,9 @@ pub guard_again : {X : Type 0} (r : Result (X × Cursor) FormFault) (passes : X 
     → passes x ≡ true → Again r c x after → Again (r >>= λ y. guarded (passes y.0) y fault) c x after
 guard_again r passes fault c x after pass one = record { next = one.next; is = rw one.is (rw pass refl); rest_is = one.rest_is; same = one.same; within = one.within }
 
--- ---- so many numbers
+-- ---- lists of numbers
 
--- so many numbers, each in range
+-- n numbers, each in range
 pub record AreNumbers (P : ℕ → Type 0) (n : ℕ) (numbers : List ℕ) : Type 0 where
   pub number : length numbers ≡ n
   pub are : All P numbers

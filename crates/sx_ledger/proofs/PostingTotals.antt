@@ -1,6 +1,7 @@
 -- What transactions debit and credit in all accounts together.
 use Rattle.std.proofs.Common.{◌≡◌, ℕ, ◌+◌, Bool, true, false, cond, ◌==◌, ◌&&◌, List, [], ◌∷◌, All, sum_by, Option, Some, None, Ok, Err, inl, inr, refl, sym, ap, ap₂, ◌∙◌, arith}
 use Rattle.std.specs.List.{AllByRecursion, cons_option}
+use Rattle.std.specs.Prelude.{nat_le, nat_lt}
 use Rattle.std.specs.List.Sorted.{IsStrictlyIncreasing}
 use Rattle.std.proofs.lemmas.Bool.{and_left, cases_Bool, cond-false, both_ways, eq-eqb, ne_eqb, not-false}
 use Rattle.std.proofs.lemmas.List.Elements.{All-head, All-tail}
@@ -10,12 +11,12 @@ use Rattle.sx_ledger.specs.declared.offer.Offer.{Offer}
 use Rattle.sx_ledger.specs.declared.parts.Parts.{Parts}
 use Rattle.sx_ledger.specs.declared.statics.Static.{Static}
 use Rattle.sx_ledger.specs.Body.{created, created_by}
-use Rattle.sx_ledger.specs.Effects.{Posting, credit, credit_of, credits, debit, debit_of, debits, units_at}
-use Rattle.sx_ledger.specs.Ledger.{ids}
-use Rattle.sx_ledger.specs.Static.{creates_known, first_holding, has_account, pays_unknown, static_list, static_of}
-use Rattle.sx_ledger.proofs.Adding.{sum_by-add, sum_by-none, sum_by-one, sum_by-same}
+use Rattle.sx_ledger.specs.Effects.{Posting, credit, credit_of, credits, debit, debit_of, debits, posted}
+use Rattle.sx_ledger.specs.Ledger.{assets_of, ids}
+use Rattle.sx_ledger.specs.Static.{creates_known, first_holding, has_account, is_same_pair, last_of, names_beyond, pays_unknown, static_list, static_of}
+use Rattle.sx_ledger.proofs.ListSums.{sum_by-add, sum_by-none, sum_by-one, sum_by-same}
 use Rattle.sx_ledger.proofs.Postings.{credits_sum, debits_sum}
-use Rattle.sx_ledger.proofs.Standing.{Stands, same_place, stands}
+use Rattle.sx_ledger.proofs.PlacesOfIds.{Stands, same_place, stands}
 use Rattle.sx_tx.specs.declared.kind.Kind.{Kind}
 use Rattle.sx_tx.specs.declared.kind.Kind.TheVariants as kind
 use Rattle.sx_tx.specs.declared.tx.Tx.{Tx}
@@ -41,42 +42,42 @@ counts_once xs up id stands test units =
     ∙ rw (eq-eqb id id refl) refl
 
 posting_in_all : (accounts : List Account) → IsStrictlyIncreasing (ids accounts) → (posting : Option Posting) (asset : ℕ) → IsThere accounts posting
-    → sum_by (λ id. units_at posting id asset) (ids accounts) ≡ units_of posting asset
+    → sum_by (λ id. posted posting id asset) (ids accounts) ≡ units_of posting asset
 posting_in_all accounts up None asset there = sum_by-none (λ _. 0) (ids accounts) (λ _ _ _. refl)
 posting_in_all accounts up (Some posting) asset there =
     counts_once (ids accounts) up posting.account (stands accounts posting.account there) (posting.asset == asset) posting.units
 
 postings_in_all : (accounts : List Account) → IsStrictlyIncreasing (ids accounts) → (posting : Tx → Option Posting) (asset : ℕ) (txs : List Tx)
     → All (λ tx. IsThere accounts (posting tx)) txs
-    → sum_by (λ id. sum_by (λ tx. units_at (posting tx) id asset) txs) (ids accounts) ≡ sum_by (λ tx. units_of (posting tx) asset) txs
+    → sum_by (λ id. sum_by (λ tx. posted (posting tx) id asset) txs) (ids accounts) ≡ sum_by (λ tx. units_of (posting tx) asset) txs
 postings_in_all accounts up posting asset [] there = sum_by-none (λ _. 0) (ids accounts) (λ _ _ _. refl)
 postings_in_all accounts up posting asset (tx ∷ txs) there =
     let xs = ids accounts in
-    let one = λ (id : ℕ). units_at (posting tx) id asset in
-    let more = λ (id : ℕ). sum_by (λ tx. units_at (posting tx) id asset) txs in
+    let one = λ (id : ℕ). posted (posting tx) id asset in
+    let more = λ (id : ℕ). sum_by (λ tx. posted (posting tx) id asset) txs in
     let rest : sum_by more xs ≡ sum_by (λ tx. units_of (posting tx) asset) txs =
     postings_in_all accounts up posting asset txs (All-tail (λ tx. IsThere accounts (posting tx)) tx txs there) in
     let first : sum_by one xs ≡ units_of (posting tx) asset =
     posting_in_all accounts up (posting tx) asset (All-head (λ tx. IsThere accounts (posting tx)) tx txs there) in
-    sum_by-same (λ id. sum_by (λ tx. units_at (posting tx) id asset) (tx ∷ txs)) (λ id. one id + more id) xs (λ id. sum_by-cons (λ tx. units_at (posting tx) id asset) tx txs)
+    sum_by-same (λ id. sum_by (λ tx. posted (posting tx) id asset) (tx ∷ txs)) (λ id. one id + more id) xs (λ id. sum_by-cons (λ tx. posted (posting tx) id asset) tx txs)
     ∙ sum_by-add one more xs ∙ ap₂ ◌+◌ first rest ∙ sym (sum_by-cons (λ tx. units_of (posting tx) asset) tx txs)
 
 pub debits_in_all : (accounts : List Account) → IsStrictlyIncreasing (ids accounts) → (asset : ℕ) (txs : List Tx) → All (λ tx. IsThere accounts (debit tx)) txs
     → sum_by (λ id. debits txs id asset) (ids accounts) ≡ sum_by (λ tx. units_of (debit tx) asset) txs
 debits_in_all accounts up asset txs there =
-    sum_by-same (λ id. debits txs id asset) (λ id. sum_by (λ tx. units_at (debit tx) id asset) txs) (ids accounts) (λ id. debits_sum id asset txs)
+    sum_by-same (λ id. debits txs id asset) (λ id. sum_by (λ tx. posted (debit tx) id asset) txs) (ids accounts) (λ id. debits_sum id asset txs)
     ∙ postings_in_all accounts up debit asset txs there
 
 pub credits_in_all : (accounts : List Account) → IsStrictlyIncreasing (ids accounts) → (offers : List Offer) (asset : ℕ) (txs : List Tx)
     → All (λ tx. IsThere accounts (credit offers tx)) txs
     → sum_by (λ id. credits offers txs id asset) (ids accounts) ≡ sum_by (λ tx. units_of (credit offers tx) asset) txs
 credits_in_all accounts up offers asset txs there =
-    sum_by-same (λ id. credits offers txs id asset) (λ id. sum_by (λ tx. units_at (credit offers tx) id asset) txs) (ids accounts) (λ id. credits_sum offers id asset txs)
+    sum_by-same (λ id. credits offers txs id asset) (λ id. sum_by (λ tx. posted (credit offers tx) id asset) txs) (ids accounts) (λ id. credits_sum offers id asset txs)
     ∙ postings_in_all accounts up (credit offers) asset txs there
 
 -- ---- postings at accounts that are not there
 
-units_elsewhere : (accounts : List Account) (posting : Option Posting) (id asset : ℕ) → has_account accounts id ≡ false → IsThere accounts posting → units_at posting id asset ≡ 0
+units_elsewhere : (accounts : List Account) (posting : Option Posting) (id asset : ℕ) → has_account accounts id ≡ false → IsThere accounts posting → posted posting id asset ≡ 0
 units_elsewhere accounts None id asset absent there = refl
 units_elsewhere accounts (Some posting) id asset absent there =
     let apart : (posting.account == id) ≡ false = ne_eqb posting.account id (λ e. both_ways (has_account accounts id) absent (ap (has_account accounts) (sym e) ∙ there)) in
@@ -101,13 +102,25 @@ none_holds (reason ∷ reasons) passes =
 
 pub record Passes (parts : Parts) (tx : Tx) : Type 0 where
   pub own : has_account parts.accounts tx.account.0 ≡ true
+  pub above : nat_le tx.seq (last_of parts.accounts tx.account.0) ≡ false
+  pub within : nat_lt (last_of parts.accounts tx.account.0 + 64) tx.seq ≡ false
+  pub assets : names_beyond (assets_of parts) tx.kind ≡ false
+  pub differ : is_same_pair tx.kind ≡ false
   pub payee : pays_unknown parts.accounts tx.kind ≡ false
   pub new : creates_known parts.accounts tx.kind ≡ false
 
 pub passes : (parts : Parts) (tx : Tx) → static_of parts tx ≡ Ok tt → Passes parts tx
 passes parts tx e =
     let none = none_holds (static_list parts tx) e in
-    record { own = not-false (has_account parts.accounts tx.account.0) none.0; payee = none.1.1.1.1.1.0; new = none.1.1.1.1.1.1.0 }
+    record {
+      own = not-false (has_account parts.accounts tx.account.0) none.0;
+      above = none.1.0;
+      within = none.1.1.0;
+      assets = none.1.1.1.0;
+      differ = none.1.1.1.1.0;
+      payee = none.1.1.1.1.1.0;
+      new = none.1.1.1.1.1.1.0;
+    }
 
 debit_there : (accounts : List Account) (by : ℕ) (k : Kind) → has_account accounts by ≡ true → IsThere accounts (debit_of by k)
 debit_there accounts by (kind.Pay to asset amount) own = own

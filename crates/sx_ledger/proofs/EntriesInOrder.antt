@@ -49,59 +49,59 @@ each_done {X} entry mark front count i before c total le so_far =
     let one : with_front front (each_at entry mark (count - i) before c) ≡ Ok (front, c) = rw k (ap (λ (xs : List X). Ok (xs, c)) (append-nil front)) in
     sym so_far ∙ one
 
--- ---- what is read is spelled so, and its marks are in order
+-- ---- what is decoded is an encoding, with its marks in order
 
 -- what an entry at a place is
 abbrev pub IsTaken : {X M : Type 0} → (X → List ℕ) → (X → M) → (M → M → Bool) → (X → Type 0) → Option M → Cursor → Cursor → X → Type 0
-IsTaken spell mark precedes P before c next x = Takes c (spell x) next × P x × (may_follow precedes before (mark x) ≡ true)
+IsTaken encode mark precedes P before c next x = Takes c (encode x) next × P x × (may_follow precedes before (mark x) ≡ true)
 
--- what so many entries at a place are
+-- what n entries at a place are
 abbrev pub AreTaken : {X M : Type 0} → (X → List ℕ) → (X → M) → (M → M → Bool) → (X → Type 0) → ℕ → Option M → Cursor → Cursor → List X → Type 0
-AreTaken spell mark precedes P n before c next xs =
-    Takes c (flat_map spell xs) next × (length xs ≡ n) × AllByRecursion P xs × (in_order precedes before (map mark xs) ≡ true)
+AreTaken encode mark precedes P n before c next xs =
+    Takes c (flat_map encode xs) next × (length xs ≡ n) × AllByRecursion P xs × (in_order precedes before (map mark xs) ≡ true)
 
-taken_more : {X M : Type 0} (spell : X → List ℕ) (mark : X → M) (precedes : M → M → Bool) (P : X → Type 0) (n : ℕ) (before : Option M) (c mid next : Cursor) (x : X) (xs : List X)
-    → IsTaken spell mark precedes P before c mid x → AreTaken spell mark precedes P n (Some (mark x)) mid next xs
-    → AreTaken spell mark precedes P (suc n) before c next (x ∷ xs)
-taken_more spell mark precedes P n before c mid next x xs first more =
-    (Takes-then c mid next (spell x) (flat_map spell xs) first.0 more.0, omega (arith, more.1), (first.1, more.2), and_from _ _ first.2 more.3)
+taken_more : {X M : Type 0} (encode : X → List ℕ) (mark : X → M) (precedes : M → M → Bool) (P : X → Type 0) (n : ℕ) (before : Option M) (c mid next : Cursor) (x : X) (xs : List X)
+    → IsTaken encode mark precedes P before c mid x → AreTaken encode mark precedes P n (Some (mark x)) mid next xs
+    → AreTaken encode mark precedes P (suc n) before c next (x ∷ xs)
+taken_more encode mark precedes P n before c mid next x xs first more =
+    (Takes-then c mid next (encode x) (flat_map encode xs) first.0 more.0, omega (arith, more.1), (first.1, more.2), and_from _ _ first.2 more.3)
 
-pub each_takes : {X M : Type 0} (entry : Entry X M) (mark : X → M) (spell : X → List ℕ) (precedes : M → M → Bool) (P : X → Type 0)
-    → ((before : Option M) (c next : Cursor) (x : X) → AreBytes c.bytes → entry before c ≡ Ok (x, next) → IsTaken spell mark precedes P before c next x)
+pub each_takes : {X M : Type 0} (entry : Entry X M) (mark : X → M) (encode : X → List ℕ) (precedes : M → M → Bool) (P : X → Type 0)
+    → ((before : Option M) (c next : Cursor) (x : X) → AreBytes c.bytes → entry before c ≡ Ok (x, next) → IsTaken encode mark precedes P before c next x)
     → (n : ℕ) (before : Option M) (c next : Cursor) (xs : List X) → AreBytes c.bytes → each_at entry mark n before c ≡ Ok (xs, next)
-    → AreTaken spell mark precedes P n before c next xs
+    → AreTaken encode mark precedes P n before c next xs
 unfolding each_at
-each_takes {X} entry mark spell precedes P takes zero before c next xs bytes e =
+each_takes {X} entry mark encode precedes P takes zero before c next xs bytes e =
     let none : List X × Cursor = ([], c) in
     let same : none ≡ (xs, next) = cc in
-    subst (λ (y : List X × Cursor). AreTaken spell mark precedes P 0 before c y.1 y.0) {x = none} {y = (xs, next)} same (Takes-none c, refl, tt, refl)
-each_takes {X} entry mark spell precedes P takes (suc n) before c next xs bytes e =
+    subst (λ (y : List X × Cursor). AreTaken encode mark precedes P 0 before c y.1 y.0) {x = none} {y = (xs, next)} same (Takes-none c, refl, tt, refl)
+each_takes {X} entry mark encode precedes P takes (suc n) before c next xs bytes e =
     let a = bind_ok (entry before c) (λ first. each_at entry mark n (Some (mark first.0)) first.1 >>= λ others. Ok (first.0 ∷ others.0, others.1)) (xs, next) e in
     let b = bind_ok (each_at entry mark n (Some (mark a.0.0)) a.0.1) (λ others. Ok (a.0.0 ∷ others.0, others.1)) (xs, next) a.2 in
     let t = takes before c a.0.1 a.0.0 bytes a.1 in
-    let ts = each_takes entry mark spell precedes P takes n (Some (mark a.0.0)) a.0.1 b.0.1 b.0.0 (bytes_after c a.0.1 (spell a.0.0) t.0 bytes) b.1 in
-    let whole = taken_more spell mark precedes P n before c a.0.1 b.0.1 a.0.0 b.0.0 t ts in
+    let ts = each_takes entry mark encode precedes P takes n (Some (mark a.0.0)) a.0.1 b.0.1 b.0.0 (bytes_after c a.0.1 (encode a.0.0) t.0 bytes) b.1 in
+    let whole = taken_more encode mark precedes P n before c a.0.1 b.0.1 a.0.0 b.0.0 t ts in
     let made : List X × Cursor = (a.0.0 ∷ b.0.0, b.0.1) in
     let same : made ≡ (xs, next) = cc in
-    subst (λ (y : List X × Cursor). AreTaken spell mark precedes P (suc n) before c y.1 y.0) {x = made} {y = (xs, next)} same whole
+    subst (λ (y : List X × Cursor). AreTaken encode mark precedes P (suc n) before c y.1 y.0) {x = made} {y = (xs, next)} same whole
 
--- ---- what is spelled so is read
+-- ---- an encoding is decoded
 
 each_more : {X M : Type 0} (entry : Entry X M) (mark : X → M) (n : ℕ) (before : Option M) (c mid next : Cursor) (x : X) (xs : List X)
     → entry before c ≡ Ok (x, mid) → each_at entry mark n (Some (mark x)) mid ≡ Ok (xs, next) → each_at entry mark (suc n) before c ≡ Ok (x ∷ xs, next)
 unfolding each_at
 each_more entry mark n before c mid next x xs first others = rw (first, others) refl
 
-pub each_again : {X M : Type 0} (entry : Entry X M) (mark : X → M) (spell : X → List ℕ) (precedes : M → M → Bool) (P : X → Type 0)
-    → ((before : Option M) (c : Cursor) (x : X) (after : List ℕ) → P x → may_follow precedes before (mark x) ≡ true → c.place ≤ length c.bytes → rest c ≡ spell x ++ after → Again (entry before c) c x after)
+pub each_again : {X M : Type 0} (entry : Entry X M) (mark : X → M) (encode : X → List ℕ) (precedes : M → M → Bool) (P : X → Type 0)
+    → ((before : Option M) (c : Cursor) (x : X) (after : List ℕ) → P x → may_follow precedes before (mark x) ≡ true → c.place ≤ length c.bytes → rest c ≡ encode x ++ after → Again (entry before c) c x after)
     → (xs : List X) (before : Option M) (c : Cursor) (after : List ℕ) → AllByRecursion P xs → in_order precedes before (map mark xs) ≡ true → c.place ≤ length c.bytes
-    → rest c ≡ flat_map spell xs ++ after → Again (each_at entry mark (length xs) before c) c xs after
+    → rest c ≡ flat_map encode xs ++ after → Again (each_at entry mark (length xs) before c) c xs after
 unfolding each_at
-each_again entry mark spell precedes P again [] before c after all ordered within e = record { next = c; is = refl; rest_is = e; same = refl; within = within }
-each_again entry mark spell precedes P again (x ∷ xs) before c after all ordered within e =
+each_again entry mark encode precedes P again [] before c after all ordered within e = record { next = c; is = refl; rest_is = e; same = refl; within = within }
+each_again entry mark encode precedes P again (x ∷ xs) before c after all ordered within e =
     let o = and_parts (may_follow precedes before (mark x)) (in_order precedes (Some (mark x)) (map mark xs)) ordered in
-    let first = again before c x (flat_map spell xs ++ after) all.0 o.0 within (e ∙ append_assoc (spell x) (flat_map spell xs) after) in
-    let others = each_again entry mark spell precedes P again xs (Some (mark x)) first.next after all.1 o.1 first.within first.rest_is in
+    let first = again before c x (flat_map encode xs ++ after) all.0 o.0 within (e ∙ append_assoc (encode x) (flat_map encode xs) after) in
+    let others = each_again entry mark encode precedes P again xs (Some (mark x)) first.next after all.1 o.1 first.within first.rest_is in
     record {
       next = others.next;
       is = each_more entry mark (length xs) before c first.next others.next x xs first.is others.is;

@@ -12,10 +12,10 @@ use Rattle.sx_bytes.proofs.Parts.{Reading, made_is}
 use Rattle.sx_bytes.proofs.DecodingSteps.{between_is}
 use Rattle.sx_ledger.specs.declared.account.Account.{Account}
 use Rattle.sx_ledger.specs.Ledger.{ids}
-use Rattle.sx_ledger.specs.Decoding.{price_at, units_at, each_at, account_at, next_account_at, accounts_at, account_list_at, head_at}
+use Rattle.sx_ledger.specs.Decoding.{price_at, units_field_at, each_at, account_at, next_account_at, accounts_at, account_list_at, head_at}
 use Rattle.sx_ledger.proofs.AccountLaws.{increasing_from_order}
-use Rattle.sx_ledger.proofs.Chained.{guard_takes}
-use Rattle.sx_ledger.proofs.Each.{Entry}
+use Rattle.sx_ledger.proofs.DependentParts.{guard_takes}
+use Rattle.sx_ledger.proofs.EntriesInOrder.{Entry}
 use Rattle.sx_ledger.proofs.HeadLaws.{Head, joined, from_prices, from_assets, from_height}
 
 -- a field passed its test
@@ -69,8 +69,8 @@ assets_known c next head e =
     let v = bind_ok (field_at 1 (between 1 1) form.Version c) (λ version. from_height version.0 version.1) (head, next) e in
     let h = bind_ok (field_at 8 (between 0 (2 ^ 63 - 1)) form.HeightRange v.0.1) (λ height. from_assets v.0.0 height.0 height.1) (head, next) v.2 in
     let n = bind_ok (field_at 1 (between 1 32) form.AssetCount h.0.1) (λ assets. from_prices v.0.0 h.0.0 assets.0 assets.1) (head, next) h.2 in
-    let p = bind_ok (many_at price_at n.0.0 n.0.1) (λ prices. many_at units_at n.0.0 prices.1 >>= λ rounding. Ok (joined v.0.0 h.0.0 prices.0 rounding.0, rounding.1)) (head, next) n.2 in
-    let r = bind_ok (many_at units_at n.0.0 p.0.1) (λ rounding. Ok (joined v.0.0 h.0.0 p.0.0 rounding.0, rounding.1)) (head, next) p.2 in
+    let p = bind_ok (many_at price_at n.0.0 n.0.1) (λ prices. many_at units_field_at n.0.0 prices.1 >>= λ rounding. Ok (joined v.0.0 h.0.0 prices.0 rounding.0, rounding.1)) (head, next) n.2 in
+    let r = bind_ok (many_at units_field_at n.0.0 p.0.1) (λ rounding. Ok (joined v.0.0 h.0.0 p.0.0 rounding.0, rounding.1)) (head, next) p.2 in
     let prices : p.0.0 ≡ head.2 = ap (λ (y : Head). y.2) {x = joined v.0.0 h.0.0 p.0.0 r.0.0} (made_is (joined v.0.0 h.0.0 p.0.0 r.0.0) head r.0.1 next r.2).0 in
     let number : length p.0.0 ≡ n.0.0 = many_length price_at n.0.0 n.0.1 p.0.1 p.0.0 p.1 in
     let range = between_is 1 32 n.0.0 (field_passes 1 (between 1 32) form.AssetCount h.0.1 n.0.1 n.0.0 n.1) in

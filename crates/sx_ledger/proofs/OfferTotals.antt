@@ -1,13 +1,7 @@
 -- What the offers have in all, where some are cancelled and some are made.
 use Rattle.std.proofs.Common.{◌≡◌, ℕ, ◌+◌, true, false, cond, ◌==◌, List, [], ◌∷◌, sum_by, Option, Some, None, inl, inr, refl, sym, ap, ap₂, subst, ◌∙◌, arith}
-use Rattle.std.specs.Cmp.{IsTotalOrder}
-use Rattle.std.specs.Cmp.Lexicographic.{bytes_decides}
-use Rattle.std.specs.declared.cmp.Ordering.{Ordering}
-use Rattle.std.specs.declared.cmp.Ordering.TheVariants.{Less, Equal, Greater}
 use Rattle.std.specs.List.{AllByRecursion, IsDistinct, list_any}
-use Rattle.std.specs.Ordering.{is_lt}
-use Rattle.std.proofs.lemmas.Bool.{cases_Bool, or_from, false_from_ne_true}
-use Rattle.std.proofs.lemmas.Cmp.{nat_list_cmp_total, on_total, tied_itself}
+use Rattle.std.proofs.lemmas.Bool.{cases_Bool, or_from}
 use Rattle.std.proofs.lemmas.List.Sums.{sum_by-cons}
 use Rattle.std.proofs.lemmas.Map.Keys.{IsDistinct-head, IsDistinct-tail}
 use Rattle.sx_bytes.specs.Grammar.{in_order, may_follow}
@@ -17,8 +11,9 @@ use Rattle.sx_ledger.specs.declared.offer.Offer.{Offer}
 use Rattle.sx_ledger.specs.Body.{cancelled, kept_offers, put_offer, put_offers}
 use Rattle.sx_ledger.specs.Effects.{amount_of}
 use Rattle.sx_ledger.specs.Ledger.{keys, offered}
-use Rattle.sx_ledger.specs.Order.{key_before, key_cmp, key_of, numbers_of, offer_before, same_key}
-use Rattle.sx_ledger.proofs.Adding.{sum_by-add, sum_by-kept, sum_by-same}
+use Rattle.sx_ledger.specs.Order.{key_before, key_of, offer_before, same_key}
+use Rattle.sx_ledger.proofs.KeyOrder.{before_both, before_differs, same_key_is}
+use Rattle.sx_ledger.proofs.ListSums.{sum_by-add, sum_by-kept, sum_by-same}
 use Rattle.sx_tx.specs.declared.tx.Tx.{Tx}
 
 -- ---- offers that are made
@@ -28,7 +23,7 @@ put_one f new [] = sum_by-cons f new []
 put_one f new (offer ∷ offers) =
     elim (cases_Bool (offer_before new offer)) [
       | inl before ↦ rw before (sum_by-cons f new (offer ∷ offers))
-      | inr behind ↦ rw behind (omega (arith, sum_by-cons f offer (put_offer new offers), sum_by-cons f offer offers, put_one f new offers))
+      | inr later ↦ rw later (omega (arith, sum_by-cons f offer (put_offer new offers), sum_by-cons f offer offers, put_one f new offers))
     ]
 
 pub put_all : (f : Offer → ℕ) (new offers : List Offer) → sum_by f (put_offers new offers) ≡ sum_by f new + sum_by f offers
@@ -37,43 +32,18 @@ put_all f (one ∷ new) offers = omega (arith, put_one f one (put_offers new off
 
 -- ---- keys that differ
 
-key_cmp_total : IsTotalOrder key_cmp
-key_cmp_total = on_total numbers_of nat_list_cmp_total
-
-is_less : (o : Ordering) → is_lt o ≡ true → o ≡ Less
-is_less Less e = refl
-is_less Equal e = absurd cc
-is_less Greater e = absurd cc
-
-key_from : List ℕ → Key
-key_from (sell ∷ buy ∷ limit ∷ account ∷ seq ∷ []) = record { sell = sell; buy = buy; limit = limit; account = record { 0 = account }; seq = seq }
-key_from _ = record { sell = 0; buy = 0; limit = 0; account = record { 0 = 0 }; seq = 0 }
-
-same_is : (one other : Key) → same_key one other ≡ true → one ≡ other
-unfolding key_from
-same_is one other e = ap key_from ((bytes_decides (numbers_of one) (numbers_of other)).0 e)
-
-before_both : (x y z : Key) → key_before x y ≡ true → key_before y z ≡ true → key_before x z ≡ true
-before_both x y z first second = ap is_lt (key_cmp_total.trans x y z (is_less (key_cmp x y) first) (is_less (key_cmp y z) second))
-
-before_itself : (x : Key) → key_before x x ≡ true → ⊥
-before_itself x before = let less = is_less (key_cmp x x) before in let tied = tied_itself key_cmp_total x in cc
-
-before_differs : (x y : Key) → key_before x y ≡ true → same_key y x ≡ false
-before_differs x y before = false_from_ne_true (same_key y x) (λ e. before_itself x (ap (key_before x) (sym (same_is y x e)) ∙ before))
-
--- keys in order are all behind the first
-all_behind : (x first : Key) (ks : List Key) → key_before x first ≡ true → in_order key_before (Some first) ks ≡ true → AllByRecursion (λ k. same_key k x ≡ false) (first ∷ ks)
-all_behind x first [] before ordered = (before_differs x first before, tt)
-all_behind x first (next ∷ ks) before ordered =
+-- keys in order are all after the first
+all_after : (x first : Key) (ks : List Key) → key_before x first ≡ true → in_order key_before (Some first) ks ≡ true → AllByRecursion (λ k. same_key k x ≡ false) (first ∷ ks)
+all_after x first [] before ordered = (before_differs x first before, tt)
+all_after x first (next ∷ ks) before ordered =
     let both = and_parts (key_before first next) (in_order key_before (Some next) ks) ordered in
-    (before_differs x first before, all_behind x next ks (before_both x first next before both.0) both.1)
+    (before_differs x first before, all_after x next ks (before_both x first next before both.0) both.1)
 
 others_differ : (x : Key) (ks : List Key) → in_order key_before (Some x) ks ≡ true → AllByRecursion (λ k. same_key k x ≡ false) ks
 others_differ x [] ordered = tt
 others_differ x (first ∷ ks) ordered =
     let both = and_parts (key_before x first) (in_order key_before (Some first) ks) ordered in
-    all_behind x first ks both.0 both.1
+    all_after x first ks both.0 both.1
 
 -- ---- offers that are cancelled
 
@@ -102,7 +72,7 @@ one_has asset key (offer ∷ offers) before ordered =
     let split = sum_by-cons (if_key asset key) offer offers in
     elim (cases_Bool (same_key (key_of offer) key)) [
       | inl same ↦
-          let is : key_of offer ≡ key = same_is (key_of offer) key same in
+          let is : key_of offer ≡ key = same_key_is (key_of offer) key same in
           let differ : AllByRecursion (λ k. same_key k key ≡ false) (keys offers) =
           subst (λ (x : Key). AllByRecursion (λ k. same_key k x ≡ false) (keys offers)) is (others_differ (key_of offer) (keys offers) both.1) in
           let here : if_key asset key offer ≡ offered asset offer = rw same refl in
@@ -123,7 +93,7 @@ if_among asset ks offer = cond (list_any (same_key (key_of offer)) ks) (offered 
 none_among : (x k : Key) (ks : List Key) → same_key x k ≡ true → AllByRecursion (λ y. same_key k y ≡ false) ks → list_any (same_key x) ks ≡ false
 none_among x k [] same differ = refl
 none_among x k (y ∷ ks) same differ =
-    let is : x ≡ k = same_is x k same in
+    let is : x ≡ k = same_key_is x k same in
     or_from (same_key x y) (list_any (same_key x) ks) (ap (λ (z : Key). same_key z y) is ∙ differ.0) (none_among x k ks same differ.1)
 
 among_more : (asset : ℕ) (key : Key) (ks : List Key) (offer : Offer) → AllByRecursion (λ y. same_key key y ≡ false) ks

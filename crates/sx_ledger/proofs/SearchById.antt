@@ -13,7 +13,7 @@ use Rattle.std.proofs.lemmas.List.{get_or-map, length-map, get_or_default}
 use Rattle.std.proofs.lemmas.Option.{slice_get-get_or}
 use Rattle.sx_ledger.specs.declared.account.Account.{Account}
 use Rattle.sx_ledger.specs.Ledger.{ids}
-use Rattle.sx_ledger.proofs.Searching.{rises_far}
+use Rattle.sx_ledger.proofs.SearchNumbers.{rises_far}
 
 module _ (accounts : List Account) (up : IsStrictlyIncreasing (ids accounts)) (id : ℕ) where
   id_at : (i : ℕ) (d : Account) → i < length accounts → get_or (ids accounts) i 0 ≡ (get_or accounts i d).id.0

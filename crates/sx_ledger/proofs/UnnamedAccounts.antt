@@ -1,23 +1,23 @@
--- An account that no transaction names stays as it was.
+-- An account that no transaction names does not change.
 use Rattle.std.proofs.Common.{◌≡◌, ℕ, zero, suc, ◌+◌, ◌-◌, false, ◌==◌, List, [], ◌∷◌, All, ap, ap₂, refl, arith}
 use Rattle.std.proofs.lemmas.Bool.{or_parts}
 use Rattle.std.proofs.lemmas.List.Elements.{All-head, All-tail}
 use Rattle.sx_ledger.specs.declared.offer.Offer.{Offer}
 use Rattle.sx_ledger.specs.Body.{balances_after, used_below, used_numbers, uses}
-use Rattle.sx_ledger.specs.Effects.{credit_of, credits, debit_of, debits, units_at}
+use Rattle.sx_ledger.specs.Effects.{credit_of, credits, debit_of, debits, posted}
 use Rattle.sx_ledger.specs.EffectLaws.{UnnamedStays, names, pays}
 use Rattle.sx_tx.specs.declared.kind.Kind.{Kind}
 use Rattle.sx_tx.specs.declared.kind.Kind.TheVariants as kind
 use Rattle.sx_tx.specs.declared.tx.Tx.{Tx}
 use Rattle.sx_tx.specs.Window.{Next}
 
-no_debit : (by account asset : ℕ) (k : Kind) → (by == account) ≡ false → units_at (debit_of by k) account asset ≡ 0
+no_debit : (by account asset : ℕ) (k : Kind) → (by == account) ≡ false → posted (debit_of by k) account asset ≡ 0
 no_debit by account asset (kind.Pay to paid amount) other = rw other refl
 no_debit by account asset (kind.Create id) other = refl
 no_debit by account asset (kind.Offer sell buy limit amount) other = rw other refl
 no_debit by account asset (kind.Cancel sell buy limit seq) other = refl
 
-no_credit : (offers : List Offer) (by account asset : ℕ) (k : Kind) → (by == account) ≡ false → pays account k ≡ false → units_at (credit_of offers by k) account asset ≡ 0
+no_credit : (offers : List Offer) (by account asset : ℕ) (k : Kind) → (by == account) ≡ false → pays account k ≡ false → posted (credit_of offers by k) account asset ≡ 0
 no_credit offers by account asset (kind.Pay to paid amount) other unpaid = rw unpaid refl
 no_credit offers by account asset (kind.Create id) other unpaid = refl
 no_credit offers by account asset (kind.Offer sell buy limit amount) other unpaid = refl

@@ -14,10 +14,10 @@ use Rattle.sx_ledger.specs.Effects.{credit, credit_of, credits, debit, debit_of,
 use Rattle.sx_ledger.specs.EffectLaws.{BodyConserves}
 use Rattle.sx_ledger.specs.Ledger.{IsLedger, assets_of, balance_at, offered}
 use Rattle.sx_ledger.specs.Static.{has_account}
-use Rattle.sx_ledger.proofs.Adding.{counted, sum_by-add, sum_by-filter_map, sum_by-moved, sum_by-same}
-use Rattle.sx_ledger.proofs.Flowing.{Passes, created_absent, credits_elsewhere, credits_in_all, credits_there, debits_in_all, debits_there, passes, units_of}
-use Rattle.sx_ledger.proofs.Offered.{freed, kept_sum, put_all}
-use Rattle.sx_ledger.proofs.Standing.{holding_at}
+use Rattle.sx_ledger.proofs.ListSums.{counted, sum_by-add, sum_by-filter_map, sum_by-moved, sum_by-same}
+use Rattle.sx_ledger.proofs.PostingTotals.{Passes, created_absent, credits_elsewhere, credits_in_all, credits_there, debits_in_all, debits_there, passes, units_of}
+use Rattle.sx_ledger.proofs.OfferTotals.{freed, kept_sum, put_all}
+use Rattle.sx_ledger.proofs.PlacesOfIds.{holding_at}
 use Rattle.sx_tx.specs.declared.kind.Kind.{Kind}
 use Rattle.sx_tx.specs.declared.kind.Kind.TheVariants as kind
 use Rattle.sx_tx.specs.declared.tx.Tx.{Tx}
@@ -29,7 +29,7 @@ put_one f new [] = sum_by-cons f new []
 put_one f new (account ∷ accounts) =
     elim (cases_Bool (nat_lt new.id.0 account.id.0)) [
       | inl before ↦ rw before (sum_by-cons f new (account ∷ accounts))
-      | inr behind ↦ rw behind (omega (arith, sum_by-cons f account (put_account new accounts), sum_by-cons f account accounts, put_one f new accounts))
+      | inr later ↦ rw later (omega (arith, sum_by-cons f account (put_account new accounts), sum_by-cons f account accounts, put_one f new accounts))
     ]
 
 put_all_accounts : (f : Account → ℕ) (new accounts : List Account) → sum_by f (put_accounts new accounts) ≡ sum_by f new + sum_by f accounts

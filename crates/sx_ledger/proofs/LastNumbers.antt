@@ -1,4 +1,4 @@
--- The last number of a window is the greatest one that its account used.
+-- The last sequence number of a window is the greatest one that its account used.
 use Rattle.std.proofs.Common.{◌≡◌, ◌≢◌, ℕ, zero, suc, ◌+◌, ◌-◌, ◌*◌, ◌%◌, ◌^◌, ◌<◌, ◌≤◌, Bool, true, false, cond, ◌==◌, ◌&&◌, List, [], ◌∷◌, refl, sym, ap, ◌∙◌, inl, inr, arith}
 use Rattle.std.specs.Int.{bit_at, IsBitSet}
 use Rattle.std.proofs.lemmas.Bool.{cases_Bool, cases_lt, cases_eq, eq-eqb, eqb-true, ne_eqb, or_left, or_right, or_from, or_cases, and_parts, and_right, and_left}
@@ -118,7 +118,7 @@ next_at txs account window i lt used unused =
     let low : 2 ^ i ≤ used_below txs account window.last (suc i) = omega arith in
     ap (Next 1 window) ends ∙ highest_at window (used_below txs account window.last (suc i)) i lt low below
 
--- where no number is used the window stays
+-- where no sequence number is used the window does not change
 none_used : (txs : List Tx) (account : ℕ) (window : Window) → window.used ≡ 0 → greatest_number txs account ≡ 0
     → Next 1 window (used_numbers txs account window.last) ≡ record { last = window.last; used = 0 }
 none_used txs account window unused none =

@@ -1,0 +1,135 @@
+-- The ledger after the body of a block is a ledger.
+use Rattle.std.proofs.Common.{◌≡◌, ℕ, ◌+◌, ◌^◌, ◌<◌, ◌≤◌, true, not, List, [], ◌∷◌, length, get_or, map, All, Some, None, inl, inr, refl, sym, ap, ◌∙◌, subst, arith}
+use Rattle.std.specs.List.{AllByRecursion, filter, list_any, sum_by}
+use Rattle.std.proofs.lemmas.Bool.{cases_Bool}
+use Rattle.std.proofs.lemmas.List.{length-map}
+use Rattle.std.proofs.lemmas.List.Elements.{All-filter, All-from_get_or, All-from_recursion, recursion_from_All}
+use Rattle.std.proofs.lemmas.List.Sums.{get_or-le-sum_by}
+use Rattle.sx_bytes.specs.Grammar.{in_order}
+use Rattle.sx_ledger.specs.declared.account.Account.{Account}
+use Rattle.sx_ledger.specs.declared.offer.Offer.{Offer}
+use Rattle.sx_ledger.specs.declared.parts.Parts.{Parts}
+use Rattle.sx_ledger.specs.Body.{IsAdmissible, account_after, accounts_after, body_after, cancelled, created, kept_offers, made, new_account, offers_after, tx_before}
+use Rattle.sx_ledger.specs.EffectLaws.{BodyKeepsLedger, greatest_number}
+use Rattle.sx_ledger.specs.Ledger.{IsAccount, IsLedger, IsOffer, assets_of, balance_at, has_owner, keys, total_of}
+use Rattle.sx_ledger.specs.Order.{key_before, key_of, same_key}
+use Rattle.sx_ledger.specs.Static.{has_account, last_of}
+use Rattle.sx_ledger.proofs.AccountsAfter.{HasShape, by_id_after, greatest_reaches, owner_after, shapes}
+use Rattle.sx_ledger.proofs.BodyConserves.{body_conserves}
+use Rattle.sx_ledger.proofs.Insertion.{AreApart, all_put_all, filter_in_order, id_of, length-put_all, put_accounts_are, put_all_in_order, put_all, put_offers_are}
+use Rattle.sx_ledger.proofs.KeyOrder.{before_both}
+use Rattle.sx_ledger.proofs.OffersAfter.{IsMade, all_made, made_apart, owner_there, owner_used}
+use Rattle.sx_ledger.proofs.PostingTotals.{Passes, passes}
+use Rattle.sx_tx.specs.declared.tx.Tx.{Tx}
+use Rattle.sx_tx.specs.Transactions.{IsTx}
+use Rattle.std.specs.Prelude.{nat_lt}
+
+kept_few : (offers : List Offer) (txs : List Tx) → length (kept_offers offers txs) ≤ length offers
+kept_few [] txs = omega arith
+kept_few (offer ∷ offers) txs =
+    elim (cases_Bool (list_any (same_key (key_of offer)) (cancelled txs))) [
+      | inl ended ↦ rw ended (omega (arith, kept_few offers txs))
+      | inr kept ↦ rw kept (omega (arith, kept_few offers txs))
+    ]
+
+module _ (parts : Parts) (txs : List Tx) (keeps : IsLedger parts) (in_range : All IsTx txs) (body : IsAdmissible parts txs) where
+  passing : All (Passes parts) txs
+  passing = λ k d below. passes parts (get_or txs k d) (body.passes k d below)
+
+  totals : (asset : ℕ) → asset < assets_of parts → total_of (body_after parts txs) asset ≤ 2 ^ 62
+  totals asset lt = omega (arith, body_conserves parts txs asset keeps body lt, keeps.totals asset lt)
+
+  -- ---- accounts
+
+  few_accounts : length (accounts_after parts txs) ≤ 65536
+  few_accounts =
+      let news = map (new_account parts txs) (created txs) in
+      let olds = map (account_after parts txs) parts.accounts in
+      let is : length (accounts_after parts txs) ≡ length news + length olds = ap length (put_accounts_are news olds) ∙ length-put_all id_of nat_lt news olds in
+      omega (arith, is, length-map (created txs) (new_account parts txs), length-map parts.accounts (account_after parts txs), body.accounts_fit)
+
+  accounts : All (IsAccount (assets_of parts)) (accounts_after parts txs)
+  accounts k d lt =
+      let after = accounts_after parts txs in
+      let account = get_or after k d in
+      let shape : HasShape (assets_of parts) account = shapes parts txs keeps in_range passing k d lt in
+      record {
+        id = shape.id;
+        last = shape.last;
+        used = shape.used;
+        balances = shape.balances;
+        in_range = All-from_get_or (λ balance. balance ≤ 2 ^ 62) account.balances 0
+            (λ asset below. omega (arith, get_or-le-sum_by (balance_at asset) after k d lt, totals asset (omega (arith, shape.balances))));
+      }
+
+  -- ---- offers
+
+  offers_put : offers_after parts txs ≡ put_all key_of key_before (made txs) (kept_offers parts.offers txs)
+  offers_put = put_offers_are (made txs) (kept_offers parts.offers txs)
+
+  few_offers : length (offers_after parts txs) ≤ 262144
+  few_offers =
+      let is : length (offers_after parts txs) ≡ length (made txs) + length (kept_offers parts.offers txs) =
+      ap length offers_put ∙ length-put_all key_of key_before (made txs) (kept_offers parts.offers txs) in
+      omega (arith, is, kept_few parts.offers txs, body.offers_fit)
+
+  kept_are : All (IsOffer (assets_of parts) parts.accounts) (kept_offers parts.offers txs)
+  kept_are = All-filter (λ offer. not (list_any (same_key (key_of offer)) (cancelled txs))) (IsOffer (assets_of parts) parts.accounts) parts.offers keeps.offers
+
+  by_key : in_order key_before None (keys (offers_after parts txs)) ≡ true
+  by_key =
+      let ordered = filter_in_order key_of key_before before_both (λ offer. not (list_any (same_key (key_of offer)) (cancelled txs))) None parts.offers keeps.by_key in
+      let whole = put_all_in_order key_of key_before (made txs) (kept_offers parts.offers txs) (made_apart parts keeps.by_id (kept_offers parts.offers txs) kept_are None txs body.ordered passing) ordered in
+      rw offers_put whole
+
+  kept_offer : (offer : Offer) → IsOffer (assets_of parts) parts.accounts offer → IsOffer (assets_of parts) (accounts_after parts txs) offer
+  kept_offer offer is = record {
+    sell = is.sell;
+    buy = is.buy;
+    differ = is.differ;
+    limit = is.limit;
+    account = is.account;
+    seq = is.seq;
+    amount = is.amount;
+    owner = owner_after parts txs keeps in_range passing offer (owner_there parts.accounts offer is.owner) is.seq.0 (inl (owner_used parts.accounts keeps.by_id offer is.owner));
+  }
+
+  all_used : AllByRecursion (λ tx. tx.seq ≤ greatest_number txs tx.account.0) txs
+  all_used =
+      recursion_from_All (λ tx. tx.seq ≤ greatest_number txs tx.account.0) txs
+      (λ k d lt. greatest_reaches txs (get_or txs k d).account.0 k d lt refl)
+
+  made_offers : (offers : List Offer) → AllByRecursion (IsMade parts txs) offers → AllByRecursion (IsOffer (assets_of parts) (accounts_after parts txs)) offers
+  made_offers [] all = tt
+  made_offers (offer ∷ offers) all =
+      (all.0.fields (accounts_after parts txs) (owner_after parts txs keeps in_range passing offer all.0.there all.0.some (inr all.0.used)), made_offers offers all.1)
+
+  offers : All (IsOffer (assets_of parts) (accounts_after parts txs)) (offers_after parts txs)
+  offers =
+      All-from_recursion (IsOffer (assets_of parts) (accounts_after parts txs)) (offers_after parts txs)
+      (subst (AllByRecursion (IsOffer (assets_of parts) (accounts_after parts txs))) (sym offers_put)
+      (all_put_all key_of key_before (IsOffer (assets_of parts) (accounts_after parts txs)) (made txs) (kept_offers parts.offers txs)
+      (made_offers (made txs) (all_made parts txs txs in_range passing all_used))
+      (recursion_from_All (IsOffer (assets_of parts) (accounts_after parts txs)) (kept_offers parts.offers txs)
+      (λ k d lt. kept_offer (get_or (kept_offers parts.offers txs) k d) (kept_are k d lt)))))
+
+  ledger_after : IsLedger (body_after parts txs)
+  ledger_after = record {
+    version = keeps.version;
+    height = keeps.height;
+    some_asset = keeps.some_asset;
+    few_assets = keeps.few_assets;
+    prices = keeps.prices;
+    one_rounding = keeps.one_rounding;
+    rounding = keeps.rounding;
+    few_accounts = few_accounts;
+    accounts = accounts;
+    by_id = by_id_after parts txs keeps in_range passing body.creates_once;
+    few_offers = few_offers;
+    offers = offers;
+    by_key = by_key;
+    totals = totals;
+  }
+
+pub body_keeps_ledger : BodyKeepsLedger
+body_keeps_ledger parts txs keeps in_range body = ledger_after parts txs keeps in_range body

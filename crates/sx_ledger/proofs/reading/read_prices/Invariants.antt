@@ -1,8 +1,0 @@
-use Rattle.std.proofs.Common.{◌≡◌, ◌-◌}
-use Rattle.sx_bytes.specs.Grammar.{many_at}
-use Rattle.sx_bytes.proofs.ListReading.{with_front}
-use Rattle.sx_ledger.specs.Decoding.{price_at}
-use Rattle.sx_ledger.proofs.reading.read_prices.Given as goal
-
-abbrev pub invariant-loop : goal.invariant-loop
-invariant-loop l = with_front l.prices.items (many_at price_at (l.assets - l.counter) l.from) ≡ many_at price_at l.assets l.fn.from
