@@ -1,3 +1,4 @@
+pub mod Rows
 pub mod SumLaws
 pub mod Duality
 pub mod CutLaws

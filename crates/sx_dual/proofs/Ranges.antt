@@ -38,11 +38,17 @@ sum_but_one (suc n) most f le place lt none =
 pub sold_range : (flow : FlowTable) → IsFlow flow → (asset : ℕ) → asset < flow.assets → sold flow.assets (value_of flow) asset ≤ 31 * 2 ^ 102
 sold_range flow is asset lt =
     let few = is.assets.few in
-    omega (arith, sum_but_one flow.assets (2 ^ 102) (λ b. between (value_of flow) asset b)
-    (λ b b_lt. between_range (value_of flow) (2 ^ 102) asset b (entry_range flow.assets flow.values is.values asset b lt b_lt)) asset lt (between-self (value_of flow) asset asset refl))
+    omega (
+      arith,
+      sum_but_one flow.assets (2 ^ 102) (λ b. between (value_of flow) asset b)
+          (λ b b_lt. between_range (value_of flow) (2 ^ 102) asset b (entry_range flow.assets flow.values is.values asset b lt b_lt)) asset lt (between-self (value_of flow) asset asset refl),
+    )
 
 pub bought_range : (flow : FlowTable) → IsFlow flow → (asset : ℕ) → asset < flow.assets → bought flow.assets (value_of flow) asset ≤ 31 * 2 ^ 102
 bought_range flow is asset lt =
     let few = is.assets.few in
-    omega (arith, sum_but_one flow.assets (2 ^ 102) (λ s. between (value_of flow) s asset)
-    (λ s s_lt. between_range (value_of flow) (2 ^ 102) s asset (entry_range flow.assets flow.values is.values s asset s_lt lt)) asset lt (between-self (value_of flow) asset asset refl))
+    omega (
+      arith,
+      sum_but_one flow.assets (2 ^ 102) (λ s. between (value_of flow) s asset)
+          (λ s s_lt. between_range (value_of flow) (2 ^ 102) s asset (entry_range flow.assets flow.values is.values s asset s_lt lt)) asset lt (between-self (value_of flow) asset asset refl),
+    )

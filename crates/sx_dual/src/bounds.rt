@@ -1,3 +1,5 @@
+//! The values between which each pair may trade.
+
 ghost use Rattle.std.specs.Prelude.{◌≡◌, ◌<◌, ◌≤◌, ◌^◌};
 ghost use Rattle.sx_dual.specs.Tables.{AreBounds, high_of, low_of};
 

@@ -1,3 +1,5 @@
+//! Sets of assets.
+
 ghost use Rattle.std.specs.Prelude.{◌≡◌};
 ghost use Rattle.sx_dual.specs.Cuts.{goes_in as goes_into, goes_out as goes_out_of, is_in};
 

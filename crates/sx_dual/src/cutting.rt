@@ -1,4 +1,26 @@
 //! Whether a set of assets shows that there is no circulation.
+//!
+//! In a circulation as much value goes into any set of assets as goes out of it, since each asset
+//! balances. A pair goes into the set where its sold asset is outside and its bought asset inside.
+//! So where the lower bounds of the pairs into a set add up to more than the upper bounds of the
+//! pairs out of it, there is no circulation. Here 16 must go into the set of A and B, and 15 may go
+//! out of it:
+//!
+//! ```text
+//!     the set
+//!    +-------+  16 to 20
+//!    |   A <-|----------- C
+//!    |     --|----------> C
+//!    |       |  0 to 9
+//!    |   B --|----------> D
+//!    +-------+  0 to 6
+//! ```
+//!
+//! Cost: one pass over the n² pairs of n assets. The sums are below 2^112, so none wraps.
+//!
+//! Source: A. J. Hoffman, "Some recent applications of the theory of linear inequalities to extremal
+//! combinatorial analysis" (1960), the easy half of his theorem on circulations; Ahuja, Magnanti and
+//! Orlin, "Network Flows" (1993), chapter 6.
 
 ghost use Rattle.std.specs.Prelude.{◌≡◌, ℕ, ◌*◌, ◌<◌, ◌≤◌, ◌^◌, ◌↔◌, IsTrue, if◌then◌else◌};
 ghost use Rattle.sx_dual.specs.Circulation.{HaveNoCirculation};
@@ -72,7 +94,9 @@ fn crossing_of(bounds: &Bounds, cut: Cut) -> Crossing
     Crossing { into, out }
 }
 
-/// Whether more must go into the set than may go out of it.
+/// True exactly where more must go into the set than may go out of it: the lower bounds of the pairs
+/// into it add up to more than the upper bounds of the pairs out of it. There is then no circulation
+/// within the bounds. Bits of assets that are not there do not count. It takes no memory.
 pub fn cuts(bounds: &Bounds, cut: Cut) -> bool
     ensures exact { IsTrue result ↔ IsCut bounds.now.assets (low_of bounds.now) (high_of bounds.now) cut.0 }
     ensures none { IsTrue result → HaveNoCirculation bounds.now.assets (low_of bounds.now) (high_of bounds.now) }

@@ -1,3 +1,5 @@
+//! The value that each pair trades.
+
 ghost use Rattle.std.specs.Prelude.{◌≡◌, ◌<◌, ◌≤◌, ◌^◌};
 ghost use Rattle.sx_dual.specs.Tables.{IsFlow, value_of};
 

@@ -1,3 +1,5 @@
+//! Laws of flows, potentials and cuts.
+
 ghost use Rattle.sx_dual.specs.Laws.{FitIsGreatest, CutRefutes, MisfitRefutes, OneMisfit};
 
 /// A flow that fits some potentials is a circulation, and no circulation within the same bounds

@@ -1,3 +1,5 @@
+//! Why a flow and potentials do not fit.
+
 ghost use Rattle.std.specs.Prelude.{◌≡◌};
 
 use sx_base::AssetId;
