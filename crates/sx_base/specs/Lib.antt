@@ -1,3 +1,4 @@
+pub mod Ranges
 pub mod Outside
 pub mod Exact
 pub mod Memory

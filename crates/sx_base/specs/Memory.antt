@@ -1,8 +1,8 @@
 -- What contracts see of a source and a sink in memory.
 use Rattle.std.specs.Prelude.{ℕ, ◌+◌, ◌-◌, ◌^◌, min, List, ◌++◌, length, drop}
 
--- the bytes left, the most of them in one call, the numbers of the calls that fail, the calls so
--- far and the faults so far
+-- the bytes that are left, how many one call may give, which calls fail, and how many calls and
+-- faults there were
 pub record SourceState : Type 0 where
   pub left : List ℕ
   pub piece : ℕ
@@ -10,7 +10,7 @@ pub record SourceState : Type 0 where
   pub calls : ℕ
   pub faults : ℕ
 
--- the bytes written, how many there is room for, and the rest as above
+-- the bytes written, how many bytes there is room for, and the rest as above
 pub record SinkState : Type 0 where
   pub written : List ℕ
   pub room : ℕ
@@ -19,11 +19,11 @@ pub record SinkState : Type 0 where
   pub calls : ℕ
   pub faults : ℕ
 
--- a count after one more: it stays at its last value
+-- a count after one more, which does not change at its last value
 abbrev pub one_more : ℕ → ℕ
 one_more count = min (count + 1) (2 ^ 64 - 1)
 
--- how many bytes the sink has room for still
+-- how many bytes more the sink has room for
 abbrev pub spare : SinkState → ℕ
 spare sink = sink.room - length sink.written
 

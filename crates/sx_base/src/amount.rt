@@ -1,4 +1,7 @@
-ghost use Rattle.std.specs.Prelude.{◌≡◌, ◌≤◌, ◌^◌, ◌↔◌, IsOk, IfOk};
+//! Amounts of an asset.
+
+ghost use Rattle.std.specs.Prelude.{◌≡◌, ◌≤◌, ◌↔◌, IsOk, IfOk};
+ghost use Rattle.sx_base.specs.Ranges.{most_amount};
 
 use std::marker::Model;
 use thiserror::Error;
@@ -9,19 +12,20 @@ pub struct Amount {
     units: u64,
 }
 
-/// The number is no amount: it is 0, or above `2^62`.
+/// So many units are no amount: there are none, or more than `2^62`.
 #[derive(Clone, Copy, Debug, PartialEq, Eq, Error)]
 #[error("an amount is at least 1 and at most 2^62")]
 pub struct AmountRange;
 
 impl Model for Amount {
-    ghost use Rattle.std.specs.Prelude.{ℕ, ◌≤◌, ◌^◌};
+    ghost use Rattle.std.specs.Prelude.{ℕ, ◌≤◌};
+    ghost use Rattle.sx_base.specs.Ranges.{most_amount};
 
     ghost Value = { ℕ };
 
     ghost view = { λ amount. amount.units };
 
-    ghost invariant = { λ amount. (1 ≤ amount.units) × (amount.units ≤ 2 ^ 62) };
+    ghost invariant = { λ amount. (1 ≤ amount.units) × (amount.units ≤ most_amount) };
 
     ghost inverse = { λ n. record { units = n } };
 }
@@ -35,7 +39,7 @@ impl Amount {
 
     /// The amount of `raw` units. `AmountRange` comes exactly where that is 0, or above `2^62`.
     pub fn new(raw: u64) -> Result<Self, AmountRange>
-        ensures in_range { IsOk result ↔ ((1 ≤ raw) × (raw ≤ 2 ^ 62)) }
+        ensures in_range { IsOk result ↔ ((1 ≤ raw) × (raw ≤ most_amount)) }
         ensures value { IfOk result (λ amount. amount ≡ raw) }
     {
         if Self::LEAST <= raw && raw <= Self::MOST {
@@ -45,11 +49,11 @@ impl Amount {
         }
     }
 
-    /// The number of units.
+    /// How many units.
     pub fn get(&self) -> u64
         ensures value { result ≡ self.now }
         ensures positive { 1 ≤ result }
-        ensures in_range { result ≤ 2 ^ 62 }
+        ensures in_range { result ≤ most_amount }
     {
         self.units
     }

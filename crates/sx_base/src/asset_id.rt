@@ -1,38 +1,42 @@
+//! Which asset.
+
 ghost use Rattle.std.specs.Prelude.{◌≡◌, ◌<◌, ◌↔◌, IsOk, IfOk};
+ghost use Rattle.sx_base.specs.Ranges.{most_assets};
 
 use std::marker::Model;
 use thiserror::Error;
 
-/// An asset's number, below 32.
+/// Which asset: its place among the assets, from 0 and below 32.
 #[derive(Clone, Copy, Debug, PartialEq, Eq, PartialOrd, Ord, Hash)]
 pub struct AssetId {
     number: u8,
 }
 
-/// The number is no asset's: it is 32 or more.
+/// There is no such asset: its place would be 32 or more.
 #[derive(Clone, Copy, Debug, PartialEq, Eq, Error)]
 #[error("an asset's number is below 32")]
 pub struct AssetRange;
 
 impl Model for AssetId {
     ghost use Rattle.std.specs.Prelude.{ℕ, ◌<◌};
+    ghost use Rattle.sx_base.specs.Ranges.{most_assets};
 
     ghost Value = { ℕ };
 
     ghost view = { λ asset. asset.number };
 
-    ghost invariant = { λ asset. asset.number < 32 };
+    ghost invariant = { λ asset. asset.number < most_assets };
 
     ghost inverse = { λ n. record { number = n } };
 }
 
 impl AssetId {
-    /// The first number that is no asset's.
+    /// How many assets there may be.
     pub const LIMIT: u8 = 32;
 
-    /// The asset of this number. `AssetRange` comes exactly where it is 32 or more.
+    /// The asset at the place `raw`. `AssetRange` comes exactly where that is 32 or more.
     pub fn new(raw: u8) -> Result<Self, AssetRange>
-        ensures in_range { IsOk result ↔ (raw < 32) }
+        ensures in_range { IsOk result ↔ (raw < most_assets) }
         ensures value { IfOk result (λ asset. asset ≡ raw) }
     {
         if raw < Self::LIMIT {
@@ -42,10 +46,10 @@ impl AssetId {
         }
     }
 
-    /// The number.
+    /// The asset's place.
     pub fn get(&self) -> u8
         ensures value { result ≡ self.now }
-        ensures in_range { result < 32 }
+        ensures in_range { result < most_assets }
     {
         self.number
     }

@@ -1,16 +1,17 @@
-//! What every other crate stands on: the outside as two traits, and the small numbers of the
+//! What every other crate stands on: input and output as two traits, and the small types of the
 //! exchange.
 //!
 //! A [`Source`] gives bytes and a [`Sink`] takes them. Each call answers how many, or [`Failed`],
-//! and that only where a count of faults has risen, so a caller's own answer "the outside failed"
-//! can be tied to it. [`take_exact`] and [`put_all`] go on until all is done. [`MemSource`] and
-//! [`MemSink`] are in memory, tell all their bytes and fail at the calls that they are told to;
-//! [`StdSource`] and [`StdSink`] adapt `std::io`, and as streams they tell nothing of content.
-//! [`AccountId`], [`AssetId`], [`Seq`] and [`Amount`] are numbers that keep their range, and
+//! and that only where a count of faults has risen, so a caller's own answer "reading failed" can
+//! be tied to it. A count that rises at failures alone is called strict: then a call that did not
+//! fail leaves it as it was. [`take_exact`] and [`put_all`] go on until all is done. [`MemSource`]
+//! and [`MemSink`] are in memory, tell all their bytes and fail at the calls that they are told to;
+//! [`StdSource`] and [`StdSink`] adapt `std::io` and tell nothing of the bytes.
+//! [`AssetId`], [`Seq`] and [`Amount`] keep their ranges, [`AccountId`] is any integer, and
 //! [`Balances`] is a list.
 //!
 //! Not here: files, clocks, threads, buffering, retries after a failure, and any claim that a
-//! stream ever gives a byte. What `std::io` gives and takes is trusted.
+//! source ever gives a byte. What `std::io` gives and takes is trusted.
 #![tactic(auto)]
 
 mod account_id;

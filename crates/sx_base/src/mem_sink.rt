@@ -1,4 +1,6 @@
-ghost use Rattle.std.specs.Prelude.{◌≡◌, ◌⊎◌, ◌<◌, ◌≤◌, ◌↔◌, Some, [], min, length, take, vec_len, Contains, IsErr, IfOk, OnOk, OnErr};
+//! A sink in memory.
+
+ghost use Rattle.std.specs.Prelude.{◌≡◌, ◌⊎◌, ◌<◌, ◌≤◌, ◌↔◌, Some, true, [], min, length, take, vec_len, Contains, IsErr, IfOk, OnOk, OnErr};
 ghost use Rattle.sx_base.specs.Outside.{Rose, Appends};
 ghost use Rattle.sx_base.specs.Memory.{SinkState, spare, after_put, after_failed_put};
 
@@ -6,11 +8,11 @@ use crate::memory::{is_refused, write_at};
 use crate::{Failed, Sink};
 use std::marker::Model;
 
-/// A sink over a vector in memory, which takes at most so many bytes a call and fails at the calls
-/// that it is told to.
+/// A sink over a vector in memory, which takes at most a given number of bytes in one call and fails
+/// at the calls that it is told to.
 ///
-/// It writes over the bytes of the vector from the first on, and never grows it. Calls are numbered
-/// from 0. One after number `2^32 - 1` is never listed.
+/// It writes over the bytes of the vector from the first on, and never grows it. Calls are counted
+/// from 0, and no call after the `2^32`-th fails by the list. The sink is strict.
 #[derive(Debug, Drop)]
 pub struct MemSink {
     room: Vec<u8>,
@@ -40,8 +42,8 @@ impl Model for MemSink {
 }
 
 impl MemSink {
-    /// A sink with as much room as `room` has bytes, at most `piece` a call, that fails at the
-    /// calls whose numbers `failing` lists.
+    /// A sink with as much room as `room` has bytes, which takes at most `piece` in one call and
+    /// fails at the calls that `failing` lists.
     pub fn new(room: Vec<u8>, piece: usize, failing: Vec<u32>) -> Self
         requires { 1 ≤ piece }
         ensures { result ≡ record {
@@ -70,7 +72,7 @@ impl MemSink {
         &self.room[..self.place]
     }
 
-    /// How many puts have failed, up to `u64::MAX`.
+    /// How many puts have failed, up to `2^64 - 1`.
     pub fn faults(&self) -> u64
         ensures { result ≡ self.now.faults }
     {
@@ -83,10 +85,11 @@ impl Sink for MemSink {
 
     ghost faults = { λ s. s.faults };
 
+    ghost strict = { λ _. true };
+
     /// Appends as many of the bytes as there are, as there is room for, and as one call may take.
     ///
-    /// It fails exactly where the call's number is listed, or where there are bytes and no room is
-    /// left.
+    /// It fails exactly where the call is listed, or where there are bytes and no room is left.
     fn put(&mut self, bytes: &[u8]) -> Result<usize, Failed>
         ensures within { IfOk result (λ n. n ≤ length bytes.now) }
         ensures some { IfOk result (λ n. 0 < length bytes.now → 0 < n) }

@@ -1,15 +1,18 @@
-ghost use Rattle.std.specs.Prelude.{◌≡◌, ◌≤◌, ◌↔◌, Some, min, length, Contains, IsErr, IfOk, OnOk, OnErr};
-ghost use Rattle.sx_base.specs.Outside.{Rose, TakesFront};
+//! A source in memory.
+
+ghost use Rattle.std.specs.Prelude.{◌≡◌, ◌≤◌, ◌↔◌, Some, true, min, length, Contains, IsErr, IfOk, OnOk, OnErr};
+ghost use Rattle.sx_base.specs.Outside.{Rose, TakesPrefix};
 ghost use Rattle.sx_base.specs.Memory.{SourceState, after_take, after_failed_take};
 
-use crate::memory::{is_listed, write_front};
+use crate::memory::{is_listed, write_first};
 use crate::{Failed, Source};
 use std::marker::Model;
 
-/// A source over bytes in memory, which gives at most so many a call and fails at the calls that it
-/// is told to.
+/// A source over bytes in memory, which gives at most a given number of them in one call and fails
+/// at the calls that it is told to.
 ///
-/// Calls are numbered from 0. One after number `2^32 - 1` is never listed.
+/// Calls are counted from 0, and no call after the `2^32`-th fails by the list. The source is
+/// strict.
 #[derive(Debug, Drop)]
 pub struct MemSource {
     bytes: Vec<u8>,
@@ -38,7 +41,7 @@ impl Model for MemSource {
 }
 
 impl MemSource {
-    /// A source of these bytes, at most `piece` a call, that fails at the calls whose numbers
+    /// A source of these bytes, which gives at most `piece` in one call and fails at the calls that
     /// `failing` lists.
     pub fn new(bytes: Vec<u8>, piece: usize, failing: Vec<u32>) -> Self
         requires { 1 ≤ piece }
@@ -67,7 +70,7 @@ impl MemSource {
         &self.bytes[self.place..]
     }
 
-    /// How many takes have failed, up to `u64::MAX`.
+    /// How many takes have failed, up to `2^64 - 1`.
     pub fn faults(&self) -> u64
         ensures { result ≡ self.now.faults }
     {
@@ -80,14 +83,15 @@ impl Source for MemSource {
 
     ghost faults = { λ s. s.faults };
 
+    ghost strict = { λ _. true };
+
     /// Gives the next bytes: as many as there are, as fit, and as one call may give.
     ///
-    /// It fails exactly where the call's number is listed, and then takes nothing and leaves `into`
-    /// as it was.
+    /// It fails exactly where the call is listed, and then takes nothing and does not change `into`.
     fn take(&mut self, into: &mut [u8]) -> Result<usize, Failed>
         ensures within { IfOk result (λ n. n ≤ length into.old) }
         ensures taken { IfOk result (λ n.
-            TakesFront (Some self.old.left) (Some self.new.left) n into.old into.new) }
+            TakesPrefix (Some self.old.left) (Some self.new.left) n into.old into.new) }
         ensures steady { OnOk result (self.new.faults ≡ self.old.faults) }
         ensures falls_never { self.old.faults ≤ self.new.faults }
         ensures failed { OnErr result (Rose self.old.faults self.new.faults) }
@@ -107,7 +111,7 @@ impl Source for MemSource {
         }
         let left = &self.bytes[self.place..];
         let count = self.piece.min(into.len()).min(left.len());
-        write_front(into, &left[..count]);
+        write_first(into, &left[..count]);
         self.place += count;
         Ok(count)
     }

@@ -1,4 +1,6 @@
-ghost use Rattle.std.specs.Prelude.{◌≡◌, ◌<◌, ◌≤◌, None, length, take, IfOk, OnOk, OnErr};
+//! A sink over `std::io`.
+
+ghost use Rattle.std.specs.Prelude.{◌≡◌, ◌<◌, ◌≤◌, None, true, length, take, IfOk, OnOk, OnErr};
 ghost use Rattle.std.specs.Io.KnownBytes.{WriteAppends};
 ghost use Rattle.sx_base.specs.Memory.{one_more};
 ghost use Rattle.sx_base.specs.Outside.{Rose, Appends};
@@ -7,8 +9,8 @@ ghost use Rattle.sx_base.specs.Standard.{writer_of, failed_puts};
 use crate::{Failed, Sink};
 use std::io::Write;
 
-/// A sink over a `std::io::Write`, as standard output. As a sink it tells nothing of
-/// its content.
+/// A sink over a `std::io::Write`, as standard output. It does not tell which bytes it got, and is
+/// strict.
 ///
 /// Each error of the writer counts as a fault, also one that says that the call was interrupted,
 /// and so does a write of nothing where there was something to write.
@@ -27,7 +29,7 @@ impl<W: Write> StdSink<W> {
         StdSink { inner, faults: 0 }
     }
 
-    /// How many puts have failed, up to `u64::MAX`.
+    /// How many puts have failed, up to `2^64 - 1`.
     pub fn faults(&self) -> u64
         ensures { result ≡ failed_puts self.now }
     {
@@ -40,6 +42,8 @@ impl<W: Write> Sink for StdSink<W> {
 
     ghost faults = { λ s. s.faults };
 
+    ghost strict = { λ _. true };
+
     /// Writes once, and answers what the writer does, but fails where it wrote nothing of
     /// something.
     fn put(&mut self, bytes: &[u8]) -> Result<usize, Failed>
@@ -51,7 +55,7 @@ impl<W: Write> Sink for StdSink<W> {
         ensures failed { OnErr result (Rose (failed_puts self.old) (failed_puts self.new)) }
 
         ensures raised { OnErr result (failed_puts self.new ≡ one_more (failed_puts self.old)) }
-        // Where std says which bytes the writer holds, the call put these behind them.
+        // Where std says which bytes the writer holds, the call appended these.
         ensures wrote { WriteAppends (W.contents (writer_of self.old)) (W.contents (writer_of self.new))
             result bytes.now }
     {

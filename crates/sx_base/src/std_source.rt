@@ -1,14 +1,16 @@
-ghost use Rattle.std.specs.Prelude.{◌≡◌, ◌≤◌, None, length, IfOk, OnOk, OnErr};
+//! A source over `std::io`.
+
+ghost use Rattle.std.specs.Prelude.{◌≡◌, ◌≤◌, None, true, length, IfOk, OnOk, OnErr};
 ghost use Rattle.std.specs.Io.KnownBytes.{ReadConsumes};
 ghost use Rattle.sx_base.specs.Memory.{one_more};
-ghost use Rattle.sx_base.specs.Outside.{Rose, TakesFront};
+ghost use Rattle.sx_base.specs.Outside.{Rose, TakesPrefix};
 ghost use Rattle.sx_base.specs.Standard.{reader_of, failed_takes};
 
 use crate::{Failed, Source};
 use std::io::Read;
 
-/// A source over a `std::io::Read`, as standard input. As a source it tells nothing of
-/// its content.
+/// A source over a `std::io::Read`, as standard input. It does not tell which bytes are left, and is
+/// strict.
 ///
 /// Each error of the reader counts as a fault, also one that says that the call was interrupted.
 #[derive(Debug, Drop)]
@@ -26,7 +28,7 @@ impl<R: Read> StdSource<R> {
         StdSource { inner, faults: 0 }
     }
 
-    /// How many takes have failed, up to `u64::MAX`.
+    /// How many takes have failed, up to `2^64 - 1`.
     pub fn faults(&self) -> u64
         ensures { result ≡ failed_takes self.now }
     {
@@ -39,10 +41,12 @@ impl<R: Read> Source for StdSource<R> {
 
     ghost faults = { λ s. s.faults };
 
+    ghost strict = { λ _. true };
+
     /// Reads once, and answers what the reader does.
     fn take(&mut self, into: &mut [u8]) -> Result<usize, Failed>
         ensures within { IfOk result (λ n. n ≤ length into.old) }
-        ensures taken { IfOk result (λ n. TakesFront None None n into.old into.new) }
+        ensures taken { IfOk result (λ n. TakesPrefix None None n into.old into.new) }
         ensures steady { OnOk result (failed_takes self.new ≡ failed_takes self.old) }
         ensures falls_never { failed_takes self.old ≤ failed_takes self.new }
         ensures failed { OnErr result (Rose (failed_takes self.old) (failed_takes self.new)) }

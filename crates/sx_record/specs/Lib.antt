@@ -1,3 +1,4 @@
+pub mod Tags
 pub mod Frame
 pub mod Decoding
 pub mod Stream

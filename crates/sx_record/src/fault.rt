@@ -11,7 +11,7 @@ use thiserror::Error;
 /// Why [`next_record`](crate::next_record) answers no record.
 #[derive(Clone, Copy, Debug, PartialEq, Eq, Error)]
 pub enum RecordFault {
-    /// Memory ran out. It may come in place of any other answer.
+    /// Memory ran out. It may be answered in place of any other answer.
     #[error("out of memory")]
     NoMemory,
     /// A take failed, and the source's count of faults has risen.

@@ -1,10 +1,12 @@
+//! The laws of records.
+
 ghost use Rattle.sx_record.specs.Laws.{DecodesOnlyRecords, DecodesEveryRecord, AreRecordsPrefixFree, EndsOnlyAtEnd};
 
-/// What is read is spelled so, what is spelled so is read with whatever follows it left behind, no
-/// record is the front of another, and nothing is read only of no bytes.
+/// Encoding a record inverts decoding it, decoding inverts encoding and leaves what comes after, no
+/// record is a prefix of another, and no record is found only where there are no bytes.
 pub fn record_laws()
-    ensures spelled { DecodesOnlyRecords }
-    ensures read { DecodesEveryRecord }
-    ensures one { AreRecordsPrefixFree }
-    ensures none { EndsOnlyAtEnd }
+    ensures encoding { DecodesOnlyRecords }
+    ensures decoding { DecodesEveryRecord }
+    ensures prefix { AreRecordsPrefixFree }
+    ensures end { EndsOnlyAtEnd }
 {}

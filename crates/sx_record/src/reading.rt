@@ -1,26 +1,23 @@
 //! A record is read in three steps, each tested before the next: its tag, its length, its payload.
 
-ghost use Rattle.std.specs.Prelude.{◌≡◌, ◌+◌, ◌-◌, ◌^◌, ◌<◌, ◌≤◌, ◌∷◌, [], length, Contains, IfOk, OnOk, IfSome, IsErrOf, vec_len};
+ghost use Rattle.std.specs.Prelude.{◌≡◌, ◌+◌, ◌-◌, ◌^◌, ◌<◌, ◌≤◌, ◌∷◌, [], length, Contains, IfOk, OnOk, IfSome, IsErrOf, IsTrue, vec_len};
 ghost use Rattle.byteorder.specs.Endian.{big_bytes, big_number};
 ghost use Rattle.sx_base.specs.Outside.{Rose};
-ghost use Rattle.sx_record.specs.Frame.{most_bytes, record_bytes, MayStand};
+ghost use Rattle.sx_record.specs.Frame.{most_bytes, frame_bytes, record_bytes, MayStand};
 ghost use Rattle.sx_record.specs.Decoding.{length_at, record_at};
 ghost use Rattle.sx_record.specs.Stream.{Took, Adds, EndsShort, DecodesStream, HasTag, UnlessFailed, IfForm};
 
 use crate::fault::RecordFault;
-use crate::frame::Record;
+use crate::frame::{FRAME_BYTES, MOST_BYTES, Record};
 use byteorder::{BigEndian, ByteOrder};
 use std::alloc::Global;
 use sx_base::{Source, TakeFault, take_exact};
 use sx_bytes::{Bytes, Form, FormFault};
 
-// How many bytes a payload may have.
-const MOST_BYTES: u32 = 67_108_864;
-
-// How many bytes of a payload memory is taken for before any has come.
+// The memory that is taken for a payload before any of it has come, in bytes.
 const FIRST_PIECE: usize = 65_536;
 
-/// Reads the next record. `at` is the offset of its tag, and `tags` are those that may stand here.
+/// Reads the next record. `at` is the offset of its tag, and `tags` are those that are allowed here.
 ///
 /// `None` comes exactly where the input ends before the record begins. `RecordFault::Form` is the
 /// first fault: Short at the first byte that is missing inside the record, Tag at a tag that is not
@@ -38,17 +35,19 @@ pub fn next_record<S: Source>(
     // What is answered, and what is left of a source that tells its bytes.
     ensures exact { DecodesStream (record_at tags.now at) (S.left source.old) (S.left source.new) result }
 
-    // A record's bytes are what was taken from such a source.
-    ensures spelled { IfOk result (λ found. IfSome found (λ r.
+    // What was taken from such a source is the encoding of the record.
+    ensures encoded { IfOk result (λ found. IfSome found (λ r.
         Took (S.left source.old) (S.left source.new) (record_bytes r.tag r.payload))) }
 
     // What is known of a record from any source.
     ensures known { IfOk result (λ found. IfSome found (MayStand tags.now at)) }
 
-    // The count of faults rises only where the answer is Failed, and there it does.
-    ensures steady { UnlessFailed result (S.faults source.new ≡ S.faults source.old) }
+    // The count of faults rises where the answer is Failed. At each other answer, NoMemory among
+    // them, the count of a strict source does not change.
+    ensures steady { UnlessFailed result (IsTrue (S.strict source.old) → S.faults source.new ≡ S.faults source.old) }
     ensures failed { IsErrOf result RecordFault.Failed → Rose (S.faults source.old) (S.faults source.new) }
     ensures falls_never { S.faults source.old ≤ S.faults source.new }
+    ensures kept { S.strict source.new ≡ S.strict source.old }
 {
     let Some(tag) = next_tag(source)? else {
         return Ok(None);
@@ -57,10 +56,10 @@ pub fn next_record<S: Source>(
         return Err(fault_at(at, Form::Tag));
     }
     let size = next_length(source, at + 1)?;
-    let payload = next_payload(alloc, source, at + 5, size)?;
+    let payload = next_payload(alloc, source, at + FRAME_BYTES, size)?;
     Ok(Some(Record {
         tag,
-        at: at + 5,
+        at: at + FRAME_BYTES,
         payload: Bytes::of(payload),
     }))
 }
@@ -77,9 +76,10 @@ fn fill<S: Source>(source: &mut S, at: u64, into: &mut [u8]) -> Result<(), Recor
     ensures ok { OnOk result (Took (S.left source.old) (S.left source.new) into.new) }
     ensures form { IfForm result (λ fault.
         EndsShort (S.left source.old) (S.left source.new) (length into.old) at fault) }
-    ensures steady { UnlessFailed result (S.faults source.new ≡ S.faults source.old) }
+    ensures steady { UnlessFailed result (IsTrue (S.strict source.old) → S.faults source.new ≡ S.faults source.old) }
     ensures failed { IsErrOf result RecordFault.Failed → Rose (S.faults source.old) (S.faults source.new) }
     ensures falls_never { S.faults source.old ≤ S.faults source.new }
+    ensures kept { S.strict source.new ≡ S.strict source.old }
 {
     match take_exact(source, into) {
         Ok(()) => Ok(()),
@@ -92,9 +92,10 @@ fn fill<S: Source>(source: &mut S, at: u64, into: &mut [u8]) -> Result<(), Recor
 fn next_tag<S: Source>(source: &mut S) -> Result<Option<u8>, RecordFault>
     ensures ok { IfOk result (HasTag (S.left source.old) (S.left source.new)) }
     ensures form { IfForm result (λ _. ⊥) }
-    ensures steady { UnlessFailed result (S.faults source.new ≡ S.faults source.old) }
+    ensures steady { UnlessFailed result (IsTrue (S.strict source.old) → S.faults source.new ≡ S.faults source.old) }
     ensures failed { IsErrOf result RecordFault.Failed → Rose (S.faults source.old) (S.faults source.new) }
     ensures falls_never { S.faults source.old ≤ S.faults source.new }
+    ensures kept { S.strict source.new ≡ S.strict source.old }
 {
     let mut tag = [0; 1];
     match source.take(&mut tag)? {
@@ -103,15 +104,16 @@ fn next_tag<S: Source>(source: &mut S) -> Result<Option<u8>, RecordFault>
     }
 }
 
-// The length of a payload, which stands at this offset.
+// The length of a payload, whose field is at this offset.
 fn next_length<S: Source>(source: &mut S, at: u64) -> Result<u32, RecordFault>
     requires { at ≤ 2 ^ 63 + 1 }
     ensures exact { DecodesStream (length_at at) (S.left source.old) (S.left source.new) result }
-    ensures spelled { IfOk result (λ n. Took (S.left source.old) (S.left source.new) (big_bytes 4 n)) }
+    ensures encoded { IfOk result (λ n. Took (S.left source.old) (S.left source.new) (big_bytes 4 n)) }
     ensures fits { IfOk result (λ n. n ≤ most_bytes) }
-    ensures steady { UnlessFailed result (S.faults source.new ≡ S.faults source.old) }
+    ensures steady { UnlessFailed result (IsTrue (S.strict source.old) → S.faults source.new ≡ S.faults source.old) }
     ensures failed { IsErrOf result RecordFault.Failed → Rose (S.faults source.old) (S.faults source.new) }
     ensures falls_never { S.faults source.old ≤ S.faults source.new }
+    ensures kept { S.strict source.new ≡ S.strict source.old }
 {
     let mut field = [0; 4];
     fill(source, at, &mut field)?;
@@ -122,11 +124,11 @@ fn next_length<S: Source>(source: &mut S, at: u64) -> Result<u32, RecordFault>
     Ok(length)
 }
 
-// The number that a field of four bytes spells.
+// The length that a field of four bytes holds.
 fn length_in(field: &[u8]) -> u32
     requires { length field.now ≡ 4 }
-    ensures number { result ≡ big_number 4 field.now }
-    ensures spelled { field.now ≡ big_bytes 4 result }
+    ensures decoded { result ≡ big_number 4 field.now }
+    ensures encoded { field.now ≡ big_bytes 4 result }
 {
     BigEndian::read_u32(field)
 }
@@ -143,9 +145,10 @@ fn next_payload<S: Source>(
     ensures whole { IfOk result (λ payload. length payload.items ≡ size) }
     ensures form { IfForm result (λ fault.
         EndsShort (S.left source.old) (S.left source.new) size at fault) }
-    ensures steady { UnlessFailed result (S.faults source.new ≡ S.faults source.old) }
+    ensures steady { UnlessFailed result (IsTrue (S.strict source.old) → S.faults source.new ≡ S.faults source.old) }
     ensures failed { IsErrOf result RecordFault.Failed → Rose (S.faults source.old) (S.faults source.new) }
     ensures falls_never { S.faults source.old ≤ S.faults source.new }
+    ensures kept { S.strict source.new ≡ S.strict source.old }
 {
     let mut payload = Vec::new(alloc);
     while payload.len() < size as usize {
@@ -154,8 +157,8 @@ fn next_payload<S: Source>(
     Ok(payload)
 }
 
-// Puts the next bytes behind those of the payload that have come: as many again, if so many are
-// missing.
+// Appends the next bytes of the payload to those that have come: as many as have come, or all that
+// are missing if these are fewer.
 fn take_piece<S: Source>(
     source: &mut S,
     at: u64,
@@ -169,9 +172,10 @@ fn take_piece<S: Source>(
     ensures within { OnOk result (vec_len payload.new ≤ size) }
     ensures form { IfForm result (λ fault. EndsShort (S.left source.old) (S.left source.new)
         (size - vec_len payload.old) (at + vec_len payload.old) fault) }
-    ensures steady { UnlessFailed result (S.faults source.new ≡ S.faults source.old) }
+    ensures steady { UnlessFailed result (IsTrue (S.strict source.old) → S.faults source.new ≡ S.faults source.old) }
     ensures failed { IsErrOf result RecordFault.Failed → Rose (S.faults source.old) (S.faults source.new) }
     ensures falls_never { S.faults source.old ≤ S.faults source.new }
+    ensures kept { S.strict source.new ≡ S.strict source.old }
 {
     let come = payload.len();
     let piece = come.max(FIRST_PIECE).min(size - come);

@@ -1,115 +1,64 @@
-ghost use Rattle.std.specs.Prelude.{◌≤◌};
+//! Worked records, byte by byte.
 
 use super::*;
-use std::alloc::{AllocError, Global};
-use std::test::Fail;
+use std::alloc::Global;
 use sx_base::MemSource;
-use sx_bytes::{Form, FormFault, Writer};
+use sx_bytes::{Form, FormFault, NoMemory, Writer};
 
-// A record of tag 1 with two bytes.
-const RECORD: [u8; 7] = [0x01, 0x00, 0x00, 0x00, 0x02, 0xaa, 0xbb];
+// A state record with two bytes.
+fn worked() -> [u8; 7] {
+    [0x01, 0x00, 0x00, 0x00, 0x02, 0xaa, 0xbb]
+}
 
-// A source of these bytes, at most `piece` a call, that fails at one call or at none.
-fn source_of(
-    alloc: Global,
-    bytes: &[u8],
-    piece: usize,
-    call: Option<u32>,
-) -> Result<MemSource, AllocError>
-    requires { 1 ≤ piece }
-{
-    let mut calls = Vec::new(alloc);
-    if let Some(call) = call {
-        calls.push(call)?;
-    }
-    Ok(MemSource::new(bytes.to_vec(alloc)?, piece, calls))
+// The first record of these bytes, whose first is at offset 100. The source gives two bytes a call
+// and fails at this call.
+fn first(alloc: Global, bytes: &[u8], failing: u32) -> Result<Option<Record>, RecordFault> {
+    let mut source = MemSource::new(bytes.to_vec(alloc)?, 2, [failing].to_vec(alloc)?);
+    next_record(alloc, &mut source, 100, &[tag::STATE])
 }
 
 #[test]
-fn a_record_comes_in_any_pieces(rt: HostRuntime) -> Result<(), Fail> {
-    let alloc = rt.alloc();
-    for piece in [1usize, 2, 7] {
-        assert!(rt; piece >= 1);
-        let mut source = source_of(alloc, &RECORD, piece, None)?;
-        let record = next_record(alloc, &mut source, 40, &[3, 1])?.ok_or("no record")?;
-        assert_eq!(rt; record.tag, 1);
-        assert_eq!(rt; record.at, 45);
-        assert_eq!(rt; record.payload.items(), [0xaa, 0xbb].as_slice());
-        let end = next_record(alloc, &mut source, 47, &[3, 1])?;
-        assert!(rt; end.is_none());
-    }
-    Ok(())
-}
-
-#[test]
-fn faults_come_in_order(rt: HostRuntime) -> Result<(), Fail> {
-    let alloc = rt.alloc();
-    // The bytes, of which the first is at 100; the fault; the bytes that are left.
-    let table = [
-        ([0x01].as_slice(), Form::Short, 101, 0),
-        (&[0x01, 0x00, 0x00, 0x00], Form::Short, 104, 0),
-        (&[0x01, 0x00, 0x00, 0x00, 0x02, 0xaa], Form::Short, 106, 0),
-        (&[0x09, 0x00, 0x00, 0x00, 0x00], Form::Tag, 100, 4),
-        (&[0x01, 0x04, 0x00, 0x00, 0x01, 0xaa], Form::TooLong, 101, 1),
-        (&[0x09, 0x04, 0x00, 0x00, 0x01], Form::Tag, 100, 4),
-        // The greatest length is allowed, and no memory is taken for it.
-        (&[0x03, 0x04, 0x00, 0x00, 0x00, 0xaa], Form::Short, 106, 0),
-    ];
-    for (bytes, fault, at, left) in table {
-        let mut source = source_of(alloc, bytes, 3, None)?;
-        let answer = next_record(alloc, &mut source, 100, &[1, 3]);
-        assert_eq!(rt;
-            answer.err(),
-            Some(RecordFault::Form(FormFault { at, fault }))
-        );
-        assert_eq!(rt; source.left().len(), left);
-    }
-    Ok(())
-}
-
-#[test]
-fn a_failing_source_is_told(rt: HostRuntime) -> Result<(), Fail> {
-    let alloc = rt.alloc();
-    // One call for the tag, two for the length and one for the payload.
-    for call in 0..4 {
-        let mut source = source_of(alloc, &RECORD, 2, Some(call))?;
-        let answer = next_record(alloc, &mut source, 0, &[1]);
-        assert_eq!(rt; answer.err(), Some(RecordFault::Failed));
-        assert_eq!(rt; source.faults(), 1);
-    }
-    let mut source = source_of(alloc, &RECORD, 2, Some(4))?;
-    let record = next_record(alloc, &mut source, 0, &[1])?;
-    assert!(rt; record.is_some());
-    let end = next_record(alloc, &mut source, 7, &[1]);
-    assert_eq!(rt; end.err(), Some(RecordFault::Failed));
-    Ok(())
-}
-
-// Bytes that are longer than the first piece for which memory is taken.
-fn long_payload(alloc: Global) -> Result<Vec<u8>, AllocError> {
-    let mut bytes = Vec::new(alloc);
-    for i in 0..200_000u32 {
-        bytes.push((i % 251) as u8)?;
-    }
-    Ok(bytes)
-}
-
-#[test]
-fn what_is_written_is_read(rt: HostRuntime) -> Result<(), Fail> {
-    let alloc = rt.alloc();
-    let payload = long_payload(alloc)?;
-    assert_eq!(rt; payload.len(), 200_000);
-    let mut writer = Writer::new(alloc);
-    write_record(&mut writer, 1, &[0xaa, 0xbb])?;
-    assert_eq!(rt; writer.bytes(), RECORD.as_slice());
-    write_record(&mut writer, 5, &payload)?;
-
-    let mut source = source_of(alloc, writer.bytes(), 4096, None)?;
-    let first = next_record(alloc, &mut source, 0, &[1])?.ok_or("no record")?;
-    assert_eq!(rt; first.payload.items(), [0xaa, 0xbb].as_slice());
-    let second = next_record(alloc, &mut source, 7, &[5])?.ok_or("no record")?;
-    assert_eq!(rt; second.at, 12);
-    assert_eq!(rt; second.payload.items(), payload.as_slice());
+fn a_record_is_written_and_read(rt: HostRuntime) -> Result<(), NoMemory> {
+    let mut writer = Writer::new(rt.alloc());
+    write_record(&mut writer, tag::STATE, &[0xaa, 0xbb])?;
+    assert!(rt; writer.bytes() == worked().as_slice());
+    let payload = match first(rt.alloc(), &worked(), 9) {
+        Ok(Some(record)) => record.payload,
+        _ => return Err(NoMemory),
+    };
+    assert!(rt; payload.items() == [0xaa, 0xbb].as_slice());
     record_laws();
     Ok(())
+}
+
+#[test]
+fn the_first_fault_is_answered(rt: HostRuntime) {
+    let short = FormFault {
+        at: 106,
+        fault: Form::Short,
+    };
+    let tag = FormFault {
+        at: 100,
+        fault: Form::Tag,
+    };
+    let long = FormFault {
+        at: 101,
+        fault: Form::TooLong,
+    };
+    // The bytes, the call that fails, and the fault.
+    for (bytes, failing, fault) in [
+        (
+            [0x01, 0x00, 0x00, 0x00, 0x02, 0xaa].as_slice(),
+            9,
+            RecordFault::Form(short),
+        ),
+        (&[0x02, 0x04, 0x00, 0x00, 0x01], 9, RecordFault::Form(tag)),
+        (&[0x01, 0x04, 0x00, 0x00, 0x01], 9, RecordFault::Form(long)),
+        (&worked(), 3, RecordFault::Failed),
+    ] {
+        assert!(rt;
+            first(rt.alloc(), bytes, failing).err() == Some(fault),
+            "{fault}"
+        );
+    }
 }

@@ -1,32 +1,40 @@
-ghost use Rattle.std.specs.Prelude.{◌≡◌, ◌≤◌, ◌++◌, length, take, OnOk, OnErr};
-ghost use Rattle.sx_record.specs.Frame.{most_bytes, record_bytes};
+//! A record is written as its frame and its payload.
 
+ghost use Rattle.std.specs.Prelude.{◌≡◌, ◌+◌, ◌≤◌, ◌++◌, length, OnOk, OnErr};
+ghost use Rattle.sx_record.specs.Frame.{most_bytes, frame_bytes, frame, record_bytes};
+
+use byteorder::{BigEndian, ByteOrder};
 use sx_bytes::{NoMemory, Writer};
 
-/// Appends a record: the tag, the length of the payload, and the payload.
+/// Appends the frame of a record: its tag, and the length of its payload in bytes. A caller that
+/// knows the length can append the payload after it, and need not hold the payload first.
 ///
-/// `NoMemory` leaves the writer as it was.
+/// `NoMemory` does not change the writer.
+pub fn write_frame(to: &mut Writer, tag: u8, size: u32) -> Result<(), NoMemory>
+    requires { size ≤ most_bytes }
+    ensures ok { OnOk result (to.new ≡ to.old ++ frame tag size) }
+    ensures size { OnOk result (length to.new ≡ length to.old + frame_bytes) }
+    ensures err { OnErr result (to.new ≡ to.old) }
+{
+    let mut field = [tag, 0, 0, 0, 0];
+    BigEndian::write_u32(&mut field[1..], size);
+    to.raw(&field)
+}
+
+/// Appends a record: its frame and its payload.
+///
+/// `NoMemory` does not change the writer.
+#[tactic(auto, using(sx_bytes::proofs::Written::begins))]
 pub fn write_record(to: &mut Writer, tag: u8, payload: &[u8]) -> Result<(), NoMemory>
     requires { length payload.now ≤ most_bytes }
     ensures ok { OnOk result (to.new ≡ to.old ++ record_bytes tag payload.now) }
     ensures err { OnErr result (to.new ≡ to.old) }
 {
     let before = to.bytes().len();
-    let written = put_record(to, tag, payload);
+    write_frame(to, tag, payload.len() as u32)?;
+    let written = to.raw(payload);
     if written.is_err() {
         to.cut(before);
     }
     written
-}
-
-// A front of the record may be left behind where memory runs out.
-fn put_record(to: &mut Writer, tag: u8, payload: &[u8]) -> Result<(), NoMemory>
-    requires { length payload.now ≤ most_bytes }
-    ensures ok { OnOk result (to.new ≡ to.old ++ record_bytes tag payload.now) }
-    ensures err { OnErr result (take (length to.old) to.new ≡ to.old) }
-    ensures kept { length to.old ≤ length to.new }
-{
-    to.put_u8(tag)?;
-    to.put_u32(payload.len() as u32)?;
-    to.raw(payload)
 }

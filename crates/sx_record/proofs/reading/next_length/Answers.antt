@@ -10,8 +10,10 @@ returns-in_err-fill-clause-exact g c =
 pub returns-then-length-gt-MOST_BYTES-clause-exact :
     goal.returns-then-length-gt-MOST_BYTES-clause-exact
 returns-then-length-gt-MOST_BYTES-clause-exact g c =
-    rw c.fault_at.ensures (length_long _ _ c.args.at c.length_in-length.result c.fill.new.into c.in_ok-fill.ensures.ok c.fill.auto.into c.length_in-length.ensures.number c.if-length-gt-MOST_BYTES.true)
+    rw c.fault_at.ensures (length_long _ _ c.args.at c.length_in-length.result c.fill.new.into c.in_ok-fill.ensures.ok
+    c.fill.auto.into c.length_in-length.ensures.decoded c.if-length-gt-MOST_BYTES.true)
 
 pub returns-clause-exact : goal.returns-clause-exact
 returns-clause-exact g c =
-    length_read _ _ c.args.at c.length_in-length.result c.fill.new.into c.in_ok-fill.ensures.ok c.fill.auto.into c.length_in-length.ensures.number c.if-length-gt-MOST_BYTES.false
+    length_read _ _ c.args.at c.length_in-length.result c.fill.new.into c.in_ok-fill.ensures.ok c.fill.auto.into
+    c.length_in-length.ensures.decoded c.if-length-gt-MOST_BYTES.false
