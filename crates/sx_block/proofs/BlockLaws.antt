@@ -21,8 +21,8 @@ use Rattle.sx_bytes.specs.Grammar.{◌>>=◌, Gives, between, field_at, ordered_
 use Rattle.sx_bytes.specs.Laws.{IsInjective, IsPrefixFree}
 use Rattle.sx_bytes.proofs.Grammar.{bind_ok, guard_ok, length-rest, Takes, Takes-then, Again}
 use Rattle.sx_bytes.proofs.Ordered.{ordered_takes, ordered_again}
-use Rattle.sx_bytes.proofs.Parts.{TakesAll, ReadsAgain, two_take, two_again, one_spelling, no_prefix}
-use Rattle.sx_bytes.proofs.DecodingSteps.{bytes_behind, range_takes, range_again, again_then}
+use Rattle.sx_bytes.proofs.Parts.{TakesAll, ReadsAgain, two_take, two_again, is_injective, is_prefix_free}
+use Rattle.sx_bytes.proofs.DecodingSteps.{bytes_after, range_takes, range_again, again_then}
 use Rattle.sx_ledger.specs.Body.{tx_before}
 use Rattle.sx_tx.specs.declared.tx.Tx.{Tx}
 use Rattle.sx_tx.specs.Transactions.{tx_bytes, list_bytes, IsTx}
@@ -44,7 +44,7 @@ unfolding body_at
 body_takes c next x bytes e =
     let n = bind_ok (field_at 4 (between 0 1000000) form.TooMany c) at_count (x, next) e in
     let t0 = range_takes 4 0 1000000 form.TooMany c n.0.1 n.0.0 bytes n.1 in
-    let bytes1 = bytes_behind c n.0.1 (big_bytes 4 n.0.0) t0.0 bytes in
+    let bytes1 = bytes_after c n.0.1 (big_bytes 4 n.0.0) t0.0 bytes in
     let t1 = ordered_takes tx_at tx_bytes IsTx tx_before form.Order tx_takes n.0.0 None n.0.1 next x bytes1 n.2 in
     let count : Takes c (big_bytes 4 (length x)) n.0.1 = subst (λ (m : ℕ). Takes c (big_bytes 4 m) n.0.1) (sym t1.1) t0.0 in
     let few : length x ≤ 1000000 = subst (λ (m : ℕ). m ≤ 1000000) (sym t1.1) t0.2 in
@@ -76,10 +76,10 @@ fields_again c x after is within e =
     two_again header_at body_at made header_bytes list_bytes IsHeader IsBody header_again body_again c x.header x.txs after is.header body within e
 
 pub blocks_of_one_encoding : IsInjective block_bytes IsBlock
-blocks_of_one_encoding = one_spelling fields_at block_bytes IsBlock fields_again
+blocks_of_one_encoding = is_injective fields_at block_bytes IsBlock fields_again
 
 pub blocks_no_prefix : IsPrefixFree block_bytes IsBlock
-blocks_no_prefix = no_prefix fields_at block_bytes IsBlock fields_again
+blocks_no_prefix = is_prefix_free fields_at block_bytes IsBlock fields_again
 
 -- ---- a whole payload
 

@@ -22,10 +22,10 @@ use Rattle.sx_tx.specs.declared.kind.Kind.TheVariants as kind
 use Rattle.sx_tx.specs.declared.tx.Tx.{Tx}
 use Rattle.sx_tx.specs.Window.{behind_highest}
 
-abbrev account : ℕ → ℕ → List ℕ → Account
+abbrev pub account : ℕ → ℕ → List ℕ → Account
 account id last balances = record { id = record { 0 = id }; window = record { last = last; used = 0 }; balances = balances }
 
-abbrev offer : ℕ → ℕ → ℕ → ℕ → ℕ → ℕ → Offer
+abbrev pub offer : ℕ → ℕ → ℕ → ℕ → ℕ → ℕ → Offer
 offer sell buy limit id seq amount = record { sell = sell; buy = buy; limit = limit; account = record { 0 = id }; seq = seq; amount = amount }
 
 abbrev sells : ℕ → ℕ → ℕ → ℕ → ℕ → ℕ → Tx
@@ -35,7 +35,7 @@ abbrev trade : ℕ → ℕ → ℕ → Trade
 trade sell buy value = record { sell = sell; buy = buy; value = value }
 
 -- what two pairs of two assets trade
-abbrev two_pairs : ℕ → ℕ → FlowTable
+abbrev pub two_pairs : ℕ → ℕ → FlowTable
 two_pairs first second = record { assets = 2; values = 0 ∷ first ∷ second ∷ 0 ∷ [] }
 
 abbrev block : List ℕ → FlowTable → Option Cut → List ℕ → List ℕ → List Tx → Block

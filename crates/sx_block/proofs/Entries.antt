@@ -114,7 +114,7 @@ trades_again_from n s (suc k) (t ∷ ts) rise =
 
 -- ---- order by asset is order by place
 
-place_below : (n : ℕ) (t : Trade) → IsTrade n t → place_of n t < n * n
+pub place_below : (n : ℕ) (t : Trade) → IsTrade n t → place_of n t < n * n
 place_below n t is =
     let row : suc t.sell * n ≤ n * n = mul-le-mul_right n (let lt : suc t.sell ≤ n = omega (arith, is.sell) in lt) in
     omega (arith, is.buy)

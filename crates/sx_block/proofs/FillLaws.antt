@@ -20,7 +20,7 @@ use Rattle.sx_ledger.specs.declared.offer.Offer.{Offer}
 use Rattle.sx_ledger.specs.declared.parts.Parts.{Parts}
 use Rattle.sx_ledger.specs.Bounds.{high_of, pair_of, price_of}
 use Rattle.sx_ledger.specs.Fills.{given, gives, gets, got, value_of}
-use Rattle.sx_ledger.specs.Ledger.{IsLedger, IsOffer, IsPrice, assets_of}
+use Rattle.sx_ledger.specs.Ledger.{IsLedger, IsOffer, assets_of}
 use Rattle.sx_price.specs.Rounding.{rounded_up, rounded_down}
 
 -- ---- one offer

@@ -1,5 +1,5 @@
 -- The header of a block: what is read is encoded so, and what is encoded so is read.
-use Rattle.std.proofs.Common.{◌≡◌, ℕ, zero, suc, ◌+◌, ◌-◌, ◌^◌, ◌<◌, ◌≤◌, true, false, ltb, List, ◌++◌, length, take, Option, Result, Ok, refl, sym, ap, subst, ◌∙◌, append_assoc, arith}
+use Rattle.std.proofs.Common.{◌≡◌, ℕ, zero, suc, ◌+◌, ◌-◌, ◌^◌, ◌<◌, ◌≤◌, true, false, ltb, List, ◌++◌, length, take, drop, Option, Result, Ok, refl, sym, ap, subst, ◌∙◌, append_assoc, arith}
 use Rattle.std.specs.Prelude.{All}
 use Rattle.std.specs.List.{flat_map}
 use Rattle.std.proofs.lemmas.Bool.{ltb-false, le-ltb}
@@ -19,12 +19,12 @@ use Rattle.sx_bytes.specs.Cursor.{Cursor, rest, left, moved, raw_at}
 use Rattle.sx_bytes.specs.Grammar.{◌>>=◌, or_fault, between, field_at, many_at}
 use Rattle.sx_bytes.proofs.Grammar.{bind_ok, guard_short, or_fault_ok, AreBytes-take, AreBytes-drop, moved_takes, length-rest, Takes, Takes-then, Again, field_takes, field_again, many_takes, many_again}
 use Rattle.sx_bytes.proofs.Parts.{Reading, TakesAll, ReadsAgain, two_at, two_take, two_again, three_at, three_take, three_again}
-use Rattle.sx_bytes.proofs.DecodingSteps.{bytes_behind, range_takes, range_again, again_then}
+use Rattle.sx_bytes.proofs.DecodingSteps.{bytes_after, range_takes, range_again, again_then}
 use Rattle.sx_dual.specs.declared.cut.Cut.{Cut}
 use Rattle.sx_dual.specs.Tables.{FlowTable}
-use Rattle.sx_ledger.specs.Ledger.{IsPrice}
-use Rattle.sx_ledger.specs.Decoding.{price_at, units_at}
-use Rattle.sx_ledger.proofs.Chained.{chained_takes, chained_again}
+use Rattle.sx_price.specs.Limits.{IsPrice}
+use Rattle.sx_ledger.specs.Decoding.{price_at, units_field_at}
+use Rattle.sx_ledger.proofs.DependentParts.{chained_takes, chained_again}
 
 -- ---- 32 bytes as they are
 
@@ -91,10 +91,10 @@ potential_again c x after is within e = field_again 4 (λ _. true) form.Short c 
 abbrev IsRounded : ℕ → Type 0
 IsRounded units = units ≤ 2 ^ 62
 
-units_takes : TakesAll units_at (big_bytes 8) IsRounded
+units_takes : TakesAll units_field_at (big_bytes 8) IsRounded
 units_takes c next x bytes e = let t = range_takes 8 0 (2 ^ 62) form.AmountRange c next x bytes e in (t.0, t.2)
 
-units_again : ReadsAgain units_at (big_bytes 8) IsRounded
+units_again : ReadsAgain units_field_at (big_bytes 8) IsRounded
 units_again c x after is within e = range_again 8 0 (2 ^ 62) form.AmountRange c x after (omega arith) (omega arith) is within e
 
 -- ---- what stands before the number of assets
@@ -125,7 +125,7 @@ front_text front = big_bytes 1 front.0 ++ (big_bytes 8 front.1 ++ digests_text f
 
 record IsFront (front : Front) : Type 0 where
   version : front.0 ≡ 1
-  height : front.1 < 2 ^ 63
+  height : front.1 ≤ 2 ^ 63 - 1
   parent : IsDigest front.2
   body : IsDigest front.3
   mu : IsMu front.4
@@ -145,13 +145,13 @@ front_takes c next x bytes e =
     let v = bind_ok (version_at c) (λ version. from_height version.0 version.1) (x, next) e in
     let h = bind_ok (height_at v.0.1) (λ height. from_digests v.0.0 height.0 height.1) (x, next) v.2 in
     let t0 = range_takes 1 1 1 form.Version c v.0.1 v.0.0 bytes v.1 in
-    let bytes1 = bytes_behind c v.0.1 (big_bytes 1 v.0.0) t0.0 bytes in
+    let bytes1 = bytes_after c v.0.1 (big_bytes 1 v.0.0) t0.0 bytes in
     let t1 = range_takes 8 0 (2 ^ 63 - 1) form.HeightRange v.0.1 h.0.1 h.0.0 bytes1 h.1 in
-    let bytes2 = bytes_behind v.0.1 h.0.1 (big_bytes 8 h.0.0) t1.0 bytes1 in
+    let bytes2 = bytes_after v.0.1 h.0.1 (big_bytes 8 h.0.0) t1.0 bytes1 in
     let t2 = three_take digest_at digest_at mu_at (joined v.0.0 h.0.0) same_bytes same_bytes (big_bytes 1) IsDigest IsDigest IsMu digest_takes digest_takes mu_takes h.0.1 next x bytes2 h.2 in
     let text = digests_text t2.0 t2.1 t2.2 in
     let all = Takes-then c v.0.1 next (big_bytes 1 v.0.0) (big_bytes 8 h.0.0 ++ text) t0.0 (Takes-then v.0.1 h.0.1 next (big_bytes 8 h.0.0) text t1.0 t2.4) in
-    let is : IsFront (joined v.0.0 h.0.0 t2.0 t2.1 t2.2) = record { version = omega (arith, t0.1, t0.2); height = omega (arith, t1.2); parent = t2.5; body = t2.6; mu = t2.7 } in
+    let is : IsFront (joined v.0.0 h.0.0 t2.0 t2.1 t2.2) = record { version = omega (arith, t0.1, t0.2); height = t1.2; parent = t2.5; body = t2.6; mu = t2.7 } in
     subst (λ (y : Front). Takes c (front_text y) next × IsFront y) t2.3 (all, is)
 
 front_again : ReadsAgain front_at front_text IsFront
@@ -199,15 +199,15 @@ module _ (n : ℕ) (some : 1 ≤ n) (few : n ≤ 32) where
   outcome_takes : TakesAll (outcome_at n) outcome_text IsOutcome
   unfolding outcome_at
   outcome_takes c next x bytes e =
-      let t = three_take (many_at potential_at n) (many_at units_at n) digest_at (λ p r d. (p, r, d)) (flat_map (big_bytes 4)) (flat_map (big_bytes 8)) same_bytes (AreNumbers IsPotential n) (AreNumbers IsRounded n) IsDigest
-      (numbers_take 4 potential_at IsPotential n potential_takes) (numbers_take 8 units_at IsRounded n units_takes) digest_takes c next x bytes e in
+      let t = three_take (many_at potential_at n) (many_at units_field_at n) digest_at (λ p r d. (p, r, d)) (flat_map (big_bytes 4)) (flat_map (big_bytes 8)) same_bytes (AreNumbers IsPotential n) (AreNumbers IsRounded n) IsDigest
+      (numbers_take 4 potential_at IsPotential n potential_takes) (numbers_take 8 units_field_at IsRounded n units_takes) digest_takes c next x bytes e in
       subst (λ (y : Outcome). Takes c (outcome_text y) next × IsOutcome y) t.3 (t.4, record { potentials = t.5; rounding = t.6; after = t.7 })
 
   outcome_again : ReadsAgain (outcome_at n) outcome_text IsOutcome
   unfolding outcome_at
   outcome_again c x after is within e =
-      three_again (many_at potential_at n) (many_at units_at n) digest_at (λ p r d. (p, r, d)) (flat_map (big_bytes 4)) (flat_map (big_bytes 8)) same_bytes (AreNumbers IsPotential n) (AreNumbers IsRounded n) IsDigest
-      (numbers_again 4 potential_at IsPotential n potential_again) (numbers_again 8 units_at IsRounded n units_again) digest_again c x.0 x.1 x.2 after is.potentials is.rounding is.after within e
+      three_again (many_at potential_at n) (many_at units_field_at n) digest_at (λ p r d. (p, r, d)) (flat_map (big_bytes 4)) (flat_map (big_bytes 8)) same_bytes (AreNumbers IsPotential n) (AreNumbers IsRounded n) IsDigest
+      (numbers_again 4 potential_at IsPotential n potential_again) (numbers_again 8 units_field_at IsRounded n units_again) digest_again c x.0 x.1 x.2 after is.potentials is.rounding is.after within e
 
 -- ---- the header
 

@@ -39,7 +39,7 @@ length-cut : (dropped : Option Cut) → length (cut_bytes dropped) ≡ 1 + cut_l
 length-cut None = refl
 length-cut (Some cut) = refl
 
-cut_most : (dropped : Option Cut) → cut_length dropped ≤ 4
+pub cut_most : (dropped : Option Cut) → cut_length dropped ≤ 4
 cut_most None = omega arith
 cut_most (Some cut) = omega arith
 

@@ -12,4 +12,6 @@ pub mod FillLaws
 pub mod LimitLaws
 pub mod TradeTotals
 pub mod TradeKeeps
+pub mod ValidBlocks
 pub mod Cases
+pub mod ValidCase

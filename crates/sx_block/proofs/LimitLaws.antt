@@ -17,7 +17,7 @@ use Rattle.sx_block.proofs.ListSums.{filter-le}
 use Rattle.sx_block.proofs.PairFills.{in_pair}
 use Rattle.sx_ledger.specs.declared.offer.Offer.{Offer}
 use Rattle.sx_ledger.specs.declared.parts.Parts.{Parts}
-use Rattle.sx_ledger.specs.Bounds.{amounts, high_of, low_of, may_trade as may_trade_at, must_trade as must_trade_at, pair_of, price_of}
+use Rattle.sx_ledger.specs.Bounds.{amounts, high_of, low_of, may_trade_at, must_trade_at, pair_of, price_of}
 use Rattle.sx_ledger.specs.Fills.{ahead_of, gives, value_of}
 use Rattle.sx_ledger.specs.Ledger.{IsLedger, IsOffer}
 use Rattle.sx_ledger.specs.Order.{key_of, offer_before}

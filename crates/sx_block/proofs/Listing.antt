@@ -1,14 +1,15 @@
 -- The trades of a flow, listed entry after entry.
-use Rattle.std.proofs.Common.{◌≡◌, ◌≢◌, ℕ, zero, suc, ◌+◌, ◌-◌, ◌*◌, ◌/◌, ◌%◌, ◌^◌, ◌<◌, ◌≤◌, true, false, eqb, List, [], ◌∷◌, ◌++◌, length, take, drop, get_or, set, refl, sym, ap, ap₂, ◌∙◌, append_assoc, inl, inr, arith}
-use Rattle.std.specs.Prelude.{replicate}
+use Rattle.std.proofs.Common.{◌≡◌, ◌≢◌, ℕ, zero, suc, ◌+◌, ◌-◌, ◌*◌, ◌/◌, ◌%◌, ◌^◌, ◌<◌, ◌≤◌, true, false, eqb, List, [], ◌∷◌, ◌++◌, length, take, drop, get_or, set, refl, sym, ap, ap₂, subst, ◌∙◌, append_assoc, inl, inr, arith}
+use Rattle.std.specs.Prelude.{All, replicate}
 use Rattle.std.specs.List.{flat_map}
 use Rattle.std.proofs.lemmas.Bool.{cases_Bool, cases_order, eq-eqb, ne_eqb}
-use Rattle.std.proofs.lemmas.List.{append-nil, length-take, length-set, take_more, ext_get_or, get_or-set_same, get_or-set_other}
+use Rattle.std.proofs.lemmas.List.{append-nil, length-append, length-take, length-set, take_more, ext_get_or, get_or-set_same, get_or-set_other}
+use Rattle.std.proofs.Math.Seq.{drop-cons, drop-length}
 use Rattle.std.proofs.lemmas.Grind.{flat_map-append}
 use Rattle.sx_block.specs.declared.trade.Trade.{Trade}
 use Rattle.sx_block.specs.Encoding.{trade_bytes}
-use Rattle.sx_block.specs.Trades.{place_of, trades_from, value_at, entries_from}
-use Rattle.sx_block.proofs.Entries.{entries_length, entry_is}
+use Rattle.sx_block.specs.Trades.{IsTrade, place_of, trades_from, value_at, entries_from}
+use Rattle.sx_block.proofs.Entries.{entries_length, entry_is, place_below}
 
 trades-append : (n s : ℕ) (xs ys : List ℕ) → trades_from n s (xs ++ ys) ≡ trades_from n s xs ++ trades_from n (s + length xs) ys
 trades-append n s [] ys = ap (λ (p : ℕ). trades_from n p ys) (let e : s ≡ s + 0 = omega arith in e)
@@ -76,3 +77,29 @@ set_before n k t ts lt =
 -- where there is no trade, all entries are 0
 pub entries_none : (n k : ℕ) → entries_from n [] 0 k ≡ replicate k 0
 entries_none n k = none_from n 0 k
+
+-- one more trade that is counted
+pub count_more : (n : ℕ) (xs : List ℕ) (i x : ℕ) → i < length xs → x ≡ get_or xs i 0 → (x ≡ 0 → ⊥) → length (trades_from n 0 (take (i + 1) xs)) ≡ length (trades_from n 0 (take i xs)) + 1
+count_more n xs i x lt is some =
+    ap length (some_more n xs i x lt is some) ∙ length-append (trades_from n 0 (take i xs)) (record { sell = i / n; buy = i % n; value = x } ∷ [])
+
+-- ---- the trade before the last ones that were placed
+
+module _ (n left : ℕ) (trades : List Trade) (t : Trade) (items : List ℕ) (some : 0 < left) (within : left ≤ length trades) (is : t ≡ get_or trades (left - 1) t)
+    (all : All (IsTrade n) trades) (so_far : items ≡ entries_from n (drop left trades) 0 (n * n)) where
+  trade_is : IsTrade n t
+  trade_is = subst (IsTrade n) (sym is) (all (left - 1) t (omega arith))
+
+  pub place_within : place_of n t < length items
+  place_within = omega (arith, place_below n t trade_is, ap length so_far, entries_length n (drop left trades) 0 (n * n))
+
+  pub entries_more : set items (place_of n t) t.value ≡ entries_from n (drop (left - 1) trades) 0 (n * n)
+  entries_more =
+      let next : suc (left - 1) ≡ left = omega arith in
+      let front : drop (left - 1) trades ≡ t ∷ drop left trades =
+      drop-cons trades (left - 1) t (omega arith) ∙ ap₂ (λ (x : Trade) (k : ℕ). x ∷ drop k trades) (sym is) next in
+      ap (λ (xs : List ℕ). set xs (place_of n t) t.value) so_far ∙ sym (set_before n (n * n) t (drop left trades) (place_below n t trade_is))
+      ∙ ap (λ (ts : List Trade). entries_from n ts 0 (n * n)) (sym front)
+
+pub entries_start : (n : ℕ) (trades : List Trade) (items : List ℕ) → items ≡ replicate (n * n) 0 → items ≡ entries_from n (drop (length trades) trades) 0 (n * n)
+entries_start n trades items zeros = zeros ∙ sym (entries_none n (n * n)) ∙ ap (λ (ts : List Trade). entries_from n ts 0 (n * n)) (sym (drop-length trades))

@@ -6,7 +6,7 @@ use Rattle.std.proofs.lemmas.Bool.{cases_lt, eqb-true, and_parts}
 use Rattle.std.proofs.lemmas.List.Elements.{filter_passes, recursion_from_All}
 use Rattle.std.proofs.lemmas.List.Sums.{sum_by-cons, sum_by_push}
 use Rattle.sx_ledger.specs.declared.offer.Offer.{Offer}
-use Rattle.sx_ledger.specs.Bounds.{amounts, high_of, may_trade, pair_of, price_of}
+use Rattle.sx_ledger.specs.Bounds.{amounts, high_of, may_trade_at, pair_of, price_of}
 use Rattle.sx_ledger.specs.Fills.{value_of}
 use Rattle.sx_ledger.specs.Order.{offer_before}
 use Rattle.sx_block.proofs.OfferOrder.{Rising, rising_kept, in_front}
@@ -82,5 +82,5 @@ module _ (prices : List ℕ) (flow : ℕ → ℕ → ℕ) (offers : List Offer) 
       let all = sum_by-agree (value_of prices flow offers) (fill price y whole_pair up) whole_pair (fills_are up whole_pair (in_pair sell buy offers)) in
       let sum = fills_from price y whole_pair up [] whole_pair refl in
       let none : y - price * amounts [] ≡ y = omega arith in
-      let may : high_of prices offers sell buy ≤ price * amounts whole_pair = mul-le-mul_left price (filter-le (λ (o : Offer). o.amount) (may_trade prices) whole_pair) in
+      let may : high_of prices offers sell buy ≤ price * amounts whole_pair = mul-le-mul_left price (filter-le (λ (o : Offer). o.amount) (may_trade_at prices) whole_pair) in
       all ∙ sum ∙ ap (λ (z : ℕ). min z (price * amounts whole_pair)) none ∙ min-eq_left (omega arith)

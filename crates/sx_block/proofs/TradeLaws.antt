@@ -21,11 +21,11 @@ use Rattle.sx_bytes.specs.Grammar.{◌>>=◌, between, field_at, in_order}
 use Rattle.sx_bytes.proofs.Grammar.{bind_ok, Takes, Takes-none, Takes-then, Again}
 use Rattle.sx_bytes.proofs.Ordered.{ordered_takes, ordered_again}
 use Rattle.sx_bytes.proofs.Parts.{Reading, TakesAll, ReadsAgain, made_is}
-use Rattle.sx_bytes.proofs.DecodingSteps.{bytes_behind, range_takes, range_again, again_then}
+use Rattle.sx_bytes.proofs.DecodingSteps.{bytes_after, range_takes, range_again, again_then}
 use Rattle.sx_dual.specs.declared.cut.Cut.{Cut}
 use Rattle.sx_dual.specs.Tables.{FlowTable, IsFlow}
 use Rattle.sx_ledger.specs.Decoding.{sell_at, buy_at}
-use Rattle.sx_ledger.proofs.Chained.{guard_takes, guard_again}
+use Rattle.sx_ledger.proofs.DependentParts.{guard_takes, guard_again}
 
 abbrev IsBought : ℕ → ℕ → ℕ → Type 0
 IsBought n sell buy = (buy < n) × (buy ≢ sell)
@@ -81,9 +81,9 @@ module _ (n : ℕ) (some : 1 ≤ n) (few : n ≤ 32) where
       let b = bind_ok (buy_at n s.0.0 s.0.1) (λ b. value_at b.1 >>= λ v. Ok (made s.0.0 b.0 v.0, v.1)) (x, next) s.2 in
       let v = bind_ok (value_at b.0.1) (λ v. Ok (made s.0.0 b.0.0 v.0, v.1)) (x, next) b.2 in
       let t0 = sell_takes c s.0.1 s.0.0 bytes s.1 in
-      let bytes1 = bytes_behind c s.0.1 (big_bytes 1 s.0.0) t0.0 bytes in
+      let bytes1 = bytes_after c s.0.1 (big_bytes 1 s.0.0) t0.0 bytes in
       let t1 = buy_takes s.0.0 s.0.1 b.0.1 b.0.0 bytes1 b.1 in
-      let t2 = value_takes b.0.1 v.0.1 v.0.0 (bytes_behind s.0.1 b.0.1 (big_bytes 1 b.0.0) t1.0 bytes1) v.1 in
+      let t2 = value_takes b.0.1 v.0.1 v.0.0 (bytes_after s.0.1 b.0.1 (big_bytes 1 b.0.0) t1.0 bytes1) v.1 in
       let t = made s.0.0 b.0.0 v.0.0 in
       let text : Takes c (trade_bytes t) v.0.1 =
       Takes-then c s.0.1 v.0.1 (big_bytes 1 s.0.0) (big_bytes 1 b.0.0 ++ big_bytes 16 v.0.0) t0.0
@@ -111,7 +111,7 @@ module _ (n : ℕ) (some : 1 ≤ n) (few : n ≤ 32) where
       let r = bind_ok (trades_at n k.0.0 k.0.1) (λ ts. Ok (flow_of n ts.0, ts.1)) (x, next) k.2 in
       let t0 = range_takes 2 0 (n * (n - 1)) form.TooMany c k.0.1 k.0.0 bytes k.1 in
       let ts = r.0.0 in
-      let t1 = ordered_takes (trade_at n) trade_bytes (IsTrade n) trade_before form.TradeOrder trade_takes k.0.0 None k.0.1 r.0.1 ts (bytes_behind c k.0.1 (big_bytes 2 k.0.0) t0.0 bytes) r.1 in
+      let t1 = ordered_takes (trade_at n) trade_bytes (IsTrade n) trade_before form.TradeOrder trade_takes k.0.0 None k.0.1 r.0.1 ts (bytes_after c k.0.1 (big_bytes 2 k.0.0) t0.0 bytes) r.1 in
       let trades : trades_of (flow_of n ts) ≡ ts = trades_again n ts t1.2 t1.3 in
       let count : Takes c (big_bytes 2 (length ts)) k.0.1 = subst (λ (m : ℕ). Takes c (big_bytes 2 m) k.0.1) (sym t1.1) t0.0 in
       let both : Takes c (big_bytes 2 (length ts) ++ flat_map trade_bytes ts) r.0.1 = Takes-then c k.0.1 r.0.1 (big_bytes 2 (length ts)) (flat_map trade_bytes ts) count t1.0 in
@@ -169,7 +169,7 @@ module _ (n : ℕ) (some : 1 ≤ n) (few : n ≤ 32) where
   cut_takes c next x bytes e =
       let f = bind_ok (flag_at c) (λ f. cond (eqb f.0 0) (Ok (none, f.1)) (set_at n f.1)) (x, next) e in
       let t0 = range_takes 1 0 1 form.Tag c f.0.1 f.0.0 bytes f.1 in
-      let bytes1 = bytes_behind c f.0.1 (big_bytes 1 f.0.0) t0.0 bytes in
+      let bytes1 = bytes_after c f.0.1 (big_bytes 1 f.0.0) t0.0 bytes in
       let t1 = after_flag f.0.0 f.0.1 next x bytes1 t0.2 f.2 in
       (subst (λ (text : List ℕ). Takes c text next) t1.1 (Takes-then c f.0.1 next (big_bytes 1 f.0.0) t1.0 t0.0 t1.2), t1.3)
 

@@ -3,7 +3,7 @@ use Rattle.std.proofs.Common.{◌≡◌, ℕ, zero, suc, ◌+◌, ◌-◌, ◌*�
 use Rattle.std.specs.Prelude.{nat_le, slice_index, ◌==◌}
 use Rattle.std.specs.List.{AllByRecursion, filter, list_any}
 use Rattle.std.specs.List.Sorted.{IsStrictlyIncreasing}
-use Rattle.std.proofs.lemmas.Bool.{cases_Bool, cases_lt, and_left, eqb-true, eq-eqb, ne_eqb, le-ltb, ltb-false, or_cases, or_left}
+use Rattle.std.proofs.lemmas.Bool.{cases_Bool, cases_lt, and_parts, eqb-true, eq-eqb, ne_eqb, le-ltb, ltb-false, or_cases, or_left}
 use Rattle.std.proofs.lemmas.List.Elements.{recursion_from_All}
 use Rattle.std.proofs.lemmas.List.Sums.{sum_by-cons}
 use Rattle.sx_block.specs.EffectLaws.{IsTradable, IsRounded, TradeConserves}
@@ -16,8 +16,8 @@ use Rattle.sx_ledger.specs.Fills.{given, gives, gets, got}
 use Rattle.sx_ledger.specs.Ledger.{IsAccount, IsLedger, IsOffer, assets_of, balance_at, has_owner, ids, offered, total_of}
 use Rattle.sx_ledger.specs.Static.{has_account}
 use Rattle.sx_ledger.specs.Trade.{account_traded, added, balances_traded, offer_traded, offers_traded, proceeds, traded}
-use Rattle.sx_ledger.proofs.Adding.{sum_by-add, sum_by-none, sum_by-one, sum_by-same}
-use Rattle.sx_ledger.proofs.Standing.{Stands, same_place, stands}
+use Rattle.sx_ledger.proofs.ListSums.{sum_by-add, sum_by-none, sum_by-one, sum_by-same}
+use Rattle.sx_ledger.proofs.PlacesOfIds.{Stands, same_place, stands}
 
 -- ---- an offer's owner is there
 
@@ -25,7 +25,7 @@ owner_there : (accounts : List Account) (o : Offer) → has_owner accounts o ≡
 owner_there [] o e = absurd cc
 owner_there (account ∷ accounts) o e =
     elim (or_cases ((account.id.0 == o.account.0) && nat_le o.seq account.window.last) (has_owner accounts o) e) [
-      | inl here ↦ rw (and_left (eqb account.id.0 o.account.0) (nat_le o.seq account.window.last) here) refl
+      | inl here ↦ let own = and_parts (account.id.0 == o.account.0) (nat_le o.seq account.window.last) here in rw own.0 refl
       | inr later ↦ elim (cases_Bool (eqb account.id.0 o.account.0)) [ inl same ↦ rw same refl | inr other ↦ rw other (owner_there accounts o later) ]
     ]
 

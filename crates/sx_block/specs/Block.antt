@@ -3,11 +3,13 @@ use Rattle.std.specs.Prelude.{◌≡◌, ℕ, ◌^◌, ◌<◌, ◌≤◌, lengt
 use Rattle.sx_block.specs.declared.header.Header.{Header}
 use Rattle.sx_block.specs.declared.header.Block.{Block}
 use Rattle.sx_block.specs.Digest.{IsDigest}
+use Rattle.sx_base.specs.Ranges.{most_amount, most_assets}
 use Rattle.sx_bytes.specs.Grammar.{in_order}
 use Rattle.sx_dual.specs.declared.cut.Cut.{Cut}
 use Rattle.sx_dual.specs.Tables.{IsFlow}
 use Rattle.sx_ledger.specs.Body.{tx_before}
-use Rattle.sx_ledger.specs.Ledger.{IsPrice}
+use Rattle.sx_ledger.specs.Ledger.{most_height}
+use Rattle.sx_price.specs.Limits.{IsPrice}
 use Rattle.sx_tx.specs.Transactions.{IsTx}
 
 -- a cut, where there is one, is a set of some of n assets
@@ -21,13 +23,13 @@ assets_of header = length header.prices
 
 pub record IsHeader (header : Header) : Type 0 where
   pub version : header.version ≡ 1
-  pub height : header.height < 2 ^ 63
+  pub height : header.height ≤ most_height
   pub parent : IsDigest header.parent
   pub body : IsDigest header.body
   pub some_mu : 1 ≤ header.mu
   pub most_mu : header.mu ≤ 20
   pub some_asset : 1 ≤ assets_of header
-  pub few_assets : assets_of header ≤ 32
+  pub few_assets : assets_of header ≤ most_assets
   pub prices : All IsPrice header.prices
   pub same_assets : header.trades.assets ≡ assets_of header
   pub trades : IsFlow header.trades
@@ -35,7 +37,7 @@ pub record IsHeader (header : Header) : Type 0 where
   pub one_potential : length header.potentials ≡ assets_of header
   pub potentials : All (λ potential. potential < 2 ^ 32) header.potentials
   pub one_rounding : length header.rounding ≡ assets_of header
-  pub rounding : All (λ units. units ≤ 2 ^ 62) header.rounding
+  pub rounding : All (λ units. units ≤ most_amount) header.rounding
   pub after : IsDigest header.after
 
 pub record IsBlock (block : Block) : Type 0 where

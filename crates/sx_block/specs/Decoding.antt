@@ -4,6 +4,7 @@ use Rattle.sx_block.specs.declared.header.Header.{Header}
 use Rattle.sx_block.specs.declared.header.Block.{Block}
 use Rattle.sx_block.specs.declared.trade.Trade.{Trade}
 use Rattle.sx_block.specs.Trades.{trade_before, flow_of}
+use Rattle.sx_base.specs.Ranges.{most_assets}
 use Rattle.sx_bytes.specs.declared.fault.Form.TheVariants as form
 use Rattle.sx_bytes.specs.declared.fault.FormFault.{FormFault}
 use Rattle.sx_bytes.specs.Cursor.{Cursor, left, raw_at}
@@ -11,7 +12,8 @@ use Rattle.sx_bytes.specs.Grammar.{◌>>=◌, or_fault, between, field_at, many_
 use Rattle.sx_dual.specs.declared.cut.Cut.{Cut}
 use Rattle.sx_dual.specs.Tables.{FlowTable}
 use Rattle.sx_ledger.specs.Body.{tx_before}
-use Rattle.sx_ledger.specs.Decoding.{price_at, units_at, sell_at, buy_at}
+use Rattle.sx_ledger.specs.Decoding.{price_at, units_field_at, sell_at, buy_at}
+use Rattle.sx_ledger.specs.Ledger.{most_height}
 use Rattle.sx_tx.specs.declared.tx.Tx.{Tx}
 use Rattle.sx_tx.specs.TransactionDecoding.{tx_at}
 
@@ -63,7 +65,7 @@ Front = ℕ × ℕ × List ℕ × List ℕ × ℕ
 unfoldable pub front_at : Cursor → Result (Front × Cursor) FormFault
 front_at c = do
   version ← field_at 1 (between 1 1) form.Version c
-  height ← field_at 8 (between 0 (2 ^ 63 - 1)) form.HeightRange version.1
+  height ← field_at 8 (between 0 most_height) form.HeightRange version.1
   parent ← digest_at height.1
   body ← digest_at parent.1
   mu ← field_at 1 (between 1 20) form.MuRange body.1
@@ -87,7 +89,7 @@ Outcome = List ℕ × List ℕ × List ℕ
 unfoldable pub outcome_at : ℕ → Cursor → Result (Outcome × Cursor) FormFault
 outcome_at n c = do
   potentials ← many_at potential_at n c
-  rounding ← many_at units_at n potentials.1
+  rounding ← many_at units_field_at n potentials.1
   after ← digest_at rounding.1
   Ok ((potentials.0, rounding.0, after.0), after.1)
 
@@ -109,7 +111,7 @@ header_of front market outcome = record {
 unfoldable pub header_at : Cursor → Result (Header × Cursor) FormFault
 header_at c = do
   front ← front_at c
-  assets ← field_at 1 (between 1 32) form.AssetCount front.1
+  assets ← field_at 1 (between 1 most_assets) form.AssetCount front.1
   market ← market_at assets.0 assets.1
   outcome ← outcome_at assets.0 market.1
   Ok (header_of front.0 market.0 outcome.0, outcome.1)

@@ -1,7 +1,8 @@
 -- Laws of what trading and whole blocks leave, for all ledgers, flows and blocks.
 use Rattle.std.specs.Prelude.{◌≡◌, ℕ, ◌+◌, ◌-◌, ◌*◌, ◌^◌, ◌<◌, ◌≤◌, false, Option, None, Some, List, length, All, Contains, slice_index}
+use Rattle.sha2.specs.Sha256.{sha256}
 use Rattle.sx_block.specs.declared.header.Block.{Block}
-use Rattle.sx_block.specs.Validity.{IsValid, flow_of_block, high_in, ledger_after, low_in, offers_of, undropped_low_in}
+use Rattle.sx_block.specs.Validity.{IsValid, digest_of_ledger, flow_of_block, high_in, ledger_after, low_in, offers_of, undropped_low_in}
 use Rattle.sx_dual.specs.declared.cut.Cut.{Cut}
 use Rattle.sx_dual.specs.Circulation.{HaveNoCirculation, IsBalanced, IsGreatest}
 use Rattle.sx_dual.specs.Sums.{EachPair}
@@ -9,9 +10,10 @@ use Rattle.sx_ledger.specs.declared.offer.Offer.{Offer}
 use Rattle.sx_ledger.specs.declared.parts.Parts.{Parts}
 use Rattle.sx_ledger.specs.Bounds.{high_of, low_of, price_of}
 use Rattle.sx_ledger.specs.Fills.{IsRounding, given, gives, gets, got, value_of}
-use Rattle.sx_ledger.specs.Ledger.{IsLedger, IsPrice, assets_of, total_of}
+use Rattle.sx_ledger.specs.Ledger.{IsLedger, assets_of, most_height, total_of}
 use Rattle.sx_ledger.specs.Trade.{traded}
-use Rattle.sx_price.specs.Limits.{MayTrade, MustTrade}
+use Rattle.sx_price.specs.Limits.{IsPrice, MayTrade, MustTrade}
+use Rattle.sx_tx.specs.Transactions.{list_bytes}
 
 -- a flow that offers can trade: no pair trades more than it may, and as much is sold of each asset as is bought
 pub record IsTradable (parts : Parts) (prices : List ℕ) (flow : ℕ → ℕ → ℕ) : Type 0 where
@@ -78,7 +80,7 @@ TradeConserves =
 -- the ledger after trading is a ledger
 abbrev pub TradeKeepsLedger : Type 0
 TradeKeepsLedger =
-    (parts : Parts) (prices : List ℕ) (flow : ℕ → ℕ → ℕ) (rounding : List ℕ) → IsLedger parts → parts.height < 2 ^ 63 - 1 →
+    (parts : Parts) (prices : List ℕ) (flow : ℕ → ℕ → ℕ) (rounding : List ℕ) → IsLedger parts → parts.height < most_height →
     IsTradable parts prices flow → IsRounded parts prices flow rounding → IsLedger (traded parts prices flow rounding)
 
 -- ---- valid blocks
@@ -92,6 +94,13 @@ abbrev pub BlockConserves : Type 0
 BlockConserves =
     (parts : Parts) (block : Block) (asset : ℕ) → IsLedger parts → IsValid parts block → asset < assets_of parts →
     total_of (ledger_after parts block) asset ≡ total_of parts asset
+
+-- the header of a valid block names the ledger before it, its transactions and the ledger after it by their digests
+abbrev pub BlockCommits : Type 0
+BlockCommits =
+    (parts : Parts) (block : Block) → IsValid parts block →
+    (block.header.parent ≡ digest_of_ledger parts) × (block.header.body ≡ sha256 (list_bytes block.txs))
+    × (block.header.after ≡ digest_of_ledger (ledger_after parts block))
 
 -- a valid block after another has the next height, and its parent is the ledger that the other left
 abbrev pub BlocksChain : Type 0

@@ -13,7 +13,7 @@ use Rattle.sx_ledger.specs.Body.{IsAdmissible, body_after}
 use Rattle.sx_ledger.specs.Bounds.{high_of, low_of}
 use Rattle.sx_ledger.specs.Encoding.{state_bytes}
 use Rattle.sx_ledger.specs.Fills.{IsRounding}
-use Rattle.sx_ledger.specs.Ledger.{assets_of}
+use Rattle.sx_ledger.specs.Ledger.{assets_of, most_height}
 use Rattle.sx_ledger.specs.Trade.{traded}
 use Rattle.sx_record.specs.Frame.{record_bytes}
 use Rattle.sx_tx.specs.Transactions.{list_bytes}
@@ -61,7 +61,7 @@ CutHolds n low high (Some cut) = IsCut n low high cut.0
 -- checker looks for the first that does not hold.
 pub record IsValid (parts : Parts) (block : Block) : Type 0 where
   pub form : IsBlock block
-  pub below_last : parts.height < 2 ^ 63 - 1
+  pub below_last : parts.height < most_height
   pub next_height : block.header.height ≡ parts.height + 1
   pub parent : block.header.parent ≡ digest_of_ledger parts
   pub body : block.header.body ≡ sha256 (list_bytes block.txs)

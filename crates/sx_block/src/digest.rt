@@ -36,8 +36,7 @@ impl Digest {
 
     /// The bytes, the first one first.
     pub fn bytes(&self) -> &[u8]
-        ensures bytes { result.now ≡ self.now }
-        ensures digest { IsDigest self.now }
+        ensures { result.now ≡ self.now }
     {
         &self.bytes
     }

@@ -1,6 +1,14 @@
 //! Laws of what trading and whole blocks leave.
 
 ghost use Rattle.sx_block.specs.EffectLaws.{
+  BlockCommits,
+  BlockConserves,
+  BlockDropsTheImpossible,
+  BlockKeepsLedger,
+  BlocksChain,
+  BlockTradesInFull,
+  BlockTradesMost,
+  BlockTradesWithinLimits,
   GivesWhatItHas,
   GivesLessThanOneMore,
   GetsLessThanOneLess,
@@ -33,4 +41,19 @@ pub fn trade_laws()
     ensures rounding { RoundingIsNeverNegative }
     ensures conserves { TradeConserves }
     ensures ledger { TradeKeepsLedger }
+{}
+
+/// What a valid block leaves of a ledger is a ledger with as much of each asset, and the next valid block
+/// names it as its parent. No circulation within the bounds trades more value. Each offer that trades
+/// may trade; each one that must trade gives its whole amount, unless lower bounds were dropped, and
+/// then no circulation keeps them.
+pub fn block_effect_laws()
+    ensures ledger { BlockKeepsLedger }
+    ensures conserves { BlockConserves }
+    ensures commits { BlockCommits }
+    ensures chain { BlocksChain }
+    ensures most { BlockTradesMost }
+    ensures within { BlockTradesWithinLimits }
+    ensures in_full { BlockTradesInFull }
+    ensures dropped { BlockDropsTheImpossible }
 {}

@@ -1,28 +1,23 @@
 //! Reading the header of a block, field by field from left to right. Each field is read whole and then
 //! tested.
 
-ghost use Rattle.std.specs.Prelude.{◌≡◌, ◌≤◌};
+ghost use Rattle.std.specs.Prelude.{◌≡◌, ◌≤◌, IfOk, vec_len};
 ghost use Rattle.sx_block.specs.Decoding.{digest_at, potential_at, front_at, market_at, outcome_at, header_at};
 ghost use Rattle.sx_bytes.specs.Grammar.{DecodesOrStrays, MayDecodeOrStray, many_at};
-ghost use Rattle.sx_ledger.specs.Decoding.{units_at};
+ghost use Rattle.sx_ledger.specs.Decoding.{units_field_at};
 
 use crate::digest::Digest;
 use crate::header::Header;
 use crate::trade_reading::{read_cut, read_flow};
 use std::alloc::Global;
-use sx_base::{Amount, Balances};
+use sx_base::{Amount, AssetId, Balances};
 use sx_bytes::{Form, FormFault, ReadError, Reader};
 use sx_dual::{Cut, Flow, Potentials};
-use sx_ledger::read_prices;
+use sx_ledger::{Ledger, read_prices};
 use sx_price::{Mu, Prices};
 
 // The version of the form.
 const VERSION: u8 = 1;
-
-// The greatest height.
-const LAST_HEIGHT: u64 = (1 << 63) - 1;
-
-const MOST_ASSETS: u8 = 32;
 
 fn read_digest(from: &mut Reader) -> Result<Digest, FormFault>
     ensures { DecodesOrStrays (λ x. x) (digest_at from.old) from.new result }
@@ -47,7 +42,7 @@ fn read_front(from: &mut Reader) -> Result<Front, FormFault>
     ensures { DecodesOrStrays (λ front. (front.version, front.height, front.parent, front.body, front.mu)) (front_at from.old) from.new result }
 {
     let version = from.field_u8(VERSION, VERSION, Form::Version)?;
-    let height = from.field_u64(0, LAST_HEIGHT, Form::HeightRange)?;
+    let height = from.field_u64(0, Ledger::MOST_HEIGHT, Form::HeightRange)?;
     let parent = read_digest(from)?;
     let body = read_digest(from)?;
     let exponent = from.field_u8(Mu::LEAST, Mu::MOST, Form::MuRange)?;
@@ -84,18 +79,25 @@ fn read_market(alloc: Global, from: &mut Reader, assets: u8) -> Result<Market, R
     })
 }
 
+fn read_potential(from: &mut Reader) -> Result<u32, FormFault>
+    ensures { DecodesOrStrays (λ x. x) (potential_at from.old) from.new result }
+{
+    Ok(from.get_u32()?)
+}
+
 fn read_potentials(alloc: Global, from: &mut Reader, assets: u8) -> Result<Vec<u32>, ReadError>
-    ensures { MayDecodeOrStray (λ v. v.items) (many_at potential_at assets from.old) from.new result }
+    ensures exact { MayDecodeOrStray (λ v. v.items) (many_at potential_at assets from.old) from.new result }
+    ensures count { IfOk result (λ v. vec_len v ≡ assets) }
 {
     let mut potentials = Vec::with_capacity(alloc, usize::from(assets))?;
     for _ in 0..assets {
-        potentials.push(from.get_u32()?)?;
+        potentials.push(read_potential(from)?)?;
     }
     Ok(potentials)
 }
 
 fn read_rounding(alloc: Global, from: &mut Reader, assets: u8) -> Result<Vec<u64>, ReadError>
-    ensures { MayDecodeOrStray (λ v. v.items) (many_at units_at assets from.old) from.new result }
+    ensures { MayDecodeOrStray (λ v. v.items) (many_at units_field_at assets from.old) from.new result }
 {
     let mut rounding = Vec::with_capacity(alloc, usize::from(assets))?;
     for _ in 0..assets {
@@ -133,7 +135,7 @@ pub fn read_header(alloc: Global, from: &mut Reader) -> Result<Header, ReadError
     ensures { MayDecodeOrStray (λ x. x) (header_at from.old) from.new result }
 {
     let front = read_front(from)?;
-    let assets = from.field_u8(1, MOST_ASSETS, Form::AssetCount)?;
+    let assets = from.field_u8(1, AssetId::LIMIT, Form::AssetCount)?;
     let market = read_market(alloc, from, assets)?;
     let outcome = read_outcome(alloc, from, assets)?;
     let Front {

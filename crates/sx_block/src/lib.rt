@@ -9,7 +9,8 @@
 //! [`header_length`] tells where in a payload the bytes begin of which the second is made.
 //!
 //! `specs/Validity` defines the ledger after a block and when a block is valid for a ledger.
-//! [`fill_laws`], [`limit_laws`] and [`trade_laws`] are laws of trading over any ledger.
+//! [`block_effect_laws`] are laws of valid blocks, and [`fill_laws`], [`limit_laws`] and [`trade_laws`]
+//! those of trading over any ledger, on which they stand.
 //!
 //! Not here: computing the ledger after a block, and deciding whether a block is valid.
 #![tactic(auto)]
@@ -27,7 +28,7 @@ mod trade_reading;
 mod writing;
 
 pub use digest::{Digest, Digests};
-pub use effect_laws::{fill_laws, limit_laws, trade_laws};
+pub use effect_laws::{block_effect_laws, fill_laws, limit_laws, trade_laws};
 pub use hashing::{body_digest, digest_of, ledger_digest, record_digest};
 pub use header::{Block, Header};
 pub use laws::block_laws;

@@ -86,6 +86,8 @@ fn its_digests(rt: HostRuntime) -> Result<(), Fail> {
     );
     block_laws();
     fill_laws();
+    limit_laws();
     trade_laws();
+    block_effect_laws();
     Ok(())
 }

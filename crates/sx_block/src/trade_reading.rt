@@ -1,8 +1,8 @@
 //! Reading the trades of a block, and the cut.
 
-ghost use Rattle.std.specs.Prelude.{◌≡◌, ◌*◌, ◌≤◌, None, List};
+ghost use Rattle.std.specs.Prelude.{◌≡◌, ◌≢◌, ◌<◌, ◌≤◌, All, IfOk, None, List};
 ghost use Rattle.sx_block.specs.Decoding.{trade_at, trades_at, flow_at, set_at, cut_at};
-ghost use Rattle.sx_block.specs.Trades.{trade_before};
+ghost use Rattle.sx_block.specs.Trades.{IsTrade, trade_before};
 ghost use Rattle.sx_bytes.specs.declared.fault.ReadError.TheVariants as read_error;
 ghost use Rattle.sx_bytes.specs.Grammar.{DecodesOrStrays, MayDecodeOrStray, may_follow};
 ghost use Rattle.sx_ledger.specs.Decoding.{sell_at, buy_at};
@@ -34,7 +34,8 @@ pub fn fault_at(at: usize, fault: Form) -> ReadError
 fn read_sell(from: &mut Reader, assets: u8) -> Result<AssetId, FormFault>
     requires some { 1 ≤ assets }
     requires few { assets ≤ 32 }
-    ensures { DecodesOrStrays (λ x. x) (sell_at assets from.old) from.new result }
+    ensures exact { DecodesOrStrays (λ x. x) (sell_at assets from.old) from.new result }
+    ensures in_range { IfOk result (λ x. x < assets) }
 {
     let number = from.field_u8(0, assets - 1, Form::AssetRange)?;
     Ok(AssetId::new(number).unwrap())
@@ -45,7 +46,9 @@ fn read_sell(from: &mut Reader, assets: u8) -> Result<AssetId, FormFault>
 fn read_buy(from: &mut Reader, assets: u8, sell: AssetId) -> Result<AssetId, FormFault>
     requires some { 1 ≤ assets }
     requires few { assets ≤ 32 }
-    ensures { DecodesOrStrays (λ x. x) (buy_at assets sell from.old) from.new result }
+    ensures exact { DecodesOrStrays (λ x. x) (buy_at assets sell from.old) from.new result }
+    ensures in_range { IfOk result (λ x. x < assets) }
+    ensures differ { IfOk result (λ x. x ≢ sell) }
 {
     let at = from.place() as u64;
     let number = from.field_u8(0, assets - 1, Form::AssetRange)?;
@@ -61,7 +64,8 @@ fn read_buy(from: &mut Reader, assets: u8, sell: AssetId) -> Result<AssetId, For
 fn read_trade(from: &mut Reader, assets: u8) -> Result<Trade, FormFault>
     requires some { 1 ≤ assets }
     requires few { assets ≤ 32 }
-    ensures { DecodesOrStrays (λ x. x) (trade_at assets from.old) from.new result }
+    ensures exact { DecodesOrStrays (λ x. x) (trade_at assets from.old) from.new result }
+    ensures trade { IfOk result (IsTrade assets) }
 {
     let sell = read_sell(from, assets)?;
     let buy = read_buy(from, assets, sell)?;
@@ -91,7 +95,8 @@ fn read_trades(
 ) -> Result<Vec<Trade>, ReadError>
     requires some { 1 ≤ assets }
     requires few { assets ≤ 32 }
-    ensures { MayDecodeOrStray (λ v. v.items) (trades_at assets count from.old) from.new result }
+    ensures exact { MayDecodeOrStray (λ v. v.items) (trades_at assets count from.old) from.new result }
+    ensures trades { IfOk result (λ v. All (IsTrade assets) v.items) }
 {
     let room = from.left() / TRADE_BYTES;
     let mut trades = Vec::with_capacity(alloc, room.min(usize::from(count)))?;

@@ -12,4 +12,4 @@ returns-clause-ok c =
     let rounding : List ℕ = flat_map (big_bytes 8) h.rounding in
     written_then r c.args.to.now (flat_map (big_bytes 4) h.potentials) c.put_potentials.new.to (rounding ++ h.after) new (rw c.items.ensures.items at c.in_ok-put_potentials.ensures.ok)
     (written_then r c.put_potentials.new.to rounding c.put_rounding.new.to h.after new (rw c.items-2.ensures at c.in_ok-put_rounding.ensures.ok)
-    (rw c.bytes.ensures.bytes at c.raw.ensures.ok))
+    (rw c.bytes.ensures at c.raw.ensures.ok))
