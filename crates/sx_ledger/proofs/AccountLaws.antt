@@ -30,47 +30,64 @@ abbrev pub InRange : ℕ → Type 0
 InRange units = units ≤ 2 ^ 62
 
 abbrev IsLast : ℕ → Type 0
-IsLast last = last < 2 ^ 63
+IsLast last = last ≤ 2 ^ 63 - 1
 
 pub price_takes : TakesAll price_at (big_bytes 8) IsPrice
-price_takes c next x bytes e = let t = range_takes 8 (2 ^ 8) (2 ^ 40) form.PriceRange c next x bytes e in (t.0, (t.1, t.2))
+price_takes c next x bytes e = let t = range_takes 8 (2 ^ 8) (2 ^ 40) form.PriceRange c next x bytes e in
+    (t.0, (t.1, t.2))
 
 pub price_again : ReadsAgain price_at (big_bytes 8) IsPrice
-price_again c x after is within e = range_again 8 (2 ^ 8) (2 ^ 40) form.PriceRange c x after (omega arith) is.0 is.1 within e
+price_again c x after is within e =
+    range_again 8 (2 ^ 8) (2 ^ 40) form.PriceRange c x after (omega arith) is.0 is.1 within e
 
 pub units_takes : TakesAll units_field_at (big_bytes 8) InRange
 units_takes c next x bytes e = let t = range_takes 8 0 (2 ^ 62) form.AmountRange c next x bytes e in (t.0, t.2)
 
 pub units_again : ReadsAgain units_field_at (big_bytes 8) InRange
-units_again c x after is within e = range_again 8 0 (2 ^ 62) form.AmountRange c x after (omega arith) (omega arith) is within e
+units_again c x after is within e =
+    range_again 8 0 (2 ^ 62) form.AmountRange c x after (omega arith) (omega arith) is within e
 
 last_takes : TakesAll last_at (big_bytes 8) IsLast
-last_takes c next x bytes e = let t = range_takes 8 0 (2 ^ 63 - 1) form.SeqRange c next x bytes e in (t.0, omega (arith, t.2))
+last_takes c next x bytes e = let t = range_takes 8 0 (2 ^ 63 - 1) form.SeqRange c next x bytes e in
+    (t.0, t.2)
 
 last_again : ReadsAgain last_at (big_bytes 8) IsLast
-last_again c x after is within e = range_again 8 0 (2 ^ 63 - 1) form.SeqRange c x after (omega arith) (omega arith) (omega (arith, is)) within e
+last_again c x after is within e =
+    range_again 8 0 (2 ^ 63 - 1) form.SeqRange c x after (omega arith) (omega arith) is within e
 
 -- ---- an account
 
 abbrev made : ℕ → ℕ → List ℕ → Account
-made id last balances = record { id = record { 0 = id }; window = record { last = last; used = 0 }; balances = balances }
+made id last balances = record {
+  id = record { 0 = id };
+  window = record { last = last; used = 0 };
+  balances = balances;
+}
 
 pub account_takes : (assets : ℕ) → TakesAll (account_at assets) account_bytes (IsAccount assets)
 unfolding account_at
 account_takes assets c next account bytes e =
-    let t = three_take id_at last_at (many_at units_field_at assets) made (big_bytes 8) (big_bytes 8) (flat_map (big_bytes 8)) IsId IsLast (AreNumbers InRange assets)
+    let t = three_take id_at last_at (many_at units_field_at assets) made (big_bytes 8) (big_bytes 8)
+    (flat_map (big_bytes 8)) IsId IsLast (AreNumbers InRange assets)
     id_takes last_takes (numbers_take units_field_at InRange assets units_takes) c next account bytes e in
-    let is : IsAccount assets (made t.0 t.1 t.2) = record { id = t.5; last = t.6; used = refl; balances = t.7.number; in_range = t.7.are } in
+    let is : IsAccount assets (made t.0 t.1 t.2) =
+    record { id = t.5; last = t.6; used = refl; balances = t.7.number; in_range = t.7.are } in
     subst (λ (a : Account). Takes c (account_bytes a) next × IsAccount assets a) t.3 (t.4, is)
 
 pub account_again : (assets : ℕ) → ReadsAgain (account_at assets) account_bytes (IsAccount assets)
 unfolding account_at
 account_again assets c account after is within e =
     let balances : AreNumbers InRange assets account.balances = record { number = is.balances; are = is.in_range } in
-    let read = three_again id_at last_at (many_at units_field_at assets) made (big_bytes 8) (big_bytes 8) (flat_map (big_bytes 8)) IsId IsLast (AreNumbers InRange assets)
-    id_again last_again (numbers_again units_field_at InRange assets units_again) c account.id.0 account.window.last account.balances after is.id is.last balances within e in
+    let read = three_again id_at last_at (many_at units_field_at assets) made (big_bytes 8) (big_bytes 8)
+    (flat_map (big_bytes 8)) IsId IsLast (AreNumbers InRange assets)
+    id_again last_again (numbers_again units_field_at InRange assets units_again)
+    c account.id.0 account.window.last account.balances after is.id is.last balances within e in
     let same : made account.id.0 account.window.last account.balances ≡ account =
-    ap (λ (used : ℕ). record { id = account.id; window = record { last = account.window.last; used = used }; balances = account.balances }) (sym is.used) in
+    ap (λ (used : ℕ). record {
+      id = account.id;
+      window = record { last = account.window.last; used = used };
+      balances = account.balances;
+    }) (sym is.used) in
     subst (λ (a : Account). Again (account_at assets c) c a after) same read
 
 -- ---- accounts by id
@@ -78,22 +95,29 @@ account_again assets c account after is within e =
 abbrev id_of : Account → ℕ
 id_of account = account.id.0
 
-next_takes : (assets : ℕ) (before : Option ℕ) (c next : Cursor) (account : Account) → AreBytes c.bytes → next_account_at assets before c ≡ Ok (account, next)
+next_takes : (assets : ℕ) (before : Option ℕ) (c next : Cursor) (account : Account) → AreBytes c.bytes
+    → next_account_at assets before c ≡ Ok (account, next)
     → IsTaken account_bytes id_of nat_lt (IsAccount assets) before c next account
 unfolding next_account_at
 next_takes assets before c next account bytes e =
-    let g = guard_takes (account_at assets c) (λ a. may_follow nat_lt before (id_of a)) (record { at = c.place; fault = form.Order }) (account, next) e in
+    let g = guard_takes (account_at assets c) (λ a. may_follow nat_lt before (id_of a))
+    (record { at = c.place; fault = form.Order }) (account, next) e in
     let t = account_takes assets c next account bytes g.0 in
     (t.0, t.1, g.1)
 
-next_again : (assets : ℕ) (before : Option ℕ) (c : Cursor) (account : Account) (after : List ℕ) → IsAccount assets account → may_follow nat_lt before (id_of account) ≡ true
-    → c.place ≤ length c.bytes → rest c ≡ account_bytes account ++ after → Again (next_account_at assets before c) c account after
+next_again : (assets : ℕ) (before : Option ℕ) (c : Cursor) (account : Account) (after : List ℕ)
+    → IsAccount assets account → may_follow nat_lt before (id_of account) ≡ true
+    → c.place ≤ length c.bytes → rest c ≡ account_bytes account ++ after
+    → Again (next_account_at assets before c) c account after
 unfolding next_account_at
 next_again assets before c account after is follows within e =
-    guard_again (account_at assets c) (λ a. may_follow nat_lt before (id_of a)) (record { at = c.place; fault = form.Order }) c account after follows (account_again assets c account after is within e)
+    guard_again (account_at assets c) (λ a. may_follow nat_lt before (id_of a))
+    (record { at = c.place; fault = form.Order }) c account after follows
+    (account_again assets c account after is within e)
 
 -- numbers of which each is above the one before it
-pub increasing_from_order : (before : Option ℕ) (xs : List ℕ) → in_order nat_lt before xs ≡ true → IsStrictlyIncreasing xs
+pub increasing_from_order : (before : Option ℕ) (xs : List ℕ) → in_order nat_lt before xs ≡ true
+    → IsStrictlyIncreasing xs
 increasing_from_order before [] ordered k lt = absurd (omega arith)
 increasing_from_order before (x ∷ []) ordered k lt = absurd (omega arith)
 increasing_from_order before (x ∷ y ∷ xs) ordered zero lt =
@@ -107,7 +131,8 @@ increasing_from_order before (x ∷ y ∷ xs) ordered (suc k) lt =
 order_after : (x : ℕ) (xs : List ℕ) → IsStrictlyIncreasing (x ∷ xs) → in_order nat_lt (Some x) xs ≡ true
 order_after x [] up = refl
 order_after x (y ∷ ys) up =
-    and_from _ _ (lt-ltb x y (up 0 (omega arith))) (order_after y ys (λ k lt. let step : suc k + 1 ≡ suc (k + 1) = omega arith in rw step at (up (suc k) (omega arith))))
+    and_from _ _ (lt-ltb x y (up 0 (omega arith))) (order_after y ys (λ k lt. let step : suc k + 1 ≡ suc (k + 1) =
+    omega arith in rw step at (up (suc k) (omega arith))))
 
 pub order_from_increasing : (xs : List ℕ) → IsStrictlyIncreasing xs → in_order nat_lt None xs ≡ true
 order_from_increasing [] up = refl
@@ -132,13 +157,22 @@ record AreMany (assets n : ℕ) (accounts : List Account) : Type 0 where
 
 accounts_take : (assets n : ℕ) → TakesAll (accounts_at assets n None) (flat_map account_bytes) (AreMany assets n)
 accounts_take assets n c next accounts bytes e =
-    let t = each_takes (next_account_at assets) id_of account_bytes nat_lt (IsAccount assets) (next_takes assets) n None c next accounts bytes e in
-    (t.0, record { number = sym t.1; are = All-from_recursion (IsAccount assets) accounts t.2; by_id = increasing_from_order None (ids accounts) t.3 })
+    let t = each_takes (next_account_at assets) id_of account_bytes nat_lt (IsAccount assets) (next_takes assets)
+    n None c next accounts bytes e in (
+      t.0,
+      record {
+        number = sym t.1;
+        are = All-from_recursion (IsAccount assets) accounts t.2;
+        by_id = increasing_from_order None (ids accounts) t.3;
+      },
+    )
 
 accounts_again : (assets n : ℕ) → ReadsAgain (accounts_at assets n None) (flat_map account_bytes) (AreMany assets n)
 accounts_again assets n c accounts after is within e =
-    let read = each_again (next_account_at assets) id_of account_bytes nat_lt (IsAccount assets) (next_again assets) accounts None c after
-    (recursion_from_All (IsAccount assets) accounts is.are) (order_from_increasing (ids accounts) is.by_id) within e in
+    let read = each_again (next_account_at assets) id_of account_bytes nat_lt (IsAccount assets) (next_again assets)
+    accounts None c after
+    (recursion_from_All (IsAccount assets) accounts is.are) (order_from_increasing (ids accounts) is.by_id)
+    within e in
     subst (λ (k : ℕ). Again (accounts_at assets k None c) c accounts after) (sym is.number) read
 
 abbrev IsCount : ℕ → Type 0
@@ -148,12 +182,14 @@ count_takes : TakesAll (field_at 4 (between 0 65536) form.TooMany) (big_bytes 4)
 count_takes c next x bytes e = let t = range_takes 4 0 65536 form.TooMany c next x bytes e in (t.0, t.2)
 
 count_again : ReadsAgain (field_at 4 (between 0 65536) form.TooMany) (big_bytes 4) IsCount
-count_again c x after is within e = range_again 4 0 65536 form.TooMany c x after (omega arith) (omega arith) is within e
+count_again c x after is within e =
+    range_again 4 0 65536 form.TooMany c x after (omega arith) (omega arith) is within e
 
 pub account_list_takes : (assets : ℕ) → TakesAll (account_list_at assets) account_list_bytes (AreAccounts assets)
 unfolding account_list_at
 account_list_takes assets c next accounts bytes e =
-    let t = chained_takes (field_at 4 (between 0 65536) form.TooMany) (λ n. accounts_at assets n None) (big_bytes 4) (flat_map account_bytes) IsCount (AreMany assets) length
+    let t = chained_takes (field_at 4 (between 0 65536) form.TooMany) (λ n. accounts_at assets n None) (big_bytes 4)
+    (flat_map account_bytes) IsCount (AreMany assets) length
     count_takes (λ n is. accounts_take assets n) (λ n xs is. is.number) c next accounts bytes e in
     (t.0, record { few = t.1.0; are = t.1.1.are; by_id = t.1.1.by_id })
 
@@ -161,5 +197,6 @@ pub account_list_again : (assets : ℕ) → ReadsAgain (account_list_at assets) 
 unfolding account_list_at
 account_list_again assets c accounts after is within e =
     let many : AreMany assets (length accounts) accounts = record { number = refl; are = is.are; by_id = is.by_id } in
-    chained_again (field_at 4 (between 0 65536) form.TooMany) (λ n. accounts_at assets n None) (big_bytes 4) (flat_map account_bytes) IsCount (AreMany assets) length
+    chained_again (field_at 4 (between 0 65536) form.TooMany) (λ n. accounts_at assets n None) (big_bytes 4)
+    (flat_map account_bytes) IsCount (AreMany assets) length
     count_again (λ n is. accounts_again assets n) c accounts after (is.few, many) within e

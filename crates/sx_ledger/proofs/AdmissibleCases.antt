@@ -32,13 +32,15 @@ all_paid = record {
   covered = covered;
 }
   where
-    covered : (account asset : ℕ) → debits (tx 1 1 (pay 2 0 100) ∷ []) account asset ≤ holding_of opening.accounts account asset
+    covered : (account asset : ℕ)
+        → debits (tx 1 1 (pay 2 0 100) ∷ []) account asset ≤ holding_of opening.accounts account asset
     covered account asset =
         elim (cases_Bool (1 == account)) [
           | inl own ↦ elim (cases_Bool (0 == asset)) [
             | inl first ↦
                 let is : 0 ≡ asset = eqb-true 0 asset first in
-                subst (λ (n : ℕ). debits (tx 1 1 (pay 2 0 100) ∷ []) account n ≤ holding_of opening.accounts account n) is (rw own (omega arith))
+                subst (λ (n : ℕ). debits (tx 1 1 (pay 2 0 100) ∷ [])
+                account n ≤ holding_of opening.accounts account n) is (rw own (omega arith))
             | inr other ↦ rw (own, other) (omega arith)
           ]
           | inr other ↦ rw other (omega arith)
@@ -63,7 +65,8 @@ module _ (parts : Parts) (few : length parts.offers ≤ 262144) (passes : static
 
 -- the last offer that there is room for, and one too many
 module _ (parts : Parts) (few : length parts.accounts ≤ 65536) (passes : static_of parts (tx 1 1 (sell_for 0 1 one 5)) ≡ Ok tt)
-    (covered : (account asset : ℕ) → debits (tx 1 1 (sell_for 0 1 one 5) ∷ []) account asset ≤ holding_of parts.accounts account asset) where
+    (covered : (account asset : ℕ)
+    → debits (tx 1 1 (sell_for 0 1 one 5) ∷ []) account asset ≤ holding_of parts.accounts account asset) where
   last_offer : length parts.offers ≡ 262143 → IsAdmissible parts (tx 1 1 (sell_for 0 1 one 5) ∷ [])
   unfolding IsDistinct
   last_offer room = record {

@@ -40,7 +40,8 @@ new_offers = refl
 
 -- what the words of the laws mean
 abbrev some_of_each : List Tx
-some_of_each = tx 1 4 (cancel 0 1 (2 ^ 25) 3) ∷ tx 1 6 (pay 2 1 3) ∷ tx 2 1 (sell_for 0 1 one 5) ∷ tx 2 2 (create 9) ∷ []
+some_of_each = tx 1 4 (cancel 0 1 (2 ^ 25) 3) ∷ tx 1 6 (pay 2 1 3) ∷ tx 2 1 (sell_for 0 1 one 5) ∷ tx 2 2 (create 9)
+    ∷ []
 
 sums : (debits some_of_each 1 1 ≡ 3) × (debits some_of_each 2 0 ≡ 5) × (debits some_of_each 2 1 ≡ 0)
     × (credits with_offer.offers some_of_each 1 0 ≡ 40) × (credits with_offer.offers some_of_each 2 1 ≡ 3)

@@ -45,8 +45,15 @@ module _ (parts : Parts) (txs : List Tx) (keeps : IsLedger parts) (in_range : Al
   few_accounts =
       let news = map (new_account parts txs) (created txs) in
       let olds = map (account_after parts txs) parts.accounts in
-      let is : length (accounts_after parts txs) ≡ length news + length olds = ap length (put_accounts_are news olds) ∙ length-put_all id_of nat_lt news olds in
-      omega (arith, is, length-map (created txs) (new_account parts txs), length-map parts.accounts (account_after parts txs), body.accounts_fit)
+      let is : length (accounts_after parts txs) ≡ length news + length olds = ap length (put_accounts_are news olds)
+      ∙ length-put_all id_of nat_lt news olds in
+      omega (
+        arith,
+        is,
+        length-map (created txs) (new_account parts txs),
+        length-map parts.accounts (account_after parts txs),
+        body.accounts_fit,
+      )
 
   accounts : All (IsAccount (assets_of parts)) (accounts_after parts txs)
   accounts k d lt =
@@ -59,7 +66,11 @@ module _ (parts : Parts) (txs : List Tx) (keeps : IsLedger parts) (in_range : Al
         used = shape.used;
         balances = shape.balances;
         in_range = All-from_get_or (λ balance. balance ≤ 2 ^ 62) account.balances 0
-            (λ asset below. omega (arith, get_or-le-sum_by (balance_at asset) after k d lt, totals asset (omega (arith, shape.balances))));
+            (λ asset below. omega (
+              arith,
+              get_or-le-sum_by (balance_at asset) after k d lt,
+              totals asset (omega (arith, shape.balances)),
+            ));
       }
 
   -- ---- offers
@@ -74,15 +85,20 @@ module _ (parts : Parts) (txs : List Tx) (keeps : IsLedger parts) (in_range : Al
       omega (arith, is, kept_few parts.offers txs, body.offers_fit)
 
   kept_are : All (IsOffer (assets_of parts) parts.accounts) (kept_offers parts.offers txs)
-  kept_are = All-filter (λ offer. not (list_any (same_key (key_of offer)) (cancelled txs))) (IsOffer (assets_of parts) parts.accounts) parts.offers keeps.offers
+  kept_are = All-filter (λ offer. not (list_any (same_key (key_of offer)) (cancelled txs)))
+      (IsOffer (assets_of parts) parts.accounts) parts.offers keeps.offers
 
   by_key : in_order key_before None (keys (offers_after parts txs)) ≡ true
   by_key =
-      let ordered = filter_in_order key_of key_before before_both (λ offer. not (list_any (same_key (key_of offer)) (cancelled txs))) None parts.offers keeps.by_key in
-      let whole = put_all_in_order key_of key_before (made txs) (kept_offers parts.offers txs) (made_apart parts keeps.by_id (kept_offers parts.offers txs) kept_are None txs body.ordered passing) ordered in
+      let ordered = filter_in_order key_of key_before before_both
+      (λ offer. not (list_any (same_key (key_of offer)) (cancelled txs))) None parts.offers keeps.by_key in
+      let whole = put_all_in_order key_of key_before (made txs) (kept_offers parts.offers txs)
+      (made_apart parts keeps.by_id (kept_offers parts.offers txs) kept_are None txs body.ordered passing)
+      ordered in
       rw offers_put whole
 
-  kept_offer : (offer : Offer) → IsOffer (assets_of parts) parts.accounts offer → IsOffer (assets_of parts) (accounts_after parts txs) offer
+  kept_offer : (offer : Offer) → IsOffer (assets_of parts) parts.accounts offer
+      → IsOffer (assets_of parts) (accounts_after parts txs) offer
   kept_offer offer is = record {
     sell = is.sell;
     buy = is.buy;
@@ -91,7 +107,8 @@ module _ (parts : Parts) (txs : List Tx) (keeps : IsLedger parts) (in_range : Al
     account = is.account;
     seq = is.seq;
     amount = is.amount;
-    owner = owner_after parts txs keeps in_range passing offer (owner_there parts.accounts offer is.owner) is.seq.0 (inl (owner_used parts.accounts keeps.by_id offer is.owner));
+    owner = owner_after parts txs keeps in_range passing offer (owner_there parts.accounts offer is.owner) is.seq.0
+        (inl (owner_used parts.accounts keeps.by_id offer is.owner));
   }
 
   all_used : AllByRecursion (λ tx. tx.seq ≤ greatest_number txs tx.account.0) txs
@@ -99,16 +116,21 @@ module _ (parts : Parts) (txs : List Tx) (keeps : IsLedger parts) (in_range : Al
       recursion_from_All (λ tx. tx.seq ≤ greatest_number txs tx.account.0) txs
       (λ k d lt. greatest_reaches txs (get_or txs k d).account.0 k d lt refl)
 
-  made_offers : (offers : List Offer) → AllByRecursion (IsMade parts txs) offers → AllByRecursion (IsOffer (assets_of parts) (accounts_after parts txs)) offers
+  made_offers : (offers : List Offer) → AllByRecursion (IsMade parts txs) offers
+      → AllByRecursion (IsOffer (assets_of parts) (accounts_after parts txs)) offers
   made_offers [] all = tt
-  made_offers (offer ∷ offers) all =
-      (all.0.fields (accounts_after parts txs) (owner_after parts txs keeps in_range passing offer all.0.there all.0.some (inr all.0.used)), made_offers offers all.1)
+  made_offers (offer ∷ offers) all = (
+    all.0.fields (accounts_after parts txs)
+        (owner_after parts txs keeps in_range passing offer all.0.there all.0.some (inr all.0.used)),
+    made_offers offers all.1,
+  )
 
   offers : All (IsOffer (assets_of parts) (accounts_after parts txs)) (offers_after parts txs)
   offers =
       All-from_recursion (IsOffer (assets_of parts) (accounts_after parts txs)) (offers_after parts txs)
       (subst (AllByRecursion (IsOffer (assets_of parts) (accounts_after parts txs))) (sym offers_put)
-      (all_put_all key_of key_before (IsOffer (assets_of parts) (accounts_after parts txs)) (made txs) (kept_offers parts.offers txs)
+      (all_put_all key_of key_before (IsOffer (assets_of parts) (accounts_after parts txs)) (made txs)
+      (kept_offers parts.offers txs)
       (made_offers (made txs) (all_made parts txs txs in_range passing all_used))
       (recursion_from_All (IsOffer (assets_of parts) (accounts_after parts txs)) (kept_offers parts.offers txs)
       (λ k d lt. kept_offer (get_or (kept_offers parts.offers txs) k d) (kept_are k d lt)))))

@@ -11,7 +11,11 @@ abbrev pub one : ℕ
 one = 2 ^ 24
 
 abbrev pub account : ℕ → ℕ → List ℕ → Account
-account id last balances = record { id = record { 0 = id }; window = record { last = last; used = 0 }; balances = balances }
+account id last balances = record {
+  id = record { 0 = id };
+  window = record { last = last; used = 0 };
+  balances = balances;
+}
 
 abbrev pub offer : ℕ → ℕ → ℕ → ℕ → ℕ → ℕ → Offer
 offer sell buy limit id seq amount =

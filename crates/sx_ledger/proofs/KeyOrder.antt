@@ -28,7 +28,8 @@ key_cmp_derived one other =
 
 -- the numbers of a key say which it is
 key_from : List ℕ → Key
-key_from (sell ∷ buy ∷ limit ∷ account ∷ seq ∷ []) = record { sell = sell; buy = buy; limit = limit; account = record { 0 = account }; seq = seq }
+key_from (sell ∷ buy ∷ limit ∷ account ∷ seq ∷ []) =
+    record { sell = sell; buy = buy; limit = limit; account = record { 0 = account }; seq = seq }
 key_from _ = record { sell = 0; buy = 0; limit = 0; account = record { 0 = 0 }; seq = 0 }
 
 pub same_key_is : (one other : Key) → same_key one other ≡ true → one ≡ other
@@ -72,4 +73,5 @@ swapped Greater Greater e other not_back = absurd cc
 -- of two keys that differ, one stands before the other
 pub before_or_after : (new key : Key) → (key ≡ new → ⊥) → key_before new key ≡ false → key_before key new ≡ true
 before_or_after new key differ not_before =
-    swapped (key_cmp key new) (key_cmp new key) (key_cmp_total.antisymm key new) (λ e. differ (equal_is key new e)) not_before
+    swapped (key_cmp key new) (key_cmp new key) (key_cmp_total.antisymm key new) (λ e. differ (equal_is key new e))
+    not_before

@@ -32,12 +32,15 @@ own_is account tx some =
 own_above : (account seq : ℕ) (tx : Tx) → own account tx < seq → is_use account seq tx ≡ false
 own_above account seq tx lt =
     elim (cases_Bool (tx.account.0 == account)) [
-      | inl is ↦ let below : tx.seq < seq = rw is at lt in and_right (tx.account.0 == account) (tx.seq == seq) (ne_eqb tx.seq seq (λ e. absurd (omega arith)))
+      | inl is ↦ let below : tx.seq < seq =
+          rw is at lt in and_right (tx.account.0 == account) (tx.seq == seq)
+          (ne_eqb tx.seq seq (λ e. absurd (omega arith)))
       | inr isnt ↦ and_left (tx.account.0 == account) (tx.seq == seq) isnt
     ]
 
 -- the greatest number, where there is one, is used
-greatest_used : (txs : List Tx) (account : ℕ) → greatest_number txs account ≢ 0 → uses txs account (greatest_number txs account) ≡ true
+greatest_used : (txs : List Tx) (account : ℕ) → greatest_number txs account ≢ 0
+    → uses txs account (greatest_number txs account) ≡ true
 greatest_used [] account some = absurd (some refl)
 greatest_used (tx ∷ txs) account some =
     let g = greatest_number txs account in
@@ -49,17 +52,20 @@ greatest_used (tx ∷ txs) account some =
       | inr le ↦
           let same : greatest_number (tx ∷ txs) account ≡ own account tx = omega arith in
           let first : is_use account (own account tx) tx ≡ true = own_is account tx (λ e. some (same ∙ e)) in
-          ap (uses (tx ∷ txs) account) same ∙ or_left (is_use account (own account tx) tx) (uses txs account (own account tx)) first
+          ap (uses (tx ∷ txs) account) same
+          ∙ or_left (is_use account (own account tx) tx) (uses txs account (own account tx)) first
     ]
 
 -- no greater one is used
 above_unused : (txs : List Tx) (account seq : ℕ) → greatest_number txs account < seq → uses txs account seq ≡ false
 above_unused [] account seq lt = refl
 above_unused (tx ∷ txs) account seq lt =
-    or_from (is_use account seq tx) (uses txs account seq) (own_above account seq tx (omega arith)) (above_unused txs account seq (omega arith))
+    or_from (is_use account seq tx) (uses txs account seq) (own_above account seq tx (omega arith))
+    (above_unused txs account seq (omega arith))
 
 -- a number that is used is in the window
-used_within : (txs : List Tx) (account last seq : ℕ) → InWindow txs account last → uses txs account seq ≡ true → (last < seq) × (seq ≤ last + 64)
+used_within : (txs : List Tx) (account last seq : ℕ) → InWindow txs account last → uses txs account seq ≡ true
+    → (last < seq) × (seq ≤ last + 64)
 used_within [] account last seq inside used = absurd cc
 used_within (tx ∷ txs) account last seq inside used =
     let Inside = λ (tx : Tx). tx.account.0 ≡ account → (last < tx.seq) × (tx.seq ≤ last + 64) in
@@ -67,7 +73,8 @@ used_within (tx ∷ txs) account last seq inside used =
       | inl here ↦
           let both = and_parts (tx.account.0 == account) (tx.seq == seq) here in
           let is : tx.seq ≡ seq = eqb-true tx.seq seq both.1 in
-          let within : (last < tx.seq) × (tx.seq ≤ last + 64) = All-head Inside tx txs inside (eqb-true tx.account.0 account both.0) in
+          let within : (last < tx.seq) × (tx.seq ≤ last + 64) =
+          All-head Inside tx txs inside (eqb-true tx.account.0 account both.0) in
           (omega arith, omega arith)
       | inr there ↦ used_within txs account last seq (All-tail Inside tx txs inside) there
     ]
@@ -84,7 +91,8 @@ used_below-lt txs account last (suc n) =
     ]
 
 -- where none is used from a place on, the map ends there
-used_below-ends : (txs : List Tx) (account last i n : ℕ) → ((k : ℕ) → i ≤ k → uses txs account (last + 1 + k) ≡ false) → i ≤ n → used_below txs account last n ≡ used_below txs account last i
+used_below-ends : (txs : List Tx) (account last i n : ℕ) → ((k : ℕ) → i ≤ k → uses txs account (last + 1 + k) ≡ false)
+    → i ≤ n → used_below txs account last n ≡ used_below txs account last i
 used_below-ends txs account last i zero none le = let same : i ≡ 0 = omega arith in rw same refl
 used_below-ends txs account last i (suc n) none le =
     elim (cases_lt n i) [
@@ -103,18 +111,25 @@ bit_unset : (map k : ℕ) → bit_at map k ≡ 0 → IsBitSet map k → ⊥
 bit_unset map k e set = set (and_pow map k ∙ ap (λ (b : ℕ). b * 2 ^ k) e ∙ zero-mul (2 ^ k))
 
 -- a map whose highest bit has this place
-highest_at : (window : Window) (map i : ℕ) → i < 64 → 2 ^ i ≤ map → map < 2 ^ suc i → Next 1 window map ≡ record { last = window.last + 1 + i; used = 0 }
+highest_at : (window : Window) (map i : ℕ) → i < 64 → 2 ^ i ≤ map → map < 2 ^ suc i
+    → Next 1 window map ≡ record { last = window.last + 1 + i; used = 0 }
 highest_at window map i lt low high =
     next_is window map i lt
-    (bit_set map i (ap (λ (q : ℕ). q % 2) (div-eq_of_lt-le {k = 1} (2 ^ i) (omega arith) (omega (arith, pow-suc 2 i)))))
+    (bit_set map i (ap (λ (q : ℕ). q % 2)
+    (div-eq_of_lt-le {k = 1} (2 ^ i) (omega arith) (omega (arith, pow-suc 2 i)))))
     (λ k above within. bit_unset map k (bit_at_above map (suc i) k high (omega arith)))
 
-next_at : (txs : List Tx) (account : ℕ) (window : Window) (i : ℕ) → i < 64 → uses txs account (window.last + 1 + i) ≡ true
-    → ((k : ℕ) → suc i ≤ k → uses txs account (window.last + 1 + k) ≡ false) → Next 1 window (used_numbers txs account window.last) ≡ record { last = window.last + 1 + i; used = 0 }
+next_at : (txs : List Tx) (account : ℕ) (window : Window) (i : ℕ) → i < 64
+    → uses txs account (window.last + 1 + i) ≡ true
+    → ((k : ℕ) → suc i ≤ k → uses txs account (window.last + 1 + k) ≡ false)
+    → Next 1 window (used_numbers txs account window.last) ≡ record { last = window.last + 1 + i; used = 0 }
 next_at txs account window i lt used unused =
-    let ends : used_below txs account window.last 64 ≡ used_below txs account window.last (suc i) = used_below-ends txs account window.last (suc i) 64 unused (omega arith) in
-    let top : used_below txs account window.last (suc i) ≡ 2 ^ i + used_below txs account window.last i = rw used refl in
-    let below : used_below txs account window.last (suc i) < 2 ^ suc i = used_below-lt txs account window.last (suc i) in
+    let ends : used_below txs account window.last 64 ≡ used_below txs account window.last (suc i) =
+    used_below-ends txs account window.last (suc i) 64 unused (omega arith) in
+    let top : used_below txs account window.last (suc i) ≡ 2 ^ i + used_below txs account window.last i =
+    rw used refl in
+    let below : used_below txs account window.last (suc i) < 2 ^ suc i =
+    used_below-lt txs account window.last (suc i) in
     let low : 2 ^ i ≤ used_below txs account window.last (suc i) = omega arith in
     ap (Next 1 window) ends ∙ highest_at window (used_below txs account window.last (suc i)) i lt low below
 
@@ -122,10 +137,13 @@ next_at txs account window i lt used unused =
 none_used : (txs : List Tx) (account : ℕ) (window : Window) → window.used ≡ 0 → greatest_number txs account ≡ 0
     → Next 1 window (used_numbers txs account window.last) ≡ record { last = window.last; used = 0 }
 none_used txs account window unused none =
-    let map : used_below txs account window.last 64 ≡ 0 = used_below-ends txs account window.last 0 64 (λ k le. above_unused txs account (window.last + 1 + k) (omega arith)) (omega arith) in
+    let map : used_below txs account window.last 64 ≡ 0 =
+    used_below-ends txs account window.last 0 64
+    (λ k le. above_unused txs account (window.last + 1 + k) (omega arith)) (omega arith) in
     ap (Next 1 window) map ∙ ap (λ (n : ℕ). record { last = window.last; used = n }) unused
 
-some_used : (txs : List Tx) (account : ℕ) (window : Window) → InWindow txs account window.last → greatest_number txs account ≢ 0
+some_used : (txs : List Tx) (account : ℕ) (window : Window) → InWindow txs account window.last
+    → greatest_number txs account ≢ 0
     → Next 1 window (used_numbers txs account window.last) ≡ record { last = greatest_number txs account; used = 0 }
 some_used txs account window inside some =
     let g = greatest_number txs account in
@@ -133,7 +151,8 @@ some_used txs account window inside some =
     let within : (window.last < g) × (g ≤ window.last + 64) = used_within txs account window.last g inside used in
     let place : window.last + 1 + (g - window.last - 1) ≡ g = omega arith in
     let at : uses txs account (window.last + 1 + (g - window.last - 1)) ≡ true = ap (uses txs account) place ∙ used in
-    next_at txs account window (g - window.last - 1) (omega arith) at (λ k above. above_unused txs account (window.last + 1 + k) (omega arith))
+    next_at txs account window (g - window.last - 1) (omega arith) at
+    (λ k above. above_unused txs account (window.last + 1 + k) (omega arith))
     ∙ ap (λ (n : ℕ). record { last = n; used = 0 }) place
 
 pub last_is_greatest : LastIsGreatest

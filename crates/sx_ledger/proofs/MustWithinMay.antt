@@ -16,7 +16,8 @@ sum_by-stricter f p q stricter [] = omega arith
 sum_by-stricter f p q stricter (x ∷ xs) =
     let rest : sum_by f (filter p xs) ≤ sum_by f (filter q xs) = sum_by-stricter f p q stricter xs in
     elim (cases_Bool (p x)) [
-      | inl keeps ↦ rw (keeps, stricter x keeps) (omega (arith, sum_by-cons f x (filter p xs), sum_by-cons f x (filter q xs)))
+      | inl keeps ↦ rw (keeps, stricter x keeps)
+          (omega (arith, sum_by-cons f x (filter p xs), sum_by-cons f x (filter q xs)))
       | inr drops ↦ elim (cases_Bool (q x)) [
         | inl keeps ↦ rw (drops, keeps) (omega (arith, sum_by-cons f x (filter q xs)))
         | inr too ↦ rw (drops, too) rest

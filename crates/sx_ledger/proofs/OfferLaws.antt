@@ -29,7 +29,8 @@ use Rattle.sx_ledger.proofs.EntriesInOrder.{IsTaken, each_takes, each_again}
 -- ---- the fields of an offer, the last first
 
 abbrev made : ℕ → ℕ → ℕ → ℕ → ℕ → ℕ → Offer
-made sell buy limit account seq amount = record { sell = sell; buy = buy; limit = limit; account = record { 0 = account }; seq = seq; amount = amount }
+made sell buy limit account seq amount =
+    record { sell = sell; buy = buy; limit = limit; account = record { 0 = account }; seq = seq; amount = amount }
 
 abbrev from_account : ℕ → ℕ → ℕ → Reading Offer
 from_account sell buy limit = three_at id_at seq_at amount_at (made sell buy limit)
@@ -60,15 +61,19 @@ record IsFrom (sell buy limit : ℕ) (offer : Offer) : Type 0 where
 
 account_takes : (sell buy limit : ℕ) → TakesAll (from_account sell buy limit) account_text (IsFrom sell buy limit)
 account_takes sell buy limit c next offer bytes e =
-    let t = three_take id_at seq_at amount_at (made sell buy limit) (big_bytes 8) (big_bytes 8) (big_bytes 8) IsId IsSeq IsAmount id_takes seq_takes amount_takes c next offer bytes e in
-    let is : IsFrom sell buy limit (made sell buy limit t.0 t.1 t.2) = record { sold = refl; bought = refl; limited = refl; account = t.5; seq = t.6; amount = t.7 } in
+    let t = three_take id_at seq_at amount_at (made sell buy limit) (big_bytes 8) (big_bytes 8) (big_bytes 8)
+    IsId IsSeq IsAmount id_takes seq_takes amount_takes c next offer bytes e in
+    let is : IsFrom sell buy limit (made sell buy limit t.0 t.1 t.2) =
+    record { sold = refl; bought = refl; limited = refl; account = t.5; seq = t.6; amount = t.7 } in
     subst (λ (o : Offer). Takes c (account_text o) next × IsFrom sell buy limit o) t.3 (t.4, is)
 
 account_again : (sell buy limit : ℕ) → ReadsAgain (from_account sell buy limit) account_text (IsFrom sell buy limit)
 account_again sell buy limit c offer after is within e =
-    let read = three_again id_at seq_at amount_at (made sell buy limit) (big_bytes 8) (big_bytes 8) (big_bytes 8) IsId IsSeq IsAmount id_again seq_again amount_again
+    let read = three_again id_at seq_at amount_at (made sell buy limit) (big_bytes 8) (big_bytes 8) (big_bytes 8)
+    IsId IsSeq IsAmount id_again seq_again amount_again
     c offer.account.0 offer.seq offer.amount after is.account is.seq is.amount within e in
-    let same : made sell buy limit offer.account.0 offer.seq offer.amount ≡ offer = rw (is.sold, is.bought, is.limited) refl in
+    let same : made sell buy limit offer.account.0 offer.seq offer.amount ≡ offer =
+    rw (is.sold, is.bought, is.limited) refl in
     subst (λ (o : Offer). Again (from_account sell buy limit c) c o after) same read
 
 abbrev IsBought : ℕ → ℕ → ℕ → Type 0
@@ -82,81 +87,126 @@ FromBuy assets sell offer = IsBought assets sell offer.buy × FromLimit sell off
 
 limit_takes_on : (sell buy : ℕ) → TakesAll (from_limit sell buy) limit_text (FromLimit sell buy)
 limit_takes_on sell buy =
-    chained_takes limit_at (from_account sell buy) (big_bytes 8) account_text IsLimit (IsFrom sell buy) (λ offer. offer.limit)
+    chained_takes limit_at (from_account sell buy) (big_bytes 8) account_text IsLimit (IsFrom sell buy)
+    (λ offer. offer.limit)
     limit_takes (λ limit is. account_takes sell buy limit) (λ limit offer is. is.limited)
 
 limit_again_on : (sell buy : ℕ) → ReadsAgain (from_limit sell buy) limit_text (FromLimit sell buy)
 limit_again_on sell buy =
-    chained_again limit_at (from_account sell buy) (big_bytes 8) account_text IsLimit (IsFrom sell buy) (λ offer. offer.limit)
+    chained_again limit_at (from_account sell buy) (big_bytes 8) account_text IsLimit (IsFrom sell buy)
+    (λ offer. offer.limit)
     limit_again (λ limit is. account_again sell buy limit)
 
 module _ (assets : ℕ) (some : 1 ≤ assets) (few : assets ≤ 32) where
   asset_takes : TakesAll (sell_at assets) (big_bytes 1) (λ sell. sell < assets)
-  asset_takes c next x bytes e = let t = range_takes 1 0 (assets - 1) form.AssetRange c next x bytes e in (t.0, omega (arith, t.2))
+  asset_takes c next x bytes e = let t = range_takes 1 0 (assets - 1) form.AssetRange c next x bytes e in
+      (t.0, omega (arith, t.2))
 
   asset_again : ReadsAgain (sell_at assets) (big_bytes 1) (λ sell. sell < assets)
-  asset_again c x after is within e = range_again 1 0 (assets - 1) form.AssetRange c x after (omega arith) (omega arith) (omega (arith, is)) within e
+  asset_again c x after is within e =
+      range_again 1 0 (assets - 1) form.AssetRange c x after (omega arith) (omega arith) (omega (arith, is)) within e
 
   buy_takes : (sell : ℕ) → TakesAll (buy_at assets sell) (big_bytes 1) (IsBought assets sell)
   buy_takes sell c next x bytes e =
-      let g = guard_takes (sell_at assets c) (λ buy. not (buy == sell)) (record { at = c.place; fault = form.AssetRange }) (x, next) e in
+      let g = guard_takes (sell_at assets c) (λ buy. not (buy == sell))
+      (record { at = c.place; fault = form.AssetRange }) (x, next) e in
       let t = asset_takes c next x bytes g.0 in
       (t.0, (t.1, eqb-false x sell (not-true (x == sell) g.1)))
 
   buy_again : (sell : ℕ) → ReadsAgain (buy_at assets sell) (big_bytes 1) (IsBought assets sell)
   buy_again sell c x after is within e =
-      guard_again (sell_at assets c) (λ buy. not (buy == sell)) (record { at = c.place; fault = form.AssetRange }) c x after
+      guard_again (sell_at assets c) (λ buy. not (buy == sell)) (record { at = c.place; fault = form.AssetRange })
+      c x after
       (not_from_false (x == sell) (ne_eqb x sell is.1)) (asset_again c x after is.0 within e)
 
   buy_takes_on : (sell : ℕ) → TakesAll (from_buy assets sell) buy_text (FromBuy assets sell)
   buy_takes_on sell =
-      chained_takes (buy_at assets sell) (from_limit sell) (big_bytes 1) limit_text (IsBought assets sell) (FromLimit sell) (λ offer. offer.buy)
+      chained_takes (buy_at assets sell) (from_limit sell) (big_bytes 1) limit_text (IsBought assets sell)
+      (FromLimit sell) (λ offer. offer.buy)
       (buy_takes sell) (λ buy is. limit_takes_on sell buy) (λ buy offer is. is.1.bought)
 
   buy_again_on : (sell : ℕ) → ReadsAgain (from_buy assets sell) buy_text (FromBuy assets sell)
   buy_again_on sell =
-      chained_again (buy_at assets sell) (from_limit sell) (big_bytes 1) limit_text (IsBought assets sell) (FromLimit sell) (λ offer. offer.buy)
+      chained_again (buy_at assets sell) (from_limit sell) (big_bytes 1) limit_text (IsBought assets sell)
+      (FromLimit sell) (λ offer. offer.buy)
       (buy_again sell) (λ buy is. limit_again_on sell buy)
 
-  offer_takes : (accounts : List Account) (c next : Cursor) (offer : Offer) → AreBytes c.bytes → offer_at assets c ≡ Ok (offer, next) → has_owner accounts offer ≡ true
+  offer_takes : (accounts : List Account) (c next : Cursor) (offer : Offer) → AreBytes c.bytes
+      → offer_at assets c ≡ Ok (offer, next) → has_owner accounts offer ≡ true
       → Takes c (offer_bytes offer) next × IsOffer assets accounts offer
   unfolding offer_at
   offer_takes accounts c next offer bytes e owned =
-      let t = chained_takes (sell_at assets) (from_buy assets) (big_bytes 1) buy_text (λ sell. sell < assets) (FromBuy assets) (λ o. o.sell)
+      let t = chained_takes (sell_at assets) (from_buy assets) (big_bytes 1) buy_text (λ sell. sell < assets)
+      (FromBuy assets) (λ o. o.sell)
       asset_takes (λ sell is. buy_takes_on sell) (λ sell o is. is.1.1.sold) c next offer bytes e in
       let bought = t.1.1 in
-      let from = bought.1.1 in
-      (t.0, record { sell = t.1.0; buy = bought.0.0; differ = bought.0.1; limit = bought.1.0; account = from.account; seq = from.seq; amount = from.amount; owner = owned })
+      let from = bought.1.1 in (
+        t.0,
+        record {
+          sell = t.1.0;
+          buy = bought.0.0;
+          differ = bought.0.1;
+          limit = bought.1.0;
+          account = from.account;
+          seq = from.seq;
+          amount = from.amount;
+          owner = owned;
+        },
+      )
 
-  offer_again : (accounts : List Account) (c : Cursor) (offer : Offer) (after : List ℕ) → IsOffer assets accounts offer → c.place ≤ length c.bytes
+  offer_again : (accounts : List Account) (c : Cursor) (offer : Offer) (after : List ℕ)
+      → IsOffer assets accounts offer → c.place ≤ length c.bytes
       → rest c ≡ offer_bytes offer ++ after → Again (offer_at assets c) c offer after
   unfolding offer_at
   offer_again accounts c offer after is within e =
-      let from : IsFrom offer.sell offer.buy offer.limit offer = record { sold = refl; bought = refl; limited = refl; account = is.account; seq = is.seq; amount = is.amount } in
-      chained_again (sell_at assets) (from_buy assets) (big_bytes 1) buy_text (λ sell. sell < assets) (FromBuy assets) (λ o. o.sell)
-      asset_again (λ sell sold. buy_again_on sell) c offer after (is.sell, ((is.buy, is.differ), (is.limit, from))) within e
+      let from : IsFrom offer.sell offer.buy offer.limit offer =
+      record {
+        sold = refl;
+        bought = refl;
+        limited = refl;
+        account = is.account;
+        seq = is.seq;
+        amount = is.amount;
+      } in
+      chained_again (sell_at assets) (from_buy assets) (big_bytes 1) buy_text (λ sell. sell < assets) (FromBuy assets)
+      (λ o. o.sell)
+      asset_again (λ sell sold. buy_again_on sell) c offer after (is.sell, ((is.buy, is.differ), (is.limit, from)))
+      within e
 
   -- ---- offers by key
 
-  next_takes : (accounts : List Account) (before : Option Key) (c next : Cursor) (offer : Offer) → AreBytes c.bytes → next_offer_at accounts assets before c ≡ Ok (offer, next)
+  next_takes : (accounts : List Account) (before : Option Key) (c next : Cursor) (offer : Offer) → AreBytes c.bytes
+      → next_offer_at accounts assets before c ≡ Ok (offer, next)
       → IsTaken offer_bytes key_of key_before (IsOffer assets accounts) before c next offer
   unfolding next_offer_at
   next_takes accounts before c next offer bytes e =
       let misplaced : FormFault = record { at = c.place; fault = form.Order } in
       let unowned : FormFault = record { at = c.place; fault = form.Owner } in
-      let a = bind_ok (offer_at assets c) (λ o. guarded (may_follow key_before before (key_of o.0)) o misplaced >>= λ p. guarded (has_owner accounts p.0) p unowned) (offer, next) e in
-      let g = guard_takes (guarded (may_follow key_before before (key_of a.0.0)) a.0 misplaced) (has_owner accounts) unowned (offer, next) a.2 in
+      let a = bind_ok (offer_at assets c)
+      (λ o. guarded (may_follow key_before before (key_of o.0)) o misplaced >>= λ p.
+      guarded (has_owner accounts p.0) p unowned) (offer, next) e in
+      let g = guard_takes (guarded (may_follow key_before before (key_of a.0.0)) a.0 misplaced) (has_owner accounts)
+      unowned (offer, next) a.2 in
       let f = guard_ok (may_follow key_before before (key_of a.0.0)) a.0 (offer, next) misplaced g.0 in
-      let follows : may_follow key_before before (key_of offer) ≡ true = subst (λ (o : Offer × Cursor). may_follow key_before before (key_of o.0) ≡ true) f.1 f.0 in
+      let follows : may_follow key_before before (key_of offer) ≡ true =
+      subst (λ (o : Offer × Cursor). may_follow key_before before (key_of o.0) ≡ true) f.1 f.0 in
       let t = offer_takes accounts c next offer bytes (a.1 ∙ ap (λ (o : Offer × Cursor). Ok o) f.1) g.1 in
       (t.0, t.1, follows)
 
-  next_again : (accounts : List Account) (before : Option Key) (c : Cursor) (offer : Offer) (after : List ℕ) → IsOffer assets accounts offer → may_follow key_before before (key_of offer) ≡ true
-      → c.place ≤ length c.bytes → rest c ≡ offer_bytes offer ++ after → Again (next_offer_at accounts assets before c) c offer after
+  next_again : (accounts : List Account) (before : Option Key) (c : Cursor) (offer : Offer) (after : List ℕ)
+      → IsOffer assets accounts offer → may_follow key_before before (key_of offer) ≡ true
+      → c.place ≤ length c.bytes → rest c ≡ offer_bytes offer ++ after
+      → Again (next_offer_at accounts assets before c) c offer after
   unfolding next_offer_at
   next_again accounts before c offer after is follows within e =
       let one = offer_again accounts c offer after is within e in
-      record { next = one.next; is = rw one.is (rw follows (rw is.owner refl)); rest_is = one.rest_is; same = one.same; within = one.within }
+      record {
+        next = one.next;
+        is = rw one.is (rw follows (rw is.owner refl));
+        rest_is = one.rest_is;
+        same = one.same;
+        within = one.within;
+      }
 
   -- n offers
   record SoMany (accounts : List Account) (n : ℕ) (offers : List Offer) : Type 0 where
@@ -164,14 +214,18 @@ module _ (assets : ℕ) (some : 1 ≤ assets) (few : assets ≤ 32) where
     are : All (IsOffer assets accounts) offers
     by_key : IsTrue (in_order key_before None (keys offers))
 
-  offers_take : (accounts : List Account) (n : ℕ) → TakesAll (offers_at accounts assets n None) (flat_map offer_bytes) (SoMany accounts n)
+  offers_take : (accounts : List Account) (n : ℕ)
+      → TakesAll (offers_at accounts assets n None) (flat_map offer_bytes) (SoMany accounts n)
   offers_take accounts n c next offers bytes e =
-      let t = each_takes (next_offer_at accounts assets) key_of offer_bytes key_before (IsOffer assets accounts) (next_takes accounts) n None c next offers bytes e in
+      let t = each_takes (next_offer_at accounts assets) key_of offer_bytes key_before (IsOffer assets accounts)
+      (next_takes accounts) n None c next offers bytes e in
       (t.0, record { number = sym t.1; are = All-from_recursion (IsOffer assets accounts) offers t.2; by_key = t.3 })
 
-  offers_again : (accounts : List Account) (n : ℕ) → ReadsAgain (offers_at accounts assets n None) (flat_map offer_bytes) (SoMany accounts n)
+  offers_again : (accounts : List Account) (n : ℕ)
+      → ReadsAgain (offers_at accounts assets n None) (flat_map offer_bytes) (SoMany accounts n)
   offers_again accounts n c offers after is within e =
-      let read = each_again (next_offer_at accounts assets) key_of offer_bytes key_before (IsOffer assets accounts) (next_again accounts) offers None c after
+      let read = each_again (next_offer_at accounts assets) key_of offer_bytes key_before (IsOffer assets accounts)
+      (next_again accounts) offers None c after
       (recursion_from_All (IsOffer assets accounts) offers is.are) is.by_key within e in
       subst (λ (k : ℕ). Again (offers_at accounts assets k None c) c offers after) (sym is.number) read
 
@@ -193,19 +247,23 @@ count_takes : TakesAll (field_at 4 (between 0 262144) form.TooMany) (big_bytes 4
 count_takes c next x bytes e = let t = range_takes 4 0 262144 form.TooMany c next x bytes e in (t.0, t.2)
 
 count_again : ReadsAgain (field_at 4 (between 0 262144) form.TooMany) (big_bytes 4) IsCount
-count_again c x after is within e = range_again 4 0 262144 form.TooMany c x after (omega arith) (omega arith) is within e
+count_again c x after is within e =
+    range_again 4 0 262144 form.TooMany c x after (omega arith) (omega arith) is within e
 
 module _ (assets : ℕ) (some : 1 ≤ assets) (few : assets ≤ 32) (accounts : List Account) where
   pub offer_list_takes : TakesAll (offer_list_at accounts assets) offer_list_bytes (AreOffers assets accounts)
   unfolding offer_list_at
   offer_list_takes c next offers bytes e =
-      let t = chained_takes (field_at 4 (between 0 262144) form.TooMany) (λ n. offers_at accounts assets n None) (big_bytes 4) (flat_map offer_bytes) IsCount (SoMany assets some few accounts) length
+      let t = chained_takes (field_at 4 (between 0 262144) form.TooMany) (λ n. offers_at accounts assets n None)
+      (big_bytes 4) (flat_map offer_bytes) IsCount (SoMany assets some few accounts) length
       count_takes (λ n is. offers_take assets some few accounts n) (λ n xs is. is.number) c next offers bytes e in
       (t.0, record { few = t.1.0; are = t.1.1.are; by_key = t.1.1.by_key })
 
   pub offer_list_again : ReadsAgain (offer_list_at accounts assets) offer_list_bytes (AreOffers assets accounts)
   unfolding offer_list_at
   offer_list_again c offers after is within e =
-      let many : SoMany assets some few accounts (length offers) offers = record { number = refl; are = is.are; by_key = is.by_key } in
-      chained_again (field_at 4 (between 0 262144) form.TooMany) (λ n. offers_at accounts assets n None) (big_bytes 4) (flat_map offer_bytes) IsCount (SoMany assets some few accounts) length
+      let many : SoMany assets some few accounts (length offers) offers =
+      record { number = refl; are = is.are; by_key = is.by_key } in
+      chained_again (field_at 4 (between 0 262144) form.TooMany) (λ n. offers_at accounts assets n None) (big_bytes 4)
+      (flat_map offer_bytes) IsCount (SoMany assets some few accounts) length
       count_again (λ n is. offers_again assets some few accounts n) c offers after (is.few, many) within e

@@ -35,8 +35,10 @@ record Later (tx other : Tx) : Type 0 where
 
 later : (tx other : Tx) → tx_before tx other ≡ true → Later tx other
 later tx other before =
-    elim (or_cases (nat_lt tx.account.0 other.account.0) ((tx.account.0 == other.account.0) && nat_lt tx.seq other.seq) before) [
-      | inl less ↦ let lt : tx.account.0 < other.account.0 = ltb-true _ _ less in record { account = omega arith; seq = λ same. absurd (omega arith) }
+    elim (or_cases (nat_lt tx.account.0 other.account.0)
+    ((tx.account.0 == other.account.0) && nat_lt tx.seq other.seq) before) [
+      | inl less ↦ let lt : tx.account.0 < other.account.0 =
+          ltb-true _ _ less in record { account = omega arith; seq = λ same. absurd (omega arith) }
       | inr same ↦
           let both = and_parts (tx.account.0 == other.account.0) (nat_lt tx.seq other.seq) same in
           let equal : tx.account.0 ≡ other.account.0 = eqb-true _ _ both.0 in
@@ -55,7 +57,8 @@ later_both x y z one two =
           omega (arith, one.seq to_y, two.seq to_z);
     }
 
-all_later : (x tx : Tx) (txs : List Tx) → Later x tx → in_order tx_before (Some tx) txs ≡ true → AllByRecursion (Later x) txs
+all_later : (x tx : Tx) (txs : List Tx) → Later x tx → in_order tx_before (Some tx) txs ≡ true
+    → AllByRecursion (Later x) txs
 all_later x tx [] first ordered = tt
 all_later x tx (next ∷ txs) first ordered =
     let both = and_parts (tx_before tx next) (in_order tx_before (Some next) txs) ordered in
@@ -77,18 +80,22 @@ Fresh account seq offer = offer.account.0 ≡ account → offer.seq ≢ seq
 
 apart_from_fresh : (new offer : Offer) → Fresh new.account.0 new.seq offer → Apart key_of key_before new offer
 apart_from_fresh new offer fresh =
-    before_or_after (key_of new) (key_of offer) (λ same. fresh (ap (λ (key : Key). key.account.0) same) (ap (λ (key : Key). key.seq) same))
+    before_or_after (key_of new) (key_of offer)
+    (λ same. fresh (ap (λ (key : Key). key.account.0) same) (ap (λ (key : Key). key.seq) same))
 
-all_apart : (new : Offer) (offers : List Offer) → AllByRecursion (Fresh new.account.0 new.seq) offers → AllByRecursion (Apart key_of key_before new) offers
+all_apart : (new : Offer) (offers : List Offer) → AllByRecursion (Fresh new.account.0 new.seq) offers
+    → AllByRecursion (Apart key_of key_before new) offers
 all_apart new [] fresh = tt
 all_apart new (offer ∷ offers) fresh = (apart_from_fresh new offer fresh.0, all_apart new offers fresh.1)
 
 -- offers that are made later have greater sequence numbers
-made_later : (tx : Tx) (txs : List Tx) → AllByRecursion (Later tx) txs → AllByRecursion (Fresh tx.account.0 tx.seq) (made txs)
+made_later : (tx : Tx) (txs : List Tx) → AllByRecursion (Later tx) txs
+    → AllByRecursion (Fresh tx.account.0 tx.seq) (made txs)
 made_later tx [] all = tt
 made_later tx (other ∷ txs) all = one other.kind (made txs) (made_later tx txs all.1)
   where
-    one : (k : Kind) (rest : List Offer) → AllByRecursion (Fresh tx.account.0 tx.seq) rest → AllByRecursion (Fresh tx.account.0 tx.seq) (cons_option (made_by other k) rest)
+    one : (k : Kind) (rest : List Offer) → AllByRecursion (Fresh tx.account.0 tx.seq) rest
+        → AllByRecursion (Fresh tx.account.0 tx.seq) (cons_option (made_by other k) rest)
     one (kind.Pay to asset amount) rest fresh = fresh
     one (kind.Create id) rest fresh = fresh
     one (kind.Offer sell buy limit amount) rest fresh = (λ same e. absurd (omega (arith, all.0.seq same)), fresh)
@@ -96,51 +103,76 @@ made_later tx (other ∷ txs) all = one other.kind (made txs) (made_later tx txs
 
 -- ---- owners
 
-pub owner_there : (accounts : List Account) (offer : Offer) → has_owner accounts offer ≡ true → has_account accounts offer.account.0 ≡ true
+pub owner_there : (accounts : List Account) (offer : Offer) → has_owner accounts offer ≡ true
+    → has_account accounts offer.account.0 ≡ true
 owner_there [] offer owned = absurd cc
 owner_there (account ∷ accounts) offer owned =
-    elim (or_cases ((account.id.0 == offer.account.0) && nat_le offer.seq account.window.last) (has_owner accounts offer) owned) [
-      | inl here ↦ or_left (account.id.0 == offer.account.0) (has_account accounts offer.account.0) (and_parts (account.id.0 == offer.account.0) (nat_le offer.seq account.window.last) here).0
-      | inr there ↦ or_right (account.id.0 == offer.account.0) (has_account accounts offer.account.0) (owner_there accounts offer there)
+    elim (or_cases ((account.id.0 == offer.account.0) && nat_le offer.seq account.window.last)
+    (has_owner accounts offer) owned) [
+      | inl here ↦ or_left (account.id.0 == offer.account.0) (has_account accounts offer.account.0)
+          (and_parts (account.id.0 == offer.account.0) (nat_le offer.seq account.window.last) here).0
+      | inr there ↦ or_right (account.id.0 == offer.account.0) (has_account accounts offer.account.0)
+          (owner_there accounts offer there)
     ]
 
 -- the sequence number of an offer is one that its account has used
-pub owner_used : (accounts : List Account) → IsStrictlyIncreasing (ids accounts) → (offer : Offer) → has_owner accounts offer ≡ true → offer.seq ≤ last_of accounts offer.account.0
+pub owner_used : (accounts : List Account) → IsStrictlyIncreasing (ids accounts) → (offer : Offer)
+    → has_owner accounts offer ≡ true → offer.seq ≤ last_of accounts offer.account.0
 owner_used accounts up offer owned =
     let at = stands accounts offer.account.0 (owner_there accounts offer owned) in
     let found = entry_at id_of accounts at.place offer.account.0 at.there in
-    let last : last_of accounts offer.account.0 ≡ found.0.window.last = ap (last_of accounts) found.2 ∙ last_is accounts at.place found.0 found.1 up in
-    let used : offer.seq ≤ found.0.window.last = leb-true _ _ (sym (owner_is accounts at.place found.0 found.1 up offer found.2) ∙ owned) in
+    let last : last_of accounts offer.account.0 ≡ found.0.window.last = ap (last_of accounts) found.2
+    ∙ last_is accounts at.place found.0 found.1 up in
+    let used : offer.seq ≤ found.0.window.last =
+    leb-true _ _ (sym (owner_is accounts at.place found.0 found.1 up offer found.2) ∙ owned) in
     omega arith
 
 module _ (parts : Parts) (up : IsStrictlyIncreasing (ids parts.accounts)) where
   -- an offer that was there is of a sequence number that its account has used
-  kept_fresh : (account seq : ℕ) → last_of parts.accounts account < seq → (offers : List Offer) → All (IsOffer (assets_of parts) parts.accounts) offers
+  kept_fresh : (account seq : ℕ) → last_of parts.accounts account < seq → (offers : List Offer)
+      → All (IsOffer (assets_of parts) parts.accounts) offers
       → AllByRecursion (Fresh account seq) offers
   kept_fresh account seq above [] are = tt
   kept_fresh account seq above (offer ∷ offers) are =
       let here = All-head (IsOffer (assets_of parts) parts.accounts) offer offers are in
       let used = owner_used parts.accounts up offer here.owner in
       let fresh : Fresh account seq offer = λ same e.
-      let at : offer.seq ≤ last_of parts.accounts account = subst (λ (id : ℕ). offer.seq ≤ last_of parts.accounts id) same used in
-      absurd (omega arith) in
-      (fresh, kept_fresh account seq above offers (All-tail (IsOffer (assets_of parts) parts.accounts) offer offers are))
+      let at : offer.seq ≤ last_of parts.accounts account =
+      subst (λ (id : ℕ). offer.seq ≤ last_of parts.accounts id) same used in
+      absurd (omega arith) in (
+        fresh,
+        kept_fresh account seq above offers
+            (All-tail (IsOffer (assets_of parts) parts.accounts) offer offers are),
+      )
 
-  pub made_apart : (kept : List Offer) → All (IsOffer (assets_of parts) parts.accounts) kept → (previous : Option Tx) (txs : List Tx) → in_order tx_before previous txs ≡ true
+  pub made_apart : (kept : List Offer) → All (IsOffer (assets_of parts) parts.accounts) kept
+      → (previous : Option Tx) (txs : List Tx) → in_order tx_before previous txs ≡ true
       → All (Passes parts) txs → AreApart key_of key_before (made txs) kept
   made_apart kept are previous [] ordered passing = tt
   made_apart kept are previous (tx ∷ txs) ordered passing =
       let both = and_parts (may_follow tx_before previous tx) (in_order tx_before (Some tx) txs) ordered in
-      one tx.kind (made txs) both.1 (made_later tx txs (others_later tx txs both.1)) (made_apart kept are (Some tx) txs both.1 (All-tail (Passes parts) tx txs passing))
+      one tx.kind (made txs) both.1 (made_later tx txs (others_later tx txs both.1))
+      (made_apart kept are (Some tx) txs both.1 (All-tail (Passes parts) tx txs passing))
     where
-      one : (k : Kind) (rest : List Offer) → in_order tx_before (Some tx) txs ≡ true → AllByRecursion (Fresh tx.account.0 tx.seq) rest → AreApart key_of key_before rest kept
+      one : (k : Kind) (rest : List Offer) → in_order tx_before (Some tx) txs ≡ true
+          → AllByRecursion (Fresh tx.account.0 tx.seq) rest → AreApart key_of key_before rest kept
           → AreApart key_of key_before (cons_option (made_by tx k) rest) kept
       one (kind.Pay to asset amount) rest ordered fresh apart = apart
       one (kind.Create id) rest ordered fresh apart = apart
       one (kind.Offer sell buy limit amount) rest ordered fresh apart =
-          let new : Offer = record { sell = sell; buy = buy; limit = limit; account = tx.account; seq = tx.seq; amount = amount } in
-          let here = All-head (Passes parts) tx txs passing in
-          (all_apart new rest fresh, all_apart new kept (kept_fresh tx.account.0 tx.seq (leb-false _ _ here.above) kept are), apart)
+          let new : Offer = record {
+            sell = sell;
+            buy = buy;
+            limit = limit;
+            account = tx.account;
+            seq = tx.seq;
+            amount = amount;
+          } in
+          let here = All-head (Passes parts) tx txs passing in (
+            all_apart new rest fresh,
+            all_apart new kept (kept_fresh tx.account.0 tx.seq (leb-false _ _ here.above) kept are),
+            apart,
+          )
       one (kind.Cancel sell buy limit seq) rest ordered fresh apart = apart
 
 -- ---- the fields of new offers
@@ -152,14 +184,18 @@ pub record IsMade (parts : Parts) (all : List Tx) (offer : Offer) : Type 0 where
   pub used : offer.seq ≤ greatest_number all offer.account.0
   pub fields : (accounts : List Account) → has_owner accounts offer ≡ true → IsOffer (assets_of parts) accounts offer
 
-pub all_made : (parts : Parts) (all txs : List Tx) → All IsTx txs → All (Passes parts) txs → AllByRecursion (λ tx. tx.seq ≤ greatest_number all tx.account.0) txs → AllByRecursion (IsMade parts all) (made txs)
+pub all_made : (parts : Parts) (all txs : List Tx) → All IsTx txs → All (Passes parts) txs
+    → AllByRecursion (λ tx. tx.seq ≤ greatest_number all tx.account.0) txs
+    → AllByRecursion (IsMade parts all) (made txs)
 all_made parts all [] in_range passing used = tt
 all_made parts all (tx ∷ txs) in_range passing used =
     let is = All-head IsTx tx txs in_range in
     let here = All-head (Passes parts) tx txs passing in
-    one tx.kind (made txs) is.kind here.assets here.differ (all_made parts all txs (All-tail IsTx tx txs in_range) (All-tail (Passes parts) tx txs passing) used.1)
+    one tx.kind (made txs) is.kind here.assets here.differ
+    (all_made parts all txs (All-tail IsTx tx txs in_range) (All-tail (Passes parts) tx txs passing) used.1)
   where
-    one : (k : Kind) (rest : List Offer) → IsKind k → names_beyond (assets_of parts) k ≡ false → is_same_pair k ≡ false
+    one : (k : Kind) (rest : List Offer) → IsKind k → names_beyond (assets_of parts) k ≡ false
+        → is_same_pair k ≡ false
         → AllByRecursion (IsMade parts all) rest → AllByRecursion (IsMade parts all) (cons_option (made_by tx k) rest)
     one (kind.Pay to asset amount) rest is assets differ made = made
     one (kind.Create id) rest is assets differ made = made

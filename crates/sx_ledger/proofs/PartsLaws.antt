@@ -21,10 +21,18 @@ abbrev pub head_of : Parts → Head
 head_of parts = (parts.version, parts.height, parts.prices, parts.rounding)
 
 abbrev made : Head → List Account → List Offer → Parts
-made head accounts offers = record { version = head.0; height = head.1; prices = head.2; rounding = head.3; accounts = accounts; offers = offers }
+made head accounts offers = record {
+  version = head.0;
+  height = head.1;
+  prices = head.2;
+  rounding = head.3;
+  accounts = accounts;
+  offers = offers;
+}
 
 abbrev from_accounts : Head → List Account → Reading Parts
-from_accounts head accounts c = offer_list_at accounts (length head.2) c >>= λ offers. Ok (made head accounts offers.0, offers.1)
+from_accounts head accounts c =
+    offer_list_at accounts (length head.2) c >>= λ offers. Ok (made head accounts offers.0, offers.1)
 
 abbrev from_head : Head → Reading Parts
 from_head head c = account_list_at (length head.2) c >>= λ accounts. from_accounts head accounts.0 accounts.1
@@ -44,31 +52,45 @@ record FromAccounts (head : Head) (accounts : List Account) (parts : Parts) : Ty
 abbrev FromHead : Head → Parts → Type 0
 FromHead head parts = AreAccounts (length head.2) parts.accounts × FromAccounts head parts.accounts parts
 
-offers_take : (head : Head) (accounts : List Account) → IsHead head → TakesAll (from_accounts head accounts) offers_text (FromAccounts head accounts)
+offers_take : (head : Head) (accounts : List Account) → IsHead head
+    → TakesAll (from_accounts head accounts) offers_text (FromAccounts head accounts)
 offers_take head accounts is c next parts bytes e =
-    let a = bind_ok (offer_list_at accounts (length head.2) c) (λ o. Ok (made head accounts o.0, o.1)) (parts, next) e in
+    let a = bind_ok (offer_list_at accounts (length head.2) c) (λ o. Ok (made head accounts o.0, o.1)) (parts, next)
+    e in
     let t = offer_list_takes (length head.2) is.1.1.0.0 is.1.1.0.1 accounts c a.0.1 a.0.0 bytes a.1 in
     let read : Parts × Cursor = (made head accounts a.0.0, a.0.1) in
     let from : FromAccounts head accounts read.0 = record { head_is = refl; accounts_are = refl; offers_are = t.1 } in
     let same : read ≡ (parts, next) = cc in
-    subst (λ (y : Parts × Cursor). Takes c (offers_text y.0) y.1 × FromAccounts head accounts y.0) {x = read} {y = (parts, next)} same (t.0, from)
+    subst (λ (y : Parts × Cursor). Takes c (offers_text y.0) y.1 × FromAccounts head accounts y.0) {x = read} {y =
+    (parts, next)} same (t.0, from)
 
-offers_again : (head : Head) (accounts : List Account) → IsHead head → ReadsAgain (from_accounts head accounts) offers_text (FromAccounts head accounts)
+offers_again : (head : Head) (accounts : List Account) → IsHead head
+    → ReadsAgain (from_accounts head accounts) offers_text (FromAccounts head accounts)
 offers_again head accounts is c parts after from within e =
-    let read = offer_list_again (length head.2) is.1.1.0.0 is.1.1.0.1 accounts c parts.offers after from.offers_are within e in
+    let read = offer_list_again (length head.2)
+    is.1.1.0.0 is.1.1.0.1 accounts c parts.offers after from.offers_are within e in
     let again : Again (from_accounts head accounts c) c (made head accounts parts.offers) after =
-    record { next = read.next; is = rw read.is refl; rest_is = read.rest_is; same = read.same; within = read.within } in
+    record {
+      next = read.next;
+      is = rw read.is refl;
+      rest_is = read.rest_is;
+      same = read.same;
+      within = read.within;
+    } in
     let same : made head accounts parts.offers ≡ parts = rw (from.head_is, from.accounts_are) refl in
     subst (λ (p : Parts). Again (from_accounts head accounts c) c p after) same again
 
 accounts_take : (head : Head) → IsHead head → TakesAll (from_head head) accounts_text (FromHead head)
 accounts_take head is =
-    chained_takes (account_list_at (length head.2)) (from_accounts head) account_list_bytes offers_text (AreAccounts (length head.2)) (FromAccounts head) (λ parts. parts.accounts)
-    (account_list_takes (length head.2)) (λ accounts are. offers_take head accounts is) (λ accounts parts from. from.accounts_are)
+    chained_takes (account_list_at (length head.2)) (from_accounts head) account_list_bytes offers_text
+    (AreAccounts (length head.2)) (FromAccounts head) (λ parts. parts.accounts)
+    (account_list_takes (length head.2)) (λ accounts are. offers_take head accounts is)
+    (λ accounts parts from. from.accounts_are)
 
 accounts_again : (head : Head) → IsHead head → ReadsAgain (from_head head) accounts_text (FromHead head)
 accounts_again head is =
-    chained_again (account_list_at (length head.2)) (from_accounts head) account_list_bytes offers_text (AreAccounts (length head.2)) (FromAccounts head) (λ parts. parts.accounts)
+    chained_again (account_list_at (length head.2)) (from_accounts head) account_list_bytes offers_text
+    (AreAccounts (length head.2)) (FromAccounts head) (λ parts. parts.accounts)
     (account_list_again (length head.2)) (λ accounts are. offers_again head accounts is)
 
 -- ---- all of them
@@ -81,26 +103,32 @@ pub record IsRead (parts : Parts) : Type 0 where
 
 text_is : (parts : Parts) → head_bytes (head_of parts) ++ accounts_text parts ≡ state_bytes parts
 text_is parts =
-    ap (λ (t : List ℕ). big_bytes 1 parts.version ++ (big_bytes 8 parts.height ++ (big_bytes 1 (length parts.prices) ++ t)))
+    ap (λ (t : List ℕ). big_bytes 1 parts.version ++
+    (big_bytes 8 parts.height ++ (big_bytes 1 (length parts.prices) ++ t)))
     (append_assoc (flat_map (big_bytes 8) parts.prices) (flat_map (big_bytes 8) parts.rounding) (accounts_text parts))
 
 pub parts_take : TakesAll parts_at state_bytes IsRead
 unfolding parts_at
 parts_take c next parts bytes e =
-    let t = chained_takes head_at from_head head_bytes accounts_text IsHead FromHead head_of head_takes accounts_take (λ head ps from. from.1.head_is) c next parts bytes e in
+    let t = chained_takes head_at from_head head_bytes accounts_text IsHead FromHead head_of head_takes accounts_take
+    (λ head ps from. from.1.head_is) c next parts bytes e in
     let text : Takes c (state_bytes parts) next = subst (λ (s : List ℕ). Takes c s next) (text_is parts) t.0 in
     (text, record { head_is = t.1.0; accounts_are = t.1.1.0; offers_are = t.1.1.1.offers_are })
 
 pub parts_again : ReadsAgain parts_at state_bytes IsRead
 unfolding parts_at
 parts_again c parts after is within e =
-    let from : FromAccounts (head_of parts) parts.accounts parts = record { head_is = refl; accounts_are = refl; offers_are = is.offers_are } in
-    let text : rest c ≡ (head_bytes (head_of parts) ++ accounts_text parts) ++ after = subst (λ (s : List ℕ). rest c ≡ s ++ after) (sym (text_is parts)) e in
-    chained_again head_at from_head head_bytes accounts_text IsHead FromHead head_of head_again accounts_again c parts after (is.head_is, (is.accounts_are, from)) within text
+    let from : FromAccounts (head_of parts) parts.accounts parts =
+    record { head_is = refl; accounts_are = refl; offers_are = is.offers_are } in
+    let text : rest c ≡ (head_bytes (head_of parts) ++ accounts_text parts) ++ after =
+    subst (λ (s : List ℕ). rest c ≡ s ++ after) (sym (text_is parts)) e in
+    chained_again head_at from_head head_bytes accounts_text IsHead FromHead head_of head_again accounts_again c parts
+    after (is.head_is, (is.accounts_are, from)) within text
 
 -- ---- what is read and has totals in range is a ledger, and back
 
-pub ledger_from_read : (parts : Parts) → IsRead parts → ((asset : ℕ) → asset < assets_of parts → total_of parts asset ≤ 2 ^ 62) → IsLedger parts
+pub ledger_from_read : (parts : Parts) → IsRead parts
+    → ((asset : ℕ) → asset < assets_of parts → total_of parts asset ≤ 2 ^ 62) → IsLedger parts
 ledger_from_read parts is totals =
     let head = is.head_is.1.1.1 in
     record {

@@ -32,10 +32,12 @@ abbrev at_end : Parts × Cursor → Result Parts FormFault
 at_end read = cond (eqb (left read.1) 0) (Ok read.0) (Err (record { at = read.1.place; fault = form.Rest }))
 
 -- a payload that is decoded is the encoding of what it gives
-pub state_takes : (bytes : List ℕ) (parts : Parts) → AreBytes bytes → state_at bytes ≡ Ok parts → IsLedger parts × (bytes ≡ state_bytes parts)
+pub state_takes : (bytes : List ℕ) (parts : Parts) → AreBytes bytes → state_at bytes ≡ Ok parts → IsLedger parts
+    × (bytes ≡ state_bytes parts)
 unfolding state_at
 state_takes bytes parts are e =
-    let a = bind_ok (parts_at (start_of bytes)) (λ x. guarded (totals_fit x.0 (assets_of x.0)) x over >>= at_end) parts e in
+    let a = bind_ok (parts_at (start_of bytes)) (λ x. guarded (totals_fit x.0 (assets_of x.0)) x over >>= at_end)
+    parts e in
     let b = bind_ok (guarded (totals_fit a.0.0 (assets_of a.0.0)) a.0 over) at_end parts a.2 in
     let fit = guard_ok (totals_fit a.0.0 (assets_of a.0.0)) a.0 b.0 over b.1 in
     let whole = guard_ok (eqb (left b.0.1) 0) b.0.0 parts (record { at = b.0.1.place; fault = form.Rest }) b.2 in
@@ -43,7 +45,8 @@ state_takes bytes parts are e =
     let same : a.0.0 ≡ parts = ap (λ (y : Parts × Cursor). y.0) fit.1 ∙ whole.1 in
     let ended : left a.0.1 ≡ 0 = ap (λ (y : Parts × Cursor). left y.1) fit.1 ∙ eqb-true (left b.0.1) 0 whole.0 in
     let none : rest a.0.1 ≡ [] = nil_from_length (rest a.0.1) (length-rest a.0.1 ∙ ended) in
-    let text : bytes ≡ state_bytes a.0.0 = t.0.parts ∙ ap (λ (r : List ℕ). state_bytes a.0.0 ++ r) none ∙ append-nil (state_bytes a.0.0) in
+    let text : bytes ≡ state_bytes a.0.0 = t.0.parts ∙ ap (λ (r : List ℕ). state_bytes a.0.0 ++ r) none
+    ∙ append-nil (state_bytes a.0.0) in
     let is : IsLedger a.0.0 = ledger_from_read a.0.0 t.1 (totals_in_range a.0.0 (assets_of a.0.0) fit.0) in
     subst (λ (p : Parts). IsLedger p × (bytes ≡ state_bytes p)) same (is, text)
 
@@ -52,7 +55,8 @@ pub state_again : (parts : Parts) → IsLedger parts → state_at (state_bytes p
 unfolding state_at
 state_again parts is =
     let bytes = state_bytes parts in
-    let read = parts_again (start_of bytes) parts [] (read_from_ledger parts is) (omega arith) (sym (append-nil bytes)) in
+    let read = parts_again (start_of bytes) parts [] (read_from_ledger parts is) (omega arith)
+    (sym (append-nil bytes)) in
     let fit : totals_fit parts (assets_of parts) ≡ true = totals_fit_from parts (assets_of parts) is.totals in
     let ended : left read.next ≡ 0 = sym (length-rest read.next) ∙ ap length read.rest_is in
     rw read.is (rw fit (rw (eq-eqb (left read.next) 0 ended) refl))

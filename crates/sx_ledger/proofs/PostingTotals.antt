@@ -38,18 +38,25 @@ counts_once : (xs : List ℕ) → IsStrictlyIncreasing xs → (id : ℕ) → Sta
     → sum_by (λ x. cond ((id == x) && test) units 0) xs ≡ cond test units 0
 counts_once xs up id stands test units =
     sum_by-one (λ x. cond ((id == x) && test) units 0) xs stands.place id stands.there
-    (λ q y there other. rw (ne_eqb id y (λ same. other (same_place xs up q stands.place id (there ∙ ap (λ (z : ℕ). Some z) (sym same)) stands.there))) refl)
+    (λ q y there other. rw
+    (ne_eqb id y (λ same.
+    other (same_place xs up q stands.place id (there ∙ ap (λ (z : ℕ). Some z) (sym same)) stands.there)))
+    refl)
     ∙ rw (eq-eqb id id refl) refl
 
-posting_in_all : (accounts : List Account) → IsStrictlyIncreasing (ids accounts) → (posting : Option Posting) (asset : ℕ) → IsThere accounts posting
+posting_in_all : (accounts : List Account) → IsStrictlyIncreasing (ids accounts)
+    → (posting : Option Posting) (asset : ℕ) → IsThere accounts posting
     → sum_by (λ id. posted posting id asset) (ids accounts) ≡ units_of posting asset
 posting_in_all accounts up None asset there = sum_by-none (λ _. 0) (ids accounts) (λ _ _ _. refl)
 posting_in_all accounts up (Some posting) asset there =
-    counts_once (ids accounts) up posting.account (stands accounts posting.account there) (posting.asset == asset) posting.units
+    counts_once (ids accounts) up posting.account (stands accounts posting.account there) (posting.asset == asset)
+    posting.units
 
-postings_in_all : (accounts : List Account) → IsStrictlyIncreasing (ids accounts) → (posting : Tx → Option Posting) (asset : ℕ) (txs : List Tx)
+postings_in_all : (accounts : List Account) → IsStrictlyIncreasing (ids accounts)
+    → (posting : Tx → Option Posting) (asset : ℕ) (txs : List Tx)
     → All (λ tx. IsThere accounts (posting tx)) txs
-    → sum_by (λ id. sum_by (λ tx. posted (posting tx) id asset) txs) (ids accounts) ≡ sum_by (λ tx. units_of (posting tx) asset) txs
+    → sum_by (λ id. sum_by (λ tx. posted (posting tx) id asset) txs) (ids accounts)
+    ≡ sum_by (λ tx. units_of (posting tx) asset) txs
 postings_in_all accounts up posting asset [] there = sum_by-none (λ _. 0) (ids accounts) (λ _ _ _. refl)
 postings_in_all accounts up posting asset (tx ∷ txs) there =
     let xs = ids accounts in
@@ -59,40 +66,55 @@ postings_in_all accounts up posting asset (tx ∷ txs) there =
     postings_in_all accounts up posting asset txs (All-tail (λ tx. IsThere accounts (posting tx)) tx txs there) in
     let first : sum_by one xs ≡ units_of (posting tx) asset =
     posting_in_all accounts up (posting tx) asset (All-head (λ tx. IsThere accounts (posting tx)) tx txs there) in
-    sum_by-same (λ id. sum_by (λ tx. posted (posting tx) id asset) (tx ∷ txs)) (λ id. one id + more id) xs (λ id. sum_by-cons (λ tx. posted (posting tx) id asset) tx txs)
+    sum_by-same (λ id. sum_by (λ tx. posted (posting tx) id asset) (tx ∷ txs)) (λ id. one id + more id) xs
+    (λ id. sum_by-cons (λ tx. posted (posting tx) id asset) tx txs)
     ∙ sum_by-add one more xs ∙ ap₂ ◌+◌ first rest ∙ sym (sum_by-cons (λ tx. units_of (posting tx) asset) tx txs)
 
-pub debits_in_all : (accounts : List Account) → IsStrictlyIncreasing (ids accounts) → (asset : ℕ) (txs : List Tx) → All (λ tx. IsThere accounts (debit tx)) txs
+pub debits_in_all : (accounts : List Account) → IsStrictlyIncreasing (ids accounts) → (asset : ℕ) (txs : List Tx)
+    → All (λ tx. IsThere accounts (debit tx)) txs
     → sum_by (λ id. debits txs id asset) (ids accounts) ≡ sum_by (λ tx. units_of (debit tx) asset) txs
 debits_in_all accounts up asset txs there =
-    sum_by-same (λ id. debits txs id asset) (λ id. sum_by (λ tx. posted (debit tx) id asset) txs) (ids accounts) (λ id. debits_sum id asset txs)
+    sum_by-same (λ id. debits txs id asset) (λ id. sum_by (λ tx. posted (debit tx) id asset) txs) (ids accounts)
+    (λ id. debits_sum id asset txs)
     ∙ postings_in_all accounts up debit asset txs there
 
-pub credits_in_all : (accounts : List Account) → IsStrictlyIncreasing (ids accounts) → (offers : List Offer) (asset : ℕ) (txs : List Tx)
+pub credits_in_all : (accounts : List Account) → IsStrictlyIncreasing (ids accounts)
+    → (offers : List Offer) (asset : ℕ) (txs : List Tx)
     → All (λ tx. IsThere accounts (credit offers tx)) txs
     → sum_by (λ id. credits offers txs id asset) (ids accounts) ≡ sum_by (λ tx. units_of (credit offers tx) asset) txs
 credits_in_all accounts up offers asset txs there =
-    sum_by-same (λ id. credits offers txs id asset) (λ id. sum_by (λ tx. posted (credit offers tx) id asset) txs) (ids accounts) (λ id. credits_sum offers id asset txs)
+    sum_by-same (λ id. credits offers txs id asset) (λ id. sum_by (λ tx. posted (credit offers tx) id asset) txs)
+    (ids accounts) (λ id. credits_sum offers id asset txs)
     ∙ postings_in_all accounts up (credit offers) asset txs there
 
 -- ---- postings at accounts that are not there
 
-units_elsewhere : (accounts : List Account) (posting : Option Posting) (id asset : ℕ) → has_account accounts id ≡ false → IsThere accounts posting → posted posting id asset ≡ 0
+units_elsewhere : (accounts : List Account) (posting : Option Posting) (id asset : ℕ)
+    → has_account accounts id ≡ false → IsThere accounts posting → posted posting id asset ≡ 0
 units_elsewhere accounts None id asset absent there = refl
 units_elsewhere accounts (Some posting) id asset absent there =
-    let apart : (posting.account == id) ≡ false = ne_eqb posting.account id (λ e. both_ways (has_account accounts id) absent (ap (has_account accounts) (sym e) ∙ there)) in
-    cond-false ((posting.account == id) && (posting.asset == asset)) posting.units 0 (and_left (posting.account == id) (posting.asset == asset) apart)
+    let apart : (posting.account == id) ≡ false =
+    ne_eqb posting.account id (λ e. both_ways (has_account accounts id) absent (ap (has_account accounts) (sym e)
+    ∙ there)) in
+    cond-false ((posting.account == id) && (posting.asset == asset)) posting.units 0
+    (and_left (posting.account == id) (posting.asset == asset) apart)
 
-pub credits_elsewhere : (accounts : List Account) (offers : List Offer) (id asset : ℕ) (txs : List Tx) → has_account accounts id ≡ false
+pub credits_elsewhere : (accounts : List Account) (offers : List Offer) (id asset : ℕ) (txs : List Tx)
+    → has_account accounts id ≡ false
     → All (λ tx. IsThere accounts (credit offers tx)) txs → credits offers txs id asset ≡ 0
 credits_elsewhere accounts offers id asset [] absent there = refl
 credits_elsewhere accounts offers id asset (tx ∷ txs) absent there =
     let P = λ (tx : Tx). IsThere accounts (credit offers tx) in
-    omega (arith, units_elsewhere accounts (credit offers tx) id asset absent (All-head P tx txs there), credits_elsewhere accounts offers id asset txs absent (All-tail P tx txs there))
+    omega (
+      arith,
+      units_elsewhere accounts (credit offers tx) id asset absent (All-head P tx txs there),
+      credits_elsewhere accounts offers id asset txs absent (All-tail P tx txs there),
+    )
 
 -- ---- what passes
 
-none_holds : (reasons : List (Bool × Static)) → first_holding reasons ≡ Ok tt → AllByRecursion (λ reason. reason.0 ≡ false) reasons
+none_holds : (reasons : List (Bool × Static)) → first_holding reasons ≡ Ok tt
+    → AllByRecursion (λ reason. reason.0 ≡ false) reasons
 none_holds [] passes = tt
 none_holds (reason ∷ reasons) passes =
     elim (cases_Bool reason.0) [
@@ -122,27 +144,33 @@ passes parts tx e =
       new = none.1.1.1.1.1.1.0;
     }
 
-debit_there : (accounts : List Account) (by : ℕ) (k : Kind) → has_account accounts by ≡ true → IsThere accounts (debit_of by k)
+debit_there : (accounts : List Account) (by : ℕ) (k : Kind) → has_account accounts by ≡ true
+    → IsThere accounts (debit_of by k)
 debit_there accounts by (kind.Pay to asset amount) own = own
 debit_there accounts by (kind.Create id) own = tt
 debit_there accounts by (kind.Offer sell buy limit amount) own = own
 debit_there accounts by (kind.Cancel sell buy limit seq) own = tt
 
-credit_there : (accounts : List Account) (offers : List Offer) (by : ℕ) (k : Kind) → has_account accounts by ≡ true → pays_unknown accounts k ≡ false → IsThere accounts (credit_of offers by k)
+credit_there : (accounts : List Account) (offers : List Offer) (by : ℕ) (k : Kind) → has_account accounts by ≡ true
+    → pays_unknown accounts k ≡ false → IsThere accounts (credit_of offers by k)
 credit_there accounts offers by (kind.Pay to asset amount) own payee = not-false (has_account accounts to.0) payee
 credit_there accounts offers by (kind.Create id) own payee = tt
 credit_there accounts offers by (kind.Offer sell buy limit amount) own payee = tt
 credit_there accounts offers by (kind.Cancel sell buy limit seq) own payee = own
 
-pub debits_there : (parts : Parts) (txs : List Tx) → All (Passes parts) txs → All (λ tx. IsThere parts.accounts (debit tx)) txs
+pub debits_there : (parts : Parts) (txs : List Tx) → All (Passes parts) txs
+    → All (λ tx. IsThere parts.accounts (debit tx)) txs
 debits_there parts txs all k d lt = let at = all k d lt in debit_there parts.accounts _ _ at.own
 
-pub credits_there : (parts : Parts) (txs : List Tx) → All (Passes parts) txs → All (λ tx. IsThere parts.accounts (credit parts.offers tx)) txs
-credits_there parts txs all k d lt = let at = all k d lt in credit_there parts.accounts parts.offers _ _ at.own at.payee
+pub credits_there : (parts : Parts) (txs : List Tx) → All (Passes parts) txs
+    → All (λ tx. IsThere parts.accounts (credit parts.offers tx)) txs
+credits_there parts txs all k d lt = let at =
+    all k d lt in credit_there parts.accounts parts.offers _ _ at.own at.payee
 
 -- ---- accounts that are created
 
-one_absent : (accounts : List Account) (k : Kind) (rest : List ℕ) → creates_known accounts k ≡ false → AllByRecursion (λ id. has_account accounts id ≡ false) rest
+one_absent : (accounts : List Account) (k : Kind) (rest : List ℕ) → creates_known accounts k ≡ false
+    → AllByRecursion (λ id. has_account accounts id ≡ false) rest
     → AllByRecursion (λ id. has_account accounts id ≡ false) (cons_option (created_by k) rest)
 one_absent accounts (kind.Pay to asset amount) rest new all = all
 one_absent accounts (kind.Create id) rest new all = (new, all)
@@ -150,8 +178,10 @@ one_absent accounts (kind.Offer sell buy limit amount) rest new all = all
 one_absent accounts (kind.Cancel sell buy limit seq) rest new all = all
 
 -- they were not there
-pub created_absent : (parts : Parts) (txs : List Tx) → All (Passes parts) txs → AllByRecursion (λ id. has_account parts.accounts id ≡ false) (created txs)
+pub created_absent : (parts : Parts) (txs : List Tx) → All (Passes parts) txs
+    → AllByRecursion (λ id. has_account parts.accounts id ≡ false) (created txs)
 created_absent parts [] all = tt
 created_absent parts (tx ∷ txs) all =
     let here = All-head (Passes parts) tx txs all in
-    one_absent parts.accounts tx.kind (created txs) here.new (created_absent parts txs (All-tail (Passes parts) tx txs all))
+    one_absent parts.accounts tx.kind (created txs) here.new
+    (created_absent parts txs (All-tail (Passes parts) tx txs all))

@@ -12,7 +12,8 @@ use Rattle.std.proofs.lemmas.List.{get_or_default}
 use Rattle.std.proofs.lemmas.Option.{slice_get-get_or}
 
 -- along numbers that rise, a later one is not below an earlier one
-pub rises_far : (xs : List ℕ) → IsStrictlyIncreasing xs → (i k : ℕ) → i + k < length xs → get_or xs i 0 ≤ get_or xs (i + k) 0
+pub rises_far : (xs : List ℕ) → IsStrictlyIncreasing xs → (i k : ℕ) → i + k < length xs
+    → get_or xs i 0 ≤ get_or xs (i + k) 0
 rises_far xs up i zero lt = rw (add-zero i) (omega arith)
 rises_far xs up i (suc k) lt =
     let before : get_or xs i 0 ≤ get_or xs (i + k) 0 = rises_far xs up i k (omega arith) in
@@ -42,7 +43,8 @@ module _ (xs : List ℕ) (up : IsStrictlyIncreasing xs) (x : ℕ) where
       let is : get_or xs k 0 ≡ x = get_or_default xs k 0 x below ∙ here in
       let parts = parted comparisons_rise in
       elim (cases_lt k at) [
-        | inl lt ↦ let less : get_or xs k 0 < x = ranked _ x _ (sym (parts.0 k 0 (omega arith) lt)) in absurd (omega arith)
+        | inl lt ↦ let less : get_or xs k 0 < x = ranked _ x _ (sym (parts.0 k 0 (omega arith) lt)) in
+            absurd (omega arith)
         | inr ge ↦ let more : x < get_or xs k 0 = ranked _ x _ (sym (parts.1 k 0 ge below)) in absurd (omega arith)
       ]
 

@@ -12,7 +12,8 @@ use Rattle.sx_ledger.proofs.Lookup.{mark_is, last_is, is_known, is_unknown}
 use Rattle.sx_tx.specs.declared.tx.Tx.{Tx}
 
 module _ (parts : Parts) (tx : Tx) where
-  pub not_there : (Contains (ids parts.accounts) tx.account.0 → ⊥) → Err UnknownAccount ≡ first_holding (take 3 (static_list parts tx))
+  pub not_there : (Contains (ids parts.accounts) tx.account.0 → ⊥)
+      → Err UnknownAccount ≡ first_holding (take 3 (static_list parts tx))
   not_there absent = rw (is_unknown parts.accounts tx.account.0 absent) refl
 
   module _ (place : ℕ) (entry : Account) (up : IsStrictlyIncreasing (ids parts.accounts)) (found : slice_get (ids parts.accounts) place ≡ Some tx.account.0) (at : slice_get parts.accounts place ≡ Some entry) where
@@ -21,14 +22,29 @@ module _ (parts : Parts) (tx : Tx) where
         let same = mark_is (λ (account : Account). account.id.0) parts.accounts place tx.account.0 entry at found in
         ap (last_of parts.accounts) same ∙ last_is parts.accounts place entry at up
 
-    pub inside : entry.window.last < tx.seq → tx.seq ≤ entry.window.last + 64 → Ok tt ≡ first_holding (take 3 (static_list parts tx))
+    pub inside : entry.window.last < tx.seq → tx.seq ≤ entry.window.last + 64
+        → Ok tt ≡ first_holding (take 3 (static_list parts tx))
     inside after within =
-        rw (is_known parts.accounts place tx.account.0 found, last_used, lt-leb tx.seq entry.window.last after, le-ltb (entry.window.last + 64) tx.seq within) refl
+        rw (
+          is_known parts.accounts place tx.account.0 found,
+          last_used,
+          lt-leb tx.seq entry.window.last after,
+          le-ltb (entry.window.last + 64) tx.seq within,
+        ) refl
 
     pub behind : tx.seq ≤ entry.window.last → Err SeqBehind ≡ first_holding (take 3 (static_list parts tx))
-    behind before = rw (is_known parts.accounts place tx.account.0 found, last_used, le-leb tx.seq entry.window.last before) refl
+    behind before = rw (
+      is_known parts.accounts place tx.account.0 found,
+      last_used,
+      le-leb tx.seq entry.window.last before,
+    ) refl
 
     pub beyond : entry.window.last + 64 < tx.seq → Err SeqBeyond ≡ first_holding (take 3 (static_list parts tx))
     beyond past =
         let after : entry.window.last < tx.seq = omega arith in
-        rw (is_known parts.accounts place tx.account.0 found, last_used, lt-leb tx.seq entry.window.last after, lt-ltb (entry.window.last + 64) tx.seq past) refl
+        rw (
+          is_known parts.accounts place tx.account.0 found,
+          last_used,
+          lt-leb tx.seq entry.window.last after,
+          lt-ltb (entry.window.last + 64) tx.seq past,
+        ) refl

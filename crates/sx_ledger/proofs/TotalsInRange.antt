@@ -10,7 +10,8 @@ use Rattle.sx_ledger.specs.Ledger.{total_of}
 use Rattle.sx_ledger.specs.Decoding.{totals_fit}
 
 -- totals that fit are in range, and back
-pub totals_in_range : (parts : Parts) (n : ℕ) → totals_fit parts n ≡ true → (asset : ℕ) → asset < n → total_of parts asset ≤ 2 ^ 62
+pub totals_in_range : (parts : Parts) (n : ℕ) → totals_fit parts n ≡ true → (asset : ℕ) → asset < n
+    → total_of parts asset ≤ 2 ^ 62
 unfolding totals_fit
 totals_in_range parts zero fit asset lt = absurd (omega arith)
 totals_in_range parts (suc n) fit asset lt =
@@ -20,10 +21,12 @@ totals_in_range parts (suc n) fit asset lt =
       | inr above ↦ let same : asset ≡ n = omega arith in rw same (leb-true _ _ both.1)
     ]
 
-pub totals_fit_from : (parts : Parts) (n : ℕ) → ((asset : ℕ) → asset < n → total_of parts asset ≤ 2 ^ 62) → totals_fit parts n ≡ true
+pub totals_fit_from : (parts : Parts) (n : ℕ) → ((asset : ℕ) → asset < n → total_of parts asset ≤ 2 ^ 62)
+    → totals_fit parts n ≡ true
 unfolding totals_fit
 totals_fit_from parts zero each = refl
-totals_fit_from parts (suc n) each = and_from _ _ (totals_fit_from parts n (λ asset lt. each asset (omega arith))) (le-leb _ _ (each n (omega arith)))
+totals_fit_from parts (suc n) each =
+    and_from _ _ (totals_fit_from parts n (λ asset lt. each asset (omega arith))) (le-leb _ _ (each n (omega arith)))
 
 same_tests : (one other : Bool) → (one ≡ true → other ≡ true) → (other ≡ true → one ≡ true) → one ≡ other
 same_tests true other first second = sym (first refl)
@@ -31,14 +34,16 @@ same_tests false true first second = second refl
 same_tests false false first second = refl
 
 -- a list of the totals of all assets fits where each of them does
-pub totals_fit_is : (parts : Parts) (totals : List ℕ) (n : ℕ) → length totals ≡ n → ((asset : ℕ) → asset < n → slice_index totals asset ≡ total_of parts asset)
+pub totals_fit_is : (parts : Parts) (totals : List ℕ) (n : ℕ) → length totals ≡ n
+    → ((asset : ℕ) → asset < n → slice_index totals asset ≡ total_of parts asset)
     → list_all (λ total. nat_le total (2 ^ 62)) totals ≡ totals_fit parts n
 totals_fit_is parts totals n as_many are =
     let fits : ℕ → Bool = λ total. nat_le total (2 ^ 62) in
     same_tests (list_all fits totals) (totals_fit parts n)
     (λ all. totals_fit_from parts n (λ asset lt.
     let here : asset < length totals = omega arith in
-    let le : slice_index totals asset ≤ 2 ^ 62 = leb-true (slice_index totals asset) (2 ^ 62) (AllPass-from_list_all fits totals all asset 0 here) in
+    let le : slice_index totals asset ≤ 2 ^ 62 =
+    leb-true (slice_index totals asset) (2 ^ 62) (AllPass-from_list_all fits totals all asset 0 here) in
     omega (arith, are asset lt)))
     (λ fit. list_all-from_AllPass fits totals (λ asset d here.
     let same : get_or totals asset d ≡ get_or totals asset 0 = get_or_default totals asset d 0 here in

@@ -21,7 +21,8 @@ three_two = 3 * 2 ^ 20 ∷ 2 * 2 ^ 20 ∷ []
 
 -- at the rate 1 with μ 2 ^ -10: above it, at it, just above its part that must trade, and at that part
 abbrev limits : List Offer
-limits = offer 0 1 16777217 1 1 1 ∷ offer 0 1 16777216 1 2 2 ∷ offer 0 1 16760833 1 3 4 ∷ offer 0 1 16760832 1 4 8 ∷ []
+limits = offer 0 1 16777217 1 1 1 ∷ offer 0 1 16777216 1 2 2 ∷ offer 0 1 16760833 1 3 4 ∷ offer 0 1 16760832 1 4
+    8 ∷ []
 
 limit_bounds : (low_of ones 10 false limits 0 1 ≡ 8 * one) × (high_of ones limits 0 1 ≡ 14 * one)
     × (low_of ones 10 true limits 0 1 ≡ 0) × (high_of ones limits 1 0 ≡ 0) × (high_of ones limits 0 2 ≡ 0)
@@ -62,7 +63,8 @@ lower_limit_first = (refl, refl)
 
 -- of one limit the lesser id comes first, and of one account the lesser sequence number
 abbrev equal_limits : List Offer
-equal_limits = offer 0 1 (2 ^ 24) 1 2 10 ∷ offer 0 1 (2 ^ 24) 1 3 10 ∷ offer 0 1 (2 ^ 24) 2 1 10 ∷ offer 1 0 (2 ^ 23) 3 1 15 ∷ []
+equal_limits = offer 0 1 (2 ^ 24) 1 2 10 ∷ offer 0 1 (2 ^ 24) 1 3 10 ∷ offer 0 1 (2 ^ 24) 2 1 10 ∷ offer 1 0 (2 ^ 23)
+    3 1 15 ∷ []
 
 equal_limits_fill : (gives ones (each_pair (15 * one)) equal_limits (offer 0 1 (2 ^ 24) 1 2 10) ≡ 10)
     × (gives ones (each_pair (15 * one)) equal_limits (offer 0 1 (2 ^ 24) 1 3 10) ≡ 5)
@@ -128,6 +130,7 @@ dropped = offer 0 1 (2 ^ 23) 1 1 100 ∷ offer 1 0 (2 ^ 23) 2 1 50 ∷ []
 dropped_bounds : (high_of searched dropped 0 1 ≡ 1642769100) × (high_of searched dropped 1 0 ≡ 856337050)
 dropped_bounds = (refl, refl)
 
-dropped_fill : (given searched (each_pair 856337050) dropped 0 ≡ 53) × (got searched (each_pair 856337050) dropped 1 ≡ 50)
+dropped_fill : (given searched (each_pair 856337050) dropped 0 ≡ 53)
+    × (got searched (each_pair 856337050) dropped 1 ≡ 50)
     × (given searched (each_pair 856337050) dropped 1 ≡ 50) × (got searched (each_pair 856337050) dropped 0 ≡ 52)
 dropped_fill = (refl, refl, refl, refl)

@@ -17,7 +17,8 @@ no_debit by account asset (kind.Create id) other = refl
 no_debit by account asset (kind.Offer sell buy limit amount) other = rw other refl
 no_debit by account asset (kind.Cancel sell buy limit seq) other = refl
 
-no_credit : (offers : List Offer) (by account asset : ℕ) (k : Kind) → (by == account) ≡ false → pays account k ≡ false → posted (credit_of offers by k) account asset ≡ 0
+no_credit : (offers : List Offer) (by account asset : ℕ) (k : Kind) → (by == account) ≡ false → pays account k ≡ false
+    → posted (credit_of offers by k) account asset ≡ 0
 no_credit offers by account asset (kind.Pay to paid amount) other unpaid = rw unpaid refl
 no_credit offers by account asset (kind.Create id) other unpaid = refl
 no_credit offers by account asset (kind.Offer sell buy limit amount) other unpaid = refl
@@ -30,26 +31,40 @@ Unnamed txs account = All (λ tx. names account tx ≡ false) txs
 no_debits : (account asset : ℕ) (txs : List Tx) → Unnamed txs account → debits txs account asset ≡ 0
 no_debits account asset [] unnamed = refl
 no_debits account asset (tx ∷ txs) unnamed =
-    let here = or_parts (tx.account.0 == account) (pays account tx.kind) (All-head (λ tx. names account tx ≡ false) tx txs unnamed) in
-    omega (arith, no_debit tx.account.0 account asset tx.kind here.0, no_debits account asset txs (All-tail (λ tx. names account tx ≡ false) tx txs unnamed))
+    let here = or_parts (tx.account.0 == account) (pays account tx.kind)
+    (All-head (λ tx. names account tx ≡ false) tx txs unnamed) in
+    omega (
+      arith,
+      no_debit tx.account.0 account asset tx.kind here.0,
+      no_debits account asset txs (All-tail (λ tx. names account tx ≡ false) tx txs unnamed),
+    )
 
-no_credits : (offers : List Offer) (account asset : ℕ) (txs : List Tx) → Unnamed txs account → credits offers txs account asset ≡ 0
+no_credits : (offers : List Offer) (account asset : ℕ) (txs : List Tx) → Unnamed txs account
+    → credits offers txs account asset ≡ 0
 no_credits offers account asset [] unnamed = refl
 no_credits offers account asset (tx ∷ txs) unnamed =
-    let here = or_parts (tx.account.0 == account) (pays account tx.kind) (All-head (λ tx. names account tx ≡ false) tx txs unnamed) in
-    omega (arith, no_credit offers tx.account.0 account asset tx.kind here.0 here.1, no_credits offers account asset txs (All-tail (λ tx. names account tx ≡ false) tx txs unnamed))
+    let here = or_parts (tx.account.0 == account) (pays account tx.kind)
+    (All-head (λ tx. names account tx ≡ false) tx txs unnamed) in
+    omega (
+      arith,
+      no_credit offers tx.account.0 account asset tx.kind here.0 here.1,
+      no_credits offers account asset txs (All-tail (λ tx. names account tx ≡ false) tx txs unnamed),
+    )
 
 no_uses : (account seq : ℕ) (txs : List Tx) → Unnamed txs account → uses txs account seq ≡ false
 no_uses account seq [] unnamed = refl
 no_uses account seq (tx ∷ txs) unnamed =
-    let here = or_parts (tx.account.0 == account) (pays account tx.kind) (All-head (λ tx. names account tx ≡ false) tx txs unnamed) in
+    let here = or_parts (tx.account.0 == account) (pays account tx.kind)
+    (All-head (λ tx. names account tx ≡ false) tx txs unnamed) in
     rw here.0 (no_uses account seq txs (All-tail (λ tx. names account tx ≡ false) tx txs unnamed))
 
 no_numbers : (account last n : ℕ) (txs : List Tx) → Unnamed txs account → used_below txs account last n ≡ 0
 no_numbers account last zero txs unnamed = refl
-no_numbers account last (suc n) txs unnamed = rw (no_uses account (last + 1 + n) txs unnamed) (omega (arith, no_numbers account last n txs unnamed))
+no_numbers account last (suc n) txs unnamed =
+    rw (no_uses account (last + 1 + n) txs unnamed) (omega (arith, no_numbers account last n txs unnamed))
 
-same_balances : (offers : List Offer) (txs : List Tx) (account asset : ℕ) (balances : List ℕ) → Unnamed txs account → balances_after offers txs account asset balances ≡ balances
+same_balances : (offers : List Offer) (txs : List Tx) (account asset : ℕ) (balances : List ℕ) → Unnamed txs account
+    → balances_after offers txs account asset balances ≡ balances
 same_balances offers txs account asset [] unnamed = refl
 same_balances offers txs account asset (balance ∷ balances) unnamed =
     let here : (balance - debits txs account asset) + credits offers txs account asset ≡ balance =
@@ -58,7 +73,8 @@ same_balances offers txs account asset (balance ∷ balances) unnamed =
 
 pub unnamed_stays : UnnamedStays
 unnamed_stays parts txs account unnamed =
-    let window : Next parts.version account.window (used_numbers txs account.id.0 account.window.last) ≡ account.window =
+    let window : Next parts.version account.window (used_numbers txs account.id.0 account.window.last)
+    ≡ account.window =
     ap (Next parts.version account.window) (no_numbers account.id.0 account.window.last 64 txs unnamed) in
     let balances = same_balances parts.offers txs account.id.0 0 account.balances unnamed in
     rw (window, balances) refl

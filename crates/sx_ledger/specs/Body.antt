@@ -17,7 +17,8 @@ use Rattle.sx_tx.specs.Window.{Next}
 
 -- a transaction stands before another: by account, then by sequence number
 abbrev pub tx_before : Tx → Tx → Bool
-tx_before one other = nat_lt one.account.0 other.account.0 || ((one.account.0 == other.account.0) && nat_lt one.seq other.seq)
+tx_before one other =
+    nat_lt one.account.0 other.account.0 || ((one.account.0 == other.account.0) && nat_lt one.seq other.seq)
 
 -- ---- what transactions create, make and cancel
 
@@ -34,7 +35,8 @@ created txs = filter_map (λ tx. created_by tx.kind) txs
 abbrev pub made_by : Tx → Kind → Option Offer
 made_by tx (kind.Pay to asset amount) = None
 made_by tx (kind.Create id) = None
-made_by tx (kind.Offer sell buy limit amount) = Some (record { sell = sell; buy = buy; limit = limit; account = tx.account; seq = tx.seq; amount = amount })
+made_by tx (kind.Offer sell buy limit amount) =
+    Some (record { sell = sell; buy = buy; limit = limit; account = tx.account; seq = tx.seq; amount = amount })
 made_by tx (kind.Cancel sell buy limit seq) = None
 
 -- the offers that are made
@@ -45,7 +47,8 @@ abbrev pub cancelled_by : Tx → Kind → Option Key
 cancelled_by tx (kind.Pay to asset amount) = None
 cancelled_by tx (kind.Create id) = None
 cancelled_by tx (kind.Offer sell buy limit amount) = None
-cancelled_by tx (kind.Cancel sell buy limit seq) = Some (record { sell = sell; buy = buy; limit = limit; account = tx.account; seq = seq })
+cancelled_by tx (kind.Cancel sell buy limit seq) =
+    Some (record { sell = sell; buy = buy; limit = limit; account = tx.account; seq = seq })
 
 -- the keys of the offers that are cancelled
 abbrev pub cancelled : List Tx → List Key
@@ -56,7 +59,8 @@ cancelled txs = filter_map (λ tx. cancelled_by tx tx.kind) txs
 -- what the account of this id holds of an asset, 0 where it is not there
 abbrev pub holding_of : List Account → ℕ → ℕ → ℕ
 holding_of [] id asset = 0
-holding_of (account ∷ accounts) id asset = if account.id.0 == id then balance_at asset account else holding_of accounts id asset
+holding_of (account ∷ accounts) id asset =
+    if account.id.0 == id then balance_at asset account else holding_of accounts id asset
 
 pub record IsAdmissible (parts : Parts) (txs : List Tx) : Type 0 where
   pub ordered : IsTrue (in_order tx_before None txs)
@@ -76,7 +80,8 @@ uses txs account seq = list_any (λ tx. (tx.account.0 == account) && (tx.seq == 
 -- the sequence numbers after `last` that the account uses, as a word of n bits: bit i stands for last + 1 + i
 abbrev pub used_below : List Tx → ℕ → ℕ → ℕ → ℕ
 used_below txs account last zero = 0
-used_below txs account last (suc n) = (if uses txs account (last + 1 + n) then 2 ^ n else 0) + used_below txs account last n
+used_below txs account last (suc n) =
+    (if uses txs account (last + 1 + n) then 2 ^ n else 0) + used_below txs account last n
 
 abbrev pub used_numbers : List Tx → ℕ → ℕ → ℕ
 used_numbers txs account last = used_below txs account last 64
@@ -85,7 +90,8 @@ used_numbers txs account last = used_below txs account last 64
 abbrev pub balances_after : List Offer → List Tx → ℕ → ℕ → List ℕ → List ℕ
 balances_after offers txs account asset [] = []
 balances_after offers txs account asset (balance ∷ balances) =
-    ((balance - debits txs account asset) + credits offers txs account asset) ∷ balances_after offers txs account (suc asset) balances
+    ((balance - debits txs account asset) + credits offers txs account asset)
+    ∷ balances_after offers txs account (suc asset) balances
 
 abbrev pub account_after : Parts → List Tx → Account → Account
 account_after parts txs account = record {
@@ -107,7 +113,8 @@ new_account parts txs id = record {
 -- an account put before the first one with a greater id
 abbrev pub put_account : Account → List Account → List Account
 put_account new [] = new ∷ []
-put_account new (account ∷ accounts) = if nat_lt new.id.0 account.id.0 then new ∷ account ∷ accounts else account ∷ put_account new accounts
+put_account new (account ∷ accounts) =
+    if nat_lt new.id.0 account.id.0 then new ∷ account ∷ accounts else account ∷ put_account new accounts
 
 abbrev pub put_accounts : List Account → List Account → List Account
 put_accounts [] accounts = accounts
@@ -123,7 +130,8 @@ put_offers [] offers = offers
 put_offers (new ∷ others) offers = put_offer new (put_offers others offers)
 
 abbrev pub accounts_after : Parts → List Tx → List Account
-accounts_after parts txs = put_accounts (map (new_account parts txs) (created txs)) (map (account_after parts txs) parts.accounts)
+accounts_after parts txs =
+    put_accounts (map (new_account parts txs) (created txs)) (map (account_after parts txs) parts.accounts)
 
 -- the offers that are not cancelled
 abbrev pub kept_offers : List Offer → List Tx → List Offer

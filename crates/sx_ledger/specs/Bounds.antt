@@ -25,7 +25,8 @@ amounts offers = sum_by (λ offer. offer.amount) offers
 
 -- the greatest value of a pair: of all its offers that may trade
 abbrev pub high_of : List ℕ → List Offer → ℕ → ℕ → ℕ
-high_of prices offers sell buy = price_of prices sell * amounts (filter (may_trade_at prices) (pair_of sell buy offers))
+high_of prices offers sell buy =
+    price_of prices sell * amounts (filter (may_trade_at prices) (pair_of sell buy offers))
 
 -- the least value of a pair: of all its offers that must trade, or 0 where the lower bounds are dropped
 abbrev pub low_of : List ℕ → ℕ → Bool → List Offer → ℕ → ℕ → ℕ

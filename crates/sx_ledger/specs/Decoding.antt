@@ -1,5 +1,6 @@
 -- Reading a state from left to right, with the first fault.
-use Rattle.std.specs.Prelude.{ℕ, zero, suc, ◌-◌, ◌^◌, Bool, true, not, List, [], ◌∷◌, length, Option, Some, None, Result, Ok, Err, nat_lt, nat_le, ◌==◌, ◌&&◌, if◌then◌else◌}
+use Rattle.std.specs.Prelude.{ℕ, zero, suc, ◌-◌, Bool, true, not, List, [], ◌∷◌, length, Option, Some, None, Result, Ok, Err, nat_lt, nat_le, ◌==◌, ◌&&◌, if◌then◌else◌}
+use Rattle.sx_base.specs.Ranges.{most_amount, most_assets, most_seq}
 use Rattle.sx_bytes.specs.declared.fault.Form.TheVariants as form
 use Rattle.sx_bytes.specs.declared.fault.FormFault.{FormFault}
 use Rattle.sx_bytes.specs.Cursor.{Cursor, left}
@@ -10,25 +11,27 @@ use Rattle.sx_ledger.specs.declared.offer.Offer.{Offer}
 use Rattle.sx_ledger.specs.declared.parts.Parts.{Parts}
 use Rattle.sx_ledger.specs.Ledger.{assets_of, has_owner, most_accounts, most_height, most_offers, total_of}
 use Rattle.sx_ledger.specs.Order.{key_of, key_before}
+use Rattle.sx_price.specs.Limits.{least_price, most_price}
 use Rattle.sx_tx.specs.TransactionDecoding.{id_at, seq_at, amount_at, limit_at}
 
 abbrev pub price_at : Cursor → Result (ℕ × Cursor) FormFault
-price_at = field_at 8 (between (2 ^ 8) (2 ^ 40)) form.PriceRange
+price_at = field_at 8 (between least_price most_price) form.PriceRange
 
 -- a balance, or the rounding of an asset
 abbrev pub units_field_at : Cursor → Result (ℕ × Cursor) FormFault
-units_field_at = field_at 8 (between 0 (2 ^ 62)) form.AmountRange
+units_field_at = field_at 8 (between 0 most_amount) form.AmountRange
 
 -- the greatest sequence number that an account used, 0 where it used none
 abbrev pub last_at : Cursor → Result (ℕ × Cursor) FormFault
-last_at = field_at 8 (between 0 (2 ^ 63 - 1)) form.SeqRange
+last_at = field_at 8 (between 0 most_seq) form.SeqRange
 
 -- an entry that passes a test, which is made once the whole entry is read
 abbrev pub guarded : {X : Type 0} → Bool → X × Cursor → FormFault → Result (X × Cursor) FormFault
 guarded passes entry fault = if passes then Ok entry else Err fault
 
 -- a number of entries, each read with the mark of the one before it in view
-unfoldable pub each_at : {X M : Type 0} → (Option M → Cursor → Result (X × Cursor) FormFault) → (X → M) → ℕ → Option M → Cursor → Result (List X × Cursor) FormFault
+unfoldable pub each_at : {X M : Type 0} → (Option M → Cursor → Result (X × Cursor) FormFault) → (X → M) → ℕ → Option M
+    → Cursor → Result (List X × Cursor) FormFault
 each_at entry mark zero before c = Ok ([], c)
 each_at entry mark (suc n) before c = do
   first ← entry before c
@@ -42,7 +45,10 @@ account_at assets c = do
   id ← id_at c
   last ← last_at id.1
   balances ← many_at units_field_at assets last.1
-  Ok (record { id = record { 0 = id.0 }; window = record { last = last.0; used = 0 }; balances = balances.0 }, balances.1)
+  Ok (
+    record { id = record { 0 = id.0 }; window = record { last = last.0; used = 0 }; balances = balances.0 },
+    balances.1,
+  )
 
 -- an account that comes after the one before it, of which the id is known
 unfoldable pub next_account_at : ℕ → Option ℕ → Cursor → Result (Account × Cursor) FormFault
@@ -73,7 +79,17 @@ offer_at assets c = do
   account ← id_at limit.1
   seq ← seq_at account.1
   amount ← amount_at seq.1
-  Ok (record { sell = sell.0; buy = buy.0; limit = limit.0; account = record { 0 = account.0 }; seq = seq.0; amount = amount.0 }, amount.1)
+  Ok (
+    record {
+      sell = sell.0;
+      buy = buy.0;
+      limit = limit.0;
+      account = record { 0 = account.0 };
+      seq = seq.0;
+      amount = amount.0;
+    },
+    amount.1,
+  )
 
 -- an offer that comes after the one before it, of which the key is known, by one of these accounts
 unfoldable pub next_offer_at : List Account → ℕ → Option Key → Cursor → Result (Offer × Cursor) FormFault
@@ -92,7 +108,7 @@ unfoldable pub head_at : Cursor → Result ((ℕ × ℕ × List ℕ × List ℕ)
 head_at c = do
   version ← field_at 1 (between 1 1) form.Version c
   height ← field_at 8 (between 0 most_height) form.HeightRange version.1
-  assets ← field_at 1 (between 1 32) form.AssetCount height.1
+  assets ← field_at 1 (between 1 most_assets) form.AssetCount height.1
   prices ← many_at price_at assets.0 assets.1
   rounding ← many_at units_field_at assets.0 prices.1
   Ok ((version.0, height.0, prices.0, rounding.0), rounding.1)
@@ -115,12 +131,22 @@ parts_at c = do
   head ← head_at c
   accounts ← account_list_at (length head.0.2) head.1
   offers ← offer_list_at accounts.0 (length head.0.2) accounts.1
-  Ok (record { version = head.0.0; height = head.0.1; prices = head.0.2; rounding = head.0.3; accounts = accounts.0; offers = offers.0 }, offers.1)
+  Ok (
+    record {
+      version = head.0.0;
+      height = head.0.1;
+      prices = head.0.2;
+      rounding = head.0.3;
+      accounts = accounts.0;
+      offers = offers.0;
+    },
+    offers.1,
+  )
 
 -- the total of each of the first assets is in range
 unfoldable pub totals_fit : Parts → ℕ → Bool
 totals_fit parts zero = true
-totals_fit parts (suc n) = totals_fit parts n && nat_le (total_of parts n) (2 ^ 62)
+totals_fit parts (suc n) = totals_fit parts n && nat_le (total_of parts n) most_amount
 
 -- a whole payload, from its first byte: the totals are tested after the last field
 unfoldable pub state_at : List ℕ → Result Parts FormFault

@@ -20,7 +20,8 @@ use Rattle.sx_tx.specs.Window.{Next}
 
 -- the debits of two lists together are those of both
 abbrev pub DebitsAppend : Type 0
-DebitsAppend = (xs ys : List Tx) (account asset : ℕ) → debits (xs ++ ys) account asset ≡ debits xs account asset + debits ys account asset
+DebitsAppend = (xs ys : List Tx) (account asset : ℕ)
+    → debits (xs ++ ys) account asset ≡ debits xs account asset + debits ys account asset
 
 -- and so are the credits
 abbrev pub CreditsAppend : Type 0
@@ -30,7 +31,8 @@ CreditsAppend =
 
 -- in another order the debits are the same
 abbrev pub DebitsPermuted : Type 0
-DebitsPermuted = (xs ys : List Tx) (account asset : ℕ) → IsPermutation xs ys → debits ys account asset ≡ debits xs account asset
+DebitsPermuted = (xs ys : List Tx) (account asset : ℕ) → IsPermutation xs ys
+    → debits ys account asset ≡ debits xs account asset
 
 -- and so are the credits
 abbrev pub CreditsPermuted : Type 0
@@ -85,14 +87,18 @@ abbrev pub LastIsGreatest : Type 0
 LastIsGreatest =
     (txs : List Tx) (account : ℕ) (window : Window) → window.used ≡ 0 → InWindow txs account window.last →
     Next 1 window (used_numbers txs account window.last)
-    ≡ record { last = (if greatest_number txs account == 0 then window.last else greatest_number txs account); used = 0 }
+    ≡ record {
+      last = (if greatest_number txs account == 0 then window.last else greatest_number txs account);
+      used = 0;
+    }
 
 -- ---- the whole body
 
 -- the ledger after the body of a block is a ledger, where each number of the transactions is in its range
 abbrev pub BodyKeepsLedger : Type 0
 BodyKeepsLedger =
-    (parts : Parts) (txs : List Tx) → IsLedger parts → All IsTx txs → IsAdmissible parts txs → IsLedger (body_after parts txs)
+    (parts : Parts) (txs : List Tx) → IsLedger parts → All IsTx txs → IsAdmissible parts txs
+    → IsLedger (body_after parts txs)
 
 -- the body of a block makes and loses nothing of any asset
 abbrev pub BodyConserves : Type 0

@@ -22,7 +22,8 @@ amount_of (offer ∷ offers) key = if same_key (key_of offer) key then offer.amo
 abbrev pub debit_of : ℕ → Kind → Option Posting
 debit_of account (kind.Pay to asset amount) = Some (record { account = account; asset = asset; units = amount })
 debit_of account (kind.Create id) = None
-debit_of account (kind.Offer sell buy limit amount) = Some (record { account = account; asset = sell; units = amount })
+debit_of account (kind.Offer sell buy limit amount) =
+    Some (record { account = account; asset = sell; units = amount })
 debit_of account (kind.Cancel sell buy limit seq) = None
 
 abbrev pub debit : Tx → Option Posting
@@ -43,7 +44,8 @@ credit offers tx = credit_of offers tx.account.0 tx.kind
 -- the units that are posted of an asset at an account
 abbrev pub posted : Option Posting → ℕ → ℕ → ℕ
 posted None account asset = 0
-posted (Some posting) account asset = if (posting.account == account) && (posting.asset == asset) then posting.units else 0
+posted (Some posting) account asset =
+    if (posting.account == account) && (posting.asset == asset) then posting.units else 0
 
 abbrev pub debits : List Tx → ℕ → ℕ → ℕ
 debits [] account asset = 0

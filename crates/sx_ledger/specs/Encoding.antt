@@ -7,7 +7,8 @@ use Rattle.sx_ledger.specs.declared.offer.Offer.{Offer}
 use Rattle.sx_ledger.specs.declared.parts.Parts.{Parts}
 
 abbrev pub account_bytes : Account → List ℕ
-account_bytes account = big_bytes 8 account.id.0 ++ (big_bytes 8 account.window.last ++ flat_map (big_bytes 8) account.balances)
+account_bytes account =
+    big_bytes 8 account.id.0 ++ (big_bytes 8 account.window.last ++ flat_map (big_bytes 8) account.balances)
 
 abbrev pub offer_bytes : Offer → List ℕ
 offer_bytes offer =

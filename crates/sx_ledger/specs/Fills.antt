@@ -17,7 +17,8 @@ ahead_of offers offer = amounts (filter (λ other. offer_before other offer) (pa
 -- the value that an offer trades: what is left by those before it, up to its whole amount
 abbrev pub value_of : List ℕ → Flow → List Offer → Offer → ℕ
 value_of prices flow offers offer =
-    min (flow offer.sell offer.buy - price_of prices offer.sell * ahead_of offers offer) (price_of prices offer.sell * offer.amount)
+    min (flow offer.sell offer.buy - price_of prices offer.sell * ahead_of offers offer)
+    (price_of prices offer.sell * offer.amount)
 
 -- the units of the sold asset that an offer gives, and of the bought asset that it gets
 abbrev pub gives : List ℕ → Flow → List Offer → Offer → ℕ
@@ -28,10 +29,12 @@ gets prices flow offers offer = rounded_down (value_of prices flow offers offer)
 
 -- what all offers give and get of an asset
 abbrev pub given : List ℕ → Flow → List Offer → ℕ → ℕ
-given prices flow offers asset = sum_by (λ offer. if offer.sell == asset then gives prices flow offers offer else 0) offers
+given prices flow offers asset =
+    sum_by (λ offer. if offer.sell == asset then gives prices flow offers offer else 0) offers
 
 abbrev pub got : List ℕ → Flow → List Offer → ℕ → ℕ
-got prices flow offers asset = sum_by (λ offer. if offer.buy == asset then gets prices flow offers offer else 0) offers
+got prices flow offers asset =
+    sum_by (λ offer. if offer.buy == asset then gets prices flow offers offer else 0) offers
 
 -- what a block keeps of an asset by rounding: what was given less what was got
 abbrev pub IsRounding : List ℕ → Flow → List Offer → ℕ → ℕ → Type 0

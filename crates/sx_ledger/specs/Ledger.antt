@@ -2,6 +2,7 @@
 use Rattle.std.specs.Prelude.{◌≡◌, ◌≢◌, ℕ, ◌+◌, ◌-◌, ◌^◌, ◌<◌, ◌≤◌, Bool, IsTrue, List, length, map, slice_index, None, nat_le, ◌==◌, ◌&&◌, if◌then◌else◌}
 use Rattle.std.specs.List.{All, Contains, list_any, sum_by}
 use Rattle.std.specs.List.Sorted.{IsStrictlyIncreasing}
+use Rattle.sx_base.specs.Ranges.{most_amount, most_assets, most_seq}
 use Rattle.sx_bytes.specs.Grammar.{in_order}
 use Rattle.sx_ledger.specs.declared.account.Account.{Account}
 use Rattle.sx_ledger.specs.declared.key.Key.{Key}
@@ -56,21 +57,24 @@ offered asset offer = if offer.sell == asset then offer.amount else 0
 
 -- what there is of an asset: in all balances, on offer, and kept by rounding
 abbrev pub total_of : Parts → ℕ → ℕ
-total_of parts asset = sum_by (balance_at asset) parts.accounts + (sum_by (offered asset) parts.offers + slice_index parts.rounding asset)
+total_of parts asset =
+    sum_by (balance_at asset) parts.accounts
+    + (sum_by (offered asset) parts.offers + slice_index parts.rounding asset)
 
 -- ---- what a ledger keeps
 
 -- an account with a balance of each of `assets` assets
 pub record IsAccount (assets : ℕ) (account : Account) : Type 0 where
   pub id : IsId account.id.0
-  pub last : account.window.last < 2 ^ 63
+  pub last : account.window.last ≤ most_seq
   pub used : account.window.used ≡ 0
   pub balances : length account.balances ≡ assets
-  pub in_range : All (λ balance. balance ≤ 2 ^ 62) account.balances
+  pub in_range : All (λ balance. balance ≤ most_amount) account.balances
 
 -- the account of an offer is there, and its last sequence number is that of the offer or a greater one
 abbrev pub has_owner : List Account → Offer → Bool
-has_owner accounts offer = list_any (λ account. (account.id.0 == offer.account.0) && nat_le offer.seq account.window.last) accounts
+has_owner accounts offer =
+    list_any (λ account. (account.id.0 == offer.account.0) && nat_le offer.seq account.window.last) accounts
 
 -- an offer of two different assets out of `assets`, by one of these accounts
 pub record IsOffer (assets : ℕ) (accounts : List Account) (offer : Offer) : Type 0 where
@@ -87,14 +91,14 @@ pub record IsLedger (parts : Parts) : Type 0 where
   pub version : parts.version ≡ 1
   pub height : parts.height ≤ most_height
   pub some_asset : 1 ≤ assets_of parts
-  pub few_assets : assets_of parts ≤ 32
+  pub few_assets : assets_of parts ≤ most_assets
   pub prices : All IsPrice parts.prices
   pub one_rounding : length parts.rounding ≡ assets_of parts
-  pub rounding : All (λ units. units ≤ 2 ^ 62) parts.rounding
+  pub rounding : All (λ units. units ≤ most_amount) parts.rounding
   pub few_accounts : length parts.accounts ≤ most_accounts
   pub accounts : All (IsAccount (assets_of parts)) parts.accounts
   pub by_id : IsStrictlyIncreasing (ids parts.accounts)
   pub few_offers : length parts.offers ≤ most_offers
   pub offers : All (IsOffer (assets_of parts) parts.accounts) parts.offers
   pub by_key : IsTrue (in_order key_before None (keys parts.offers))
-  pub totals : (asset : ℕ) → asset < assets_of parts → total_of parts asset ≤ 2 ^ 62
+  pub totals : (asset : ℕ) → asset < assets_of parts → total_of parts asset ≤ most_amount

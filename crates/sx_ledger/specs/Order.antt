@@ -7,7 +7,13 @@ use Rattle.sx_ledger.specs.declared.key.Key.{Key}
 use Rattle.sx_ledger.specs.declared.offer.Offer.{Offer}
 
 abbrev pub key_of : Offer → Key
-key_of offer = record { sell = offer.sell; buy = offer.buy; limit = offer.limit; account = offer.account; seq = offer.seq }
+key_of offer = record {
+  sell = offer.sell;
+  buy = offer.buy;
+  limit = offer.limit;
+  account = offer.account;
+  seq = offer.seq;
+}
 
 -- the numbers that keys are compared by, the first that differs deciding
 abbrev pub numbers_of : Key → List ℕ

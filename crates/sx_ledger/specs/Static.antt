@@ -71,7 +71,13 @@ cancels_unknown offers account (kind.Pay to asset amount) = false
 cancels_unknown offers account (kind.Create id) = false
 cancels_unknown offers account (kind.Offer sell buy limit amount) = false
 cancels_unknown offers account (kind.Cancel sell buy limit seq) =
-    not (has_offer offers (record { sell = sell; buy = buy; limit = limit; account = record { 0 = account }; seq = seq }))
+    not (has_offer offers (record {
+      sell = sell;
+      buy = buy;
+      limit = limit;
+      account = record { 0 = account };
+      seq = seq;
+    }))
 
 -- an offer that buys less than one unit at its limit
 abbrev pub is_dust : Kind → Bool

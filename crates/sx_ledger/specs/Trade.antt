@@ -19,18 +19,22 @@ offer_traded prices flow offers offer = record {
 
 -- and is gone where nothing is left of it
 abbrev pub offers_traded : List ℕ → Flow → List Offer → List Offer
-offers_traded prices flow offers = filter (λ offer. nat_lt 0 offer.amount) (map (offer_traded prices flow offers) offers)
+offers_traded prices flow offers =
+    filter (λ offer. nat_lt 0 offer.amount) (map (offer_traded prices flow offers) offers)
 
 -- what the offers of an account get of an asset
 abbrev pub proceeds : List ℕ → Flow → List Offer → ℕ → ℕ → ℕ
 proceeds prices flow offers account asset =
-    sum_by (λ offer. if (offer.account.0 == account) && (offer.buy == asset) then gets prices flow offers offer else 0) offers
+    sum_by
+    (λ offer. if (offer.account.0 == account) && (offer.buy == asset) then gets prices flow offers offer else 0)
+    offers
 
 -- the balances from an asset on, with the proceeds
 abbrev pub balances_traded : List ℕ → Flow → List Offer → ℕ → ℕ → List ℕ → List ℕ
 balances_traded prices flow offers account asset [] = []
 balances_traded prices flow offers account asset (balance ∷ balances) =
-    (balance + proceeds prices flow offers account asset) ∷ balances_traded prices flow offers account (suc asset) balances
+    (balance + proceeds prices flow offers account asset)
+    ∷ balances_traded prices flow offers account (suc asset) balances
 
 abbrev pub account_traded : List ℕ → Flow → List Offer → Account → Account
 account_traded prices flow offers account = record {

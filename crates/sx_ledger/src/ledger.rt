@@ -1,6 +1,7 @@
 //! The state between two blocks, and what it tells.
 
 ghost use Rattle.std.specs.Prelude.{◌≡◌, ◌<◌, ◌≤◌, ◌^◌, length, slice_index, slice_get, IfSome, Some};
+ghost use Rattle.sx_base.specs.Ranges.{most_amount, most_assets};
 ghost use Rattle.sx_ledger.specs.Ledger.{IsLedger, assets_of, balance_at, most_accounts, most_height, most_offers};
 
 use crate::account::Account;
@@ -85,7 +86,7 @@ impl Ledger {
     pub fn assets(&self) -> u32
         ensures number { result ≡ assets_of self.now }
         ensures some { 1 ≤ result }
-        ensures few { result ≤ 32 }
+        ensures few { result ≤ most_assets }
         ensures kept { IsLedger self.now }
     {
         self.parts.prices.items().len() as u32
@@ -104,7 +105,7 @@ impl Ledger {
     pub fn rounding(&self, asset: AssetId) -> u64
         requires { asset < assets_of self.now }
         ensures units { result ≡ slice_index self.now.rounding asset }
-        ensures in_range { result ≤ 2 ^ 62 }
+        ensures in_range { result ≤ most_amount }
         ensures kept { IsLedger self.now }
     {
         self.parts.rounding.items()[asset.get() as usize]
@@ -133,7 +134,7 @@ impl Ledger {
         requires place { place < length self.now.accounts }
         requires asset { asset < assets_of self.now }
         ensures units { IfSome (slice_get self.now.accounts place) (λ account. result ≡ balance_at asset account) }
-        ensures in_range { result ≤ 2 ^ 62 }
+        ensures in_range { result ≤ most_amount }
     {
         self.account(place).balances.items()[asset.get() as usize]
     }

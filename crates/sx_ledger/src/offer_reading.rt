@@ -2,6 +2,7 @@
 
 ghost use Rattle.std.specs.Prelude.{◌≡◌, ◌≤◌, None, length};
 ghost use Rattle.std.specs.List.Sorted.{IsStrictlyIncreasing};
+ghost use Rattle.sx_base.specs.Ranges.{most_assets};
 ghost use Rattle.sx_bytes.specs.Grammar.{DecodesOrStrays, MayDecodeOrStray, may_follow};
 ghost use Rattle.sx_ledger.specs.Ledger.{ids, most_accounts};
 ghost use Rattle.sx_ledger.specs.Order.{key_before};
@@ -24,7 +25,7 @@ use sx_tx::{read_amount, read_id, read_limit, read_seq};
 #[inline]
 fn sell(from: &mut Reader, assets: u8) -> Result<AssetId, FormFault>
     requires some { 1 ≤ assets }
-    requires few { assets ≤ 32 }
+    requires few { assets ≤ most_assets }
     ensures { DecodesOrStrays (λ x. x) (sell_at assets from.old) from.new result }
 {
     let number = from.field_u8(0, assets - 1, Form::AssetRange)?;
@@ -35,7 +36,7 @@ fn sell(from: &mut Reader, assets: u8) -> Result<AssetId, FormFault>
 #[inline]
 fn buy(from: &mut Reader, assets: u8, sell: AssetId) -> Result<AssetId, FormFault>
     requires some { 1 ≤ assets }
-    requires few { assets ≤ 32 }
+    requires few { assets ≤ most_assets }
     ensures { DecodesOrStrays (λ x. x) (buy_at assets sell from.old) from.new result }
 {
     let at = from.place() as u64;
@@ -51,7 +52,7 @@ fn buy(from: &mut Reader, assets: u8, sell: AssetId) -> Result<AssetId, FormFaul
 #[tactic(auto, unfolding(crate::specs::Decoding::offer_at))]
 fn offer(from: &mut Reader, assets: u8) -> Result<Offer, FormFault>
     requires some { 1 ≤ assets }
-    requires few { assets ≤ 32 }
+    requires few { assets ≤ most_assets }
     ensures { DecodesOrStrays (λ x. x) (offer_at assets from.old) from.new result }
 {
     let sell = sell(from, assets)?;
@@ -89,7 +90,7 @@ fn next_offer(
     before: Option<Key>,
 ) -> Result<Offer, ReadError>
     requires some { 1 ≤ assets }
-    requires few { assets ≤ 32 }
+    requires few { assets ≤ most_assets }
     requires indexed { index.now ≡ ids accounts.now }
     ensures { MayDecodeOrStray (λ x. x) (next_offer_at accounts.now assets before from.old) from.new result }
 {
@@ -114,7 +115,7 @@ fn offers(
     count: u32,
 ) -> Result<Offers, ReadError>
     requires some { 1 ≤ assets }
-    requires few { assets ≤ 32 }
+    requires few { assets ≤ most_assets }
     requires indexed { index.now ≡ ids accounts.now }
     ensures { MayDecodeOrStray (λ x. x) (offers_at accounts.now assets count None from.old) from.new result }
 {
@@ -138,7 +139,7 @@ pub fn offer_list(
     accounts: &[Account],
 ) -> Result<Offers, ReadError>
     requires some { 1 ≤ assets }
-    requires few { assets ≤ 32 }
+    requires few { assets ≤ most_assets }
     requires by_id { IsStrictlyIncreasing (ids accounts.now) }
     requires few_accounts { length accounts.now ≤ most_accounts }
     ensures { MayDecodeOrStray (λ x. x) (offer_list_at accounts.now assets from.old) from.new result }

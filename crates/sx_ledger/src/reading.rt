@@ -1,10 +1,10 @@
 //! Reading a state, field by field from left to right. Each field is read whole and then tested, and
 //! an entry is compared with the one before it once its last field is read.
 
-ghost use Rattle.std.specs.Prelude.{◌≡◌, ◌≤◌, List, IfOk, OnErr, None, Ok};
+ghost use Rattle.std.specs.Prelude.{◌≡◌, ◌≤◌, List, IfOk, None, Ok};
 ghost use Rattle.sx_bytes.specs.declared.fault.Form.TheVariants as form;
 ghost use Rattle.sx_bytes.specs.Cursor.{Decodes};
-ghost use Rattle.sx_bytes.specs.Grammar.{between, Gives, MayDecodeOrStray, field_at, many_at};
+ghost use Rattle.sx_bytes.specs.Grammar.{between, Gives, MayDecode, MayDecodeOrStray, field_at, many_at};
 ghost use Rattle.sx_ledger.specs.declared.parts.Parts.{Parts};
 ghost use Rattle.sx_ledger.specs.Ledger.{IsLedger};
 ghost use Rattle.sx_ledger.specs.Encoding.{state_bytes};
@@ -62,8 +62,7 @@ fn prices(alloc: Global, from: &mut Reader, assets: u8) -> Result<Prices, ReadEr
 /// right. The faults are `Short`, and `PriceRange` at the field. It may answer `NoMemory` in place of
 /// any other answer. A refusal leaves the reader where it was.
 pub fn read_prices(alloc: Global, from: &mut Reader, assets: u8) -> Result<Prices, ReadError>
-    ensures exact { MayDecodeOrStray (λ prices. prices) (many_at price_at assets from.old) from.new result }
-    ensures refused { OnErr result (from.new ≡ from.old) }
+    ensures { MayDecode (λ prices. prices) (many_at price_at assets from.old) from.old from.new result }
 {
     let place = from.place();
     let read = prices(alloc, from, assets);

@@ -2,6 +2,7 @@
 
 ghost use Rattle.std.specs.Prelude.{◌≡◌, ℕ, ◌+◌, ◌<◌, ◌≤◌, ◌^◌, All, length, sum_by, slice_index, nat_le};
 ghost use Rattle.std.specs.List.{list_all};
+ghost use Rattle.sx_base.specs.Ranges.{most_amount, most_assets};
 ghost use Rattle.sx_ledger.specs.Ledger.{assets_of, balance_at, most_accounts, most_offers, offered, total_of};
 ghost use Rattle.sx_ledger.specs.Decoding.{totals_fit as all_fit};
 
@@ -31,7 +32,7 @@ fn add_accounts(totals: &mut [u128], accounts: &[Account])
     requires one_each { All (λ account. length account.balances ≡ length totals.old) accounts.now }
     requires room { All (λ total. total ≤ 2 ^ 100) totals.old }
     requires few { length accounts.now ≤ most_accounts }
-    requires small { All (λ account. All (λ balance. balance ≤ 2 ^ 62) account.balances) accounts.now }
+    requires small { All (λ account. All (λ balance. balance ≤ most_amount) account.balances) accounts.now }
     ensures as_many { length totals.new ≡ length totals.old }
     ensures added { (asset : ℕ) → asset < length totals.old → slice_index totals.new asset ≡ slice_index totals.old asset + sum_by (balance_at asset) accounts.now }
     ensures room { All (λ total. total ≤ 2 ^ 101) totals.new }
@@ -59,9 +60,9 @@ fn add_all(totals: &mut [u128], parts: &Parts)
     requires zero { All (λ total. total ≡ 0) totals.old }
     requires assets { length totals.old ≡ assets_of parts.now }
     requires rounding { length parts.now.rounding ≡ assets_of parts.now }
-    requires kept { All (λ units. units ≤ 2 ^ 62) parts.now.rounding }
+    requires kept { All (λ units. units ≤ most_amount) parts.now.rounding }
     requires balances { All (λ account. length account.balances ≡ assets_of parts.now) parts.now.accounts }
-    requires small { All (λ account. All (λ balance. balance ≤ 2 ^ 62) account.balances) parts.now.accounts }
+    requires small { All (λ account. All (λ balance. balance ≤ most_amount) account.balances) parts.now.accounts }
     requires few_accounts { length parts.now.accounts ≤ most_accounts }
     requires sold { All (λ offer. offer.sell < assets_of parts.now) parts.now.offers }
     requires few_offers { length parts.now.offers ≤ most_offers }
@@ -74,7 +75,7 @@ fn add_all(totals: &mut [u128], parts: &Parts)
 }
 
 fn are_in_range(totals: &[u128]) -> bool
-    ensures { result ≡ list_all (λ total. nat_le total (2 ^ 62)) totals.now }
+    ensures { result ≡ list_all (λ total. nat_le total most_amount) totals.now }
 {
     totals
         .iter()
@@ -83,11 +84,11 @@ fn are_in_range(totals: &[u128]) -> bool
 
 // Whether the total of each asset is in range: one pass over the accounts, and one over the offers.
 pub fn totals_fit(parts: &Parts) -> bool
-    requires few_assets { assets_of parts.now ≤ 32 }
+    requires few_assets { assets_of parts.now ≤ most_assets }
     requires rounding { length parts.now.rounding ≡ assets_of parts.now }
-    requires kept { All (λ units. units ≤ 2 ^ 62) parts.now.rounding }
+    requires kept { All (λ units. units ≤ most_amount) parts.now.rounding }
     requires balances { All (λ account. length account.balances ≡ assets_of parts.now) parts.now.accounts }
-    requires small { All (λ account. All (λ balance. balance ≤ 2 ^ 62) account.balances) parts.now.accounts }
+    requires small { All (λ account. All (λ balance. balance ≤ most_amount) account.balances) parts.now.accounts }
     requires few_accounts { length parts.now.accounts ≤ most_accounts }
     requires sold { All (λ offer. offer.sell < assets_of parts.now) parts.now.offers }
     requires few_offers { length parts.now.offers ≤ most_offers }
@@ -130,7 +131,7 @@ impl Ledger {
     pub fn total(&self, asset: AssetId) -> u64
         requires { asset < assets_of self.now }
         ensures total { result ≡ total_of self.now asset }
-        ensures in_range { result ≤ 2 ^ 62 }
+        ensures in_range { result ≤ most_amount }
     {
         let parts = self.parts();
         let held = held(parts.accounts.items(), usize::from(asset.get()));

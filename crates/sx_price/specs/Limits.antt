@@ -3,8 +3,14 @@ use Rattle.std.specs.Prelude.{ℕ, ◌*◌, ◌-◌, ◌^◌, ◌<◌, ◌≤◌
 
 -- ---- the ranges of the numbers
 
+abbrev pub least_price : ℕ
+least_price = 2 ^ 8
+
+abbrev pub most_price : ℕ
+most_price = 2 ^ 40
+
 abbrev pub IsPrice : ℕ → Type 0
-IsPrice price = (2 ^ 8 ≤ price) × (price ≤ 2 ^ 40)
+IsPrice price = (least_price ≤ price) × (price ≤ most_price)
 
 abbrev pub IsLimit : ℕ → Type 0
 IsLimit limit = (1 ≤ limit) × (limit < 2 ^ 56)

@@ -26,7 +26,7 @@ fn payload_of<S: Source>(alloc: Global, source: &mut S, at: u64, tag: u8) -> Res
     requires { at ≤ 2 ^ 63 }
     ensures ok { IfOk result (λ payload. Took (S.left source.old) (S.left source.new) (record_bytes tag payload)) }
     ensures most { IfOk result (λ payload. length payload ≤ most_bytes) }
-    ensures steady { OnOk result (S.faults source.new ≡ S.faults source.old) }
+    ensures falls_never { S.faults source.old ≤ S.faults source.new }
     ensures not_built { IsErrOf result Stop.NotBuilt → HasNoRecord (S.left source.old) tag }
     ensures read_fault { IsErrOf result Stop.ReadFault → Rose (S.faults source.old) (S.faults source.new) }
 {

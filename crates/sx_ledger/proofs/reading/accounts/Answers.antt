@@ -11,11 +11,20 @@ id_of account = account.id.0
 pub returns-in_err-account : goal.returns-in_err-account
 returns-in_err-account c =
     let p = err_from_is_err_and c.from_residual-in_err-account.result c.from_residual-in_err-account.ensures.1 in
-    rw (p.1, p.2) (each_ends (next_account_at c.args.assets) id_of c.in_err-account.field-0.0 c.loop.accounts.items c.args.count c.loop.counter c.loop.before c.loop.from (accounts_at c.args.assets c.args.count None c.args.from.now) c.loop-test.true c.in_err-account.ensures c.loop.invariant)
+    rw (p.1, p.2) (each_ends (next_account_at c.args.assets)
+    id_of c.in_err-account.field-0.0 c.loop.accounts.items c.args.count c.loop.counter c.loop.before c.loop.from
+    (accounts_at c.args.assets c.args.count None c.args.from.now)
+    c.loop-test.true c.in_err-account.ensures c.loop.invariant)
 
 pub loop-preserved : goal.loop-preserved
 loop-preserved c =
-    rw c.in_ok-push.ensures.items (each_goes_on (next_account_at c.args.assets) id_of c.loop.accounts.items c.args.count c.loop.counter c.loop.before c.loop.from c.in_ok-account.account c.next_account.new.from (accounts_at c.args.assets c.args.count None c.args.from.now) c.loop-test.true c.in_ok-account.ensures c.loop.invariant)
+    rw c.in_ok-push.ensures.items
+    (each_goes_on (next_account_at c.args.assets)
+    id_of c.loop.accounts.items c.args.count c.loop.counter c.loop.before c.loop.from c.in_ok-account.account
+    c.next_account.new.from (accounts_at c.args.assets c.args.count None c.args.from.now)
+    c.loop-test.true c.in_ok-account.ensures c.loop.invariant)
 
 pub returns : goal.returns
-returns c = each_done (next_account_at c.args.assets) id_of c.loop.accounts.items c.args.count c.loop.counter c.loop.before c.loop.from (accounts_at c.args.assets c.args.count None c.args.from.now) c.loop-test.false c.loop.invariant
+returns c = each_done (next_account_at c.args.assets)
+    id_of c.loop.accounts.items c.args.count c.loop.counter c.loop.before c.loop.from
+    (accounts_at c.args.assets c.args.count None c.args.from.now) c.loop-test.false c.loop.invariant

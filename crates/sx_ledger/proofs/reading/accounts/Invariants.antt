@@ -5,4 +5,5 @@ use Rattle.sx_ledger.proofs.reading.accounts.Given as goal
 
 -- those read so far and those still to be read are all of them
 abbrev pub invariant-loop : goal.invariant-loop
-invariant-loop l = with_front l.accounts.items (accounts_at l.assets (l.count - l.counter) l.before l.from) ≡ accounts_at l.assets l.count None l.fn.from
+invariant-loop l = with_front l.accounts.items (accounts_at l.assets (l.count - l.counter) l.before l.from)
+    ≡ accounts_at l.assets l.count None l.fn.from

@@ -12,7 +12,13 @@ pub offer_list-requires-clause-few : goal.offer_list-requires-clause-few
 offer_list-requires-clause-few c = rw c.items.ensures (omega (arith, (assets_known _ _ _ c.in_ok-version.ensures).1))
 
 pub offer_list-requires-clause-by_id : goal.offer_list-requires-clause-by_id
-offer_list-requires-clause-by_id c = rw c.deref.ensures.value (accounts_by_id _ c.read_head.new.from c.account_list.new.from c.in_ok-accounts.accounts.items c.in_ok-accounts.ensures)
+offer_list-requires-clause-by_id c =
+    rw c.deref.ensures.value
+    (accounts_by_id _ c.read_head.new.from c.account_list.new.from c.in_ok-accounts.accounts.items
+    c.in_ok-accounts.ensures)
 
 pub offer_list-requires-clause-few_accounts : goal.offer_list-requires-clause-few_accounts
-offer_list-requires-clause-few_accounts c = rw c.deref.ensures.value (accounts_few _ c.read_head.new.from c.account_list.new.from c.in_ok-accounts.accounts.items c.in_ok-accounts.ensures)
+offer_list-requires-clause-few_accounts c =
+    rw c.deref.ensures.value
+    (accounts_few _ c.read_head.new.from c.account_list.new.from c.in_ok-accounts.accounts.items
+    c.in_ok-accounts.ensures)

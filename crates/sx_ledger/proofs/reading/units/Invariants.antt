@@ -5,4 +5,5 @@ use Rattle.sx_ledger.specs.Decoding.{units_field_at}
 use Rattle.sx_ledger.proofs.reading.units.Given as goal
 
 abbrev pub invariant-loop : goal.invariant-loop
-invariant-loop l = with_front l.units.items (many_at units_field_at (l.assets - l.counter) l.from) ≡ many_at units_field_at l.assets l.fn.from
+invariant-loop l = with_front l.units.items (many_at units_field_at (l.assets - l.counter) l.from)
+    ≡ many_at units_field_at l.assets l.fn.from

@@ -8,10 +8,15 @@ loop-account-preserved c =
     let old = c.loop-account.totals in
     let i = c.loop-account.account-index in
     let account = c.account-item.result in
-    let one_each : length c.items.result.now ≡ length old = rw (c.items.ensures, c.account-item.is) (c.requires.one_each i account c.loop-account-test.true ∙ sym c.loop-account.auto.totals) in
+    let one_each : length c.items.result.now ≡ length old =
+    rw (c.items.ensures, c.account-item.is) (c.requires.one_each i account c.loop-account-test.true
+    ∙ sym c.loop-account.auto.totals) in
     let small = c.requires.small i account c.loop-account-test.true in
     record {
-      sums = λ k lt. sums_more new old c.items.result.now c.add_balances.ensures.as_many one_each c.add_balances.ensures.added c.args.accounts.now i c.args.totals.now account
-          c.loop-account-test.true c.account-item.is c.items.ensures k (omega arith) (c.loop-account.invariant.sums k lt);
-      room = room_more new old c.items.result.now c.add_balances.ensures.as_many one_each c.add_balances.ensures.added i (rw (c.items.ensures, c.account-item.is) small) c.loop-account.invariant.room;
+      sums = λ k lt. sums_more new old c.items.result.now c.add_balances.ensures.as_many one_each
+          c.add_balances.ensures.added c.args.accounts.now i c.args.totals.now account
+          c.loop-account-test.true c.account-item.is c.items.ensures k (omega arith)
+          (c.loop-account.invariant.sums k lt);
+      room = room_more new old c.items.result.now c.add_balances.ensures.as_many one_each c.add_balances.ensures.added
+          i (rw (c.items.ensures, c.account-item.is) small) c.loop-account.invariant.room;
     }

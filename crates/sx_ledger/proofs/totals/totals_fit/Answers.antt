@@ -5,5 +5,8 @@ use Rattle.sx_ledger.proofs.totals.totals_fit.Goals as goal
 
 pub returns : goal.returns
 returns c =
-    let as_many : length c.add_all.new.totals ≡ assets_of c.args.parts.now = c.add_all.ensures.as_many ∙ search rules in
-    c.are_in_range.ensures ∙ totals_fit_is c.args.parts.now c.add_all.new.totals (assets_of c.args.parts.now) as_many c.add_all.ensures.totals
+    let as_many : length c.add_all.new.totals ≡ assets_of c.args.parts.now =
+    c.add_all.ensures.as_many ∙ search rules in
+    c.are_in_range.ensures
+    ∙ totals_fit_is c.args.parts.now c.add_all.new.totals (assets_of c.args.parts.now)
+    as_many c.add_all.ensures.totals

@@ -9,5 +9,8 @@ returns-clause-ok c =
     let r = c.put_units.result in
     let account = c.args.account.now in
     let balances : List ℕ = flat_map (big_bytes 8) account.balances in
-    written_then r c.args.to.now (big_bytes 8 account.id.0) c.put_u64.new.self (big_bytes 8 account.window.last ++ balances) c.put_units.new.to c.in_ok-put_u64.ensures.ok
-    (written_then r c.put_u64.new.self (big_bytes 8 account.window.last) c.put_u64-2.new.self balances c.put_units.new.to c.in_ok-put_u64-2.ensures.ok (rw c.items.ensures at c.put_units.ensures.ok))
+    written_then r c.args.to.now (big_bytes 8 account.id.0) c.put_u64.new.self
+    (big_bytes 8 account.window.last ++ balances) c.put_units.new.to c.in_ok-put_u64.ensures.ok
+    (written_then r c.put_u64.new.self (big_bytes 8 account.window.last)
+    c.put_u64-2.new.self balances c.put_units.new.to c.in_ok-put_u64-2.ensures.ok
+    (rw c.items.ensures at c.put_units.ensures.ok))

@@ -13,9 +13,14 @@ returns-clause-ok c =
     let from_account : List ℕ = big_bytes 8 offer.account.0 ++ from_seq in
     let from_limit : List ℕ = big_bytes 8 offer.limit ++ from_account in
     let from_buy : List ℕ = big_bytes 1 offer.buy ++ from_limit in
-    written_then r c.args.to.now (big_bytes 1 offer.sell) c.put_u8.new.self from_buy new (rw c.get.ensures.value at c.in_ok-put_u8.ensures.ok)
-    (written_then r c.put_u8.new.self (big_bytes 1 offer.buy) c.put_u8-2.new.self from_limit new (rw c.get-2.ensures.value at c.in_ok-put_u8-2.ensures.ok)
-    (written_then r c.put_u8-2.new.self (big_bytes 8 offer.limit) c.put_u64.new.self from_account new (rw c.get-3.ensures.value at c.in_ok-put_u64.ensures.ok)
-    (written_then r c.put_u64.new.self (big_bytes 8 offer.account.0) c.put_u64-2.new.self from_seq new c.in_ok-put_u64-2.ensures.ok
-    (written_then r c.put_u64-2.new.self (big_bytes 8 offer.seq) c.put_u64-3.new.self from_amount new (rw c.get-4.ensures.value at c.in_ok-put_u64-3.ensures.ok)
+    written_then r c.args.to.now (big_bytes 1 offer.sell) c.put_u8.new.self from_buy new
+    (rw c.get.ensures.value at c.in_ok-put_u8.ensures.ok)
+    (written_then r c.put_u8.new.self (big_bytes 1 offer.buy) c.put_u8-2.new.self from_limit new
+    (rw c.get-2.ensures.value at c.in_ok-put_u8-2.ensures.ok)
+    (written_then r c.put_u8-2.new.self (big_bytes 8 offer.limit) c.put_u64.new.self from_account new
+    (rw c.get-3.ensures.value at c.in_ok-put_u64.ensures.ok)
+    (written_then r c.put_u64.new.self (big_bytes 8 offer.account.0)
+    c.put_u64-2.new.self from_seq new c.in_ok-put_u64-2.ensures.ok
+    (written_then r c.put_u64-2.new.self (big_bytes 8 offer.seq) c.put_u64-3.new.self from_amount new
+    (rw c.get-4.ensures.value at c.in_ok-put_u64-3.ensures.ok)
     (rw c.get-5.ensures.value at c.put_u64-4.ensures.ok)))))

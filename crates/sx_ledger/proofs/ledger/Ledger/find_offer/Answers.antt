@@ -9,12 +9,16 @@ pub returns-in-Ok-clause-found : goal.returns-in-Ok-clause-found
 returns-in-Ok-clause-found c =
     let facts = c.binary_search_by_key.ensures in
     let by_key = facts.position key_of (answers_always _ _ _ (λ f a r g called. search rules)) in
-    let both = searched_by c.items-entries.result.now (rw (c.items-entries.ensures, c.parts.ensures.parts) c.parts.ensures.kept.by_key) c.args.key.now c.binary_search_by_key.result facts.bound by_key in
+    let both = searched_by c.items-entries.result.now
+    (rw (c.items-entries.ensures, c.parts.ensures.parts) c.parts.ensures.kept.by_key)
+    c.args.key.now c.binary_search_by_key.result facts.bound by_key in
     rw (← c.parts.ensures.parts, ← c.items-entries.ensures) (rw c.in-Ok.is at both).0
 
 pub returns-in-Err-clause-absent : goal.returns-in-Err-clause-absent
 returns-in-Err-clause-absent c =
     let facts = c.binary_search_by_key.ensures in
     let by_key = facts.position key_of (answers_always _ _ _ (λ f a r g called. search rules)) in
-    let both = searched_by c.items-entries.result.now (rw (c.items-entries.ensures, c.parts.ensures.parts) c.parts.ensures.kept.by_key) c.args.key.now c.binary_search_by_key.result facts.bound by_key in
+    let both = searched_by c.items-entries.result.now
+    (rw (c.items-entries.ensures, c.parts.ensures.parts) c.parts.ensures.kept.by_key)
+    c.args.key.now c.binary_search_by_key.result facts.bound by_key in
     rw (← c.parts.ensures.parts, ← c.items-entries.ensures) (rw c.in-Err.is at both).1

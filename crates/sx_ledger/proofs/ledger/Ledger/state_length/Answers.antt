@@ -3,4 +3,6 @@ use Rattle.sx_ledger.proofs.Lengths.{length-state_bytes}
 use Rattle.sx_ledger.proofs.ledger.Ledger.state_length.Goals as goal
 
 pub returns-clause-exact : goal.returns-clause-exact
-returns-clause-exact c = rw (c.assets-assets.ensures.number, c.accounts.ensures.number, c.offers.ensures.number) (sym (length-state_bytes c.args.self.now c.accounts.ensures.kept))
+returns-clause-exact c =
+    rw (c.assets-assets.ensures.number, c.accounts.ensures.number, c.offers.ensures.number)
+    (sym (length-state_bytes c.args.self.now c.accounts.ensures.kept))
