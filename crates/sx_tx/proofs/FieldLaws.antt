@@ -1,4 +1,4 @@
--- What is read as a field is spelled so, and what is spelled so is read.
+-- Decoding a field inverts encoding it.
 use Rattle.std.proofs.Common.{◌-◌, ◌^◌, true, refl, arith}
 use Rattle.byteorder.specs.Endian.{big_bytes}
 use Rattle.sx_bytes.specs.declared.fault.Form.TheVariants as form

@@ -1,4 +1,4 @@
--- What is read as a list of transactions, or as a payload of them, is spelled so, and what is spelled so is read.
+-- Decoding a list of transactions, or a payload of them, inverts encoding it.
 use Rattle.std.proofs.Common.{◌≡◌, ℕ, ◌*◌, ◌≤◌, cond, eqb, List, [], ◌∷◌, ◌++◌, length, Result, Ok, Err, refl, sym, ap, subst, ◌∙◌, append_assoc, arith}
 use Rattle.std.specs.Prelude.{IfOk}
 use Rattle.std.specs.List.{flat_map}
@@ -18,7 +18,7 @@ use Rattle.sx_bytes.proofs.Parts.{TakesAll, ReadsAgain}
 use Rattle.sx_tx.specs.declared.kind.Kind.{Kind}
 use Rattle.sx_tx.specs.declared.kind.Kind.TheVariants as kind
 use Rattle.sx_tx.specs.declared.tx.Tx.{Tx}
-use Rattle.sx_tx.specs.Transactions.{tx_bytes, list_bytes, IsTx, IsTxList}
+use Rattle.sx_tx.specs.Transactions.{most_transactions, tx_bytes, list_bytes, IsTx, IsTxList}
 use Rattle.sx_tx.specs.TransactionDecoding.{tx_at, list_at, candidates_at}
 use Rattle.sx_tx.specs.Laws.{length_of, EveryListFits}
 use Rattle.sx_tx.proofs.TxLaws.{tx_takes, tx_again, length-tx_bytes}
@@ -26,19 +26,19 @@ use Rattle.sx_tx.proofs.TxLaws.{tx_takes, tx_again, length-tx_bytes}
 pub list_takes : TakesAll list_at list_bytes IsTxList
 unfolding list_at
 list_takes c next x bytes e =
-    let n = bind_ok (field_at 4 (between 0 1000000) form.TooMany c) (λ count. many_at tx_at count.0 count.1) (x, next) e in
-    let t0 = range_takes 4 0 1000000 form.TooMany c n.0.1 n.0.0 bytes n.1 in
+    let n = bind_ok (field_at 4 (between 0 most_transactions) form.TooMany c) (λ count. many_at tx_at count.0 count.1) (x, next) e in
+    let t0 = range_takes 4 0 most_transactions form.TooMany c n.0.1 n.0.0 bytes n.1 in
     let t1 = many_takes tx_at tx_bytes IsTx tx_takes n.0.0 n.0.1 next x (bytes_after c n.0.1 (big_bytes 4 n.0.0) t0.0 bytes) n.2 in
     let count : Takes c (big_bytes 4 (length x)) n.0.1 = subst (λ (m : ℕ). Takes c (big_bytes 4 m) n.0.1) (sym t1.1) t0.0 in
-    let few : length x ≤ 1000000 = subst (λ (m : ℕ). m ≤ 1000000) (sym t1.1) t0.2 in
+    let few : length x ≤ most_transactions = subst (λ (m : ℕ). m ≤ most_transactions) (sym t1.1) t0.2 in
     (Takes-then c n.0.1 next (big_bytes 4 (length x)) (flat_map tx_bytes x) count t1.0, record { few = few; each = All-from_recursion IsTx x t1.2 })
 
 pub list_again : ReadsAgain list_at list_bytes IsTxList
 unfolding list_at
 list_again c x after is within e =
     let few = is.few in
-    let a = range_again 4 0 1000000 form.TooMany c (length x) (flat_map tx_bytes x ++ after) (omega arith) (omega arith) few within (e ∙ append_assoc (big_bytes 4 (length x)) (flat_map tx_bytes x) after) in
-    again_then (field_at 4 (between 0 1000000) form.TooMany c) (λ count. many_at tx_at count.0 count.1) c (length x) x (flat_map tx_bytes x ++ after) after a
+    let a = range_again 4 0 most_transactions form.TooMany c (length x) (flat_map tx_bytes x ++ after) (omega arith) (omega arith) few within (e ∙ append_assoc (big_bytes 4 (length x)) (flat_map tx_bytes x) after) in
+    again_then (field_at 4 (between 0 most_transactions) form.TooMany c) (λ count. many_at tx_at count.0 count.1) c (length x) x (flat_map tx_bytes x ++ after) after a
     (many_again tx_at tx_bytes IsTx tx_again x a.next after (recursion_from_All IsTx x is.each) a.within a.rest_is)
 
 -- ---- a whole payload

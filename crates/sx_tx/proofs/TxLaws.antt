@@ -1,18 +1,18 @@
--- What is read as a transaction is spelled so, and what is spelled so is read.
-use Rattle.std.proofs.Common.{◌≡◌, ℕ, zero, suc, ◌-◌, ◌^◌, ◌≤◌, true, List, ◌++◌, length, Ok, refl, subst, ◌∙◌, append_assoc, arith}
+-- Decoding a transaction inverts encoding it.
+use Rattle.std.proofs.Common.{◌≡◌, ℕ, zero, suc, ◌≤◌, List, ◌++◌, length, Ok, refl, subst, ◌∙◌, append_assoc, arith}
 use Rattle.byteorder.specs.Endian.{big_bytes}
 use Rattle.sx_bytes.specs.declared.fault.Form.TheVariants as form
 use Rattle.sx_bytes.specs.Field.{AreBytes}
 use Rattle.sx_bytes.specs.Cursor.{Cursor, rest}
 use Rattle.sx_bytes.specs.Grammar.{between, field_at}
-use Rattle.sx_bytes.proofs.Grammar.{bind_ok, Takes, Takes-then, Again, field_takes, field_again}
+use Rattle.sx_bytes.proofs.Grammar.{bind_ok, Takes, Takes-then, Again}
 use Rattle.sx_bytes.proofs.DecodingSteps.{bytes_after, range_takes, range_again, again_then}
 use Rattle.sx_bytes.proofs.Parts.{TakesAll, ReadsAgain, made_is, two_take, two_again, three_take, three_again}
 use Rattle.sx_tx.specs.declared.kind.Kind.{Kind}
 use Rattle.sx_tx.specs.declared.kind.Kind.TheVariants as kind
 use Rattle.sx_tx.specs.declared.tx.Tx.{Tx}
-use Rattle.sx_tx.specs.Transactions.{terms_bytes, kind_bytes, tx_bytes, IsId, IsSeq, IsAsset, IsAmount, IsLimit, AreTerms, IsKind, IsTx}
-use Rattle.sx_tx.specs.Laws.{length_of, KindIsLength}
+use Rattle.sx_tx.specs.Transactions.{least_tx_bytes, terms_bytes, kind_bytes, tx_bytes, IsId, IsSeq, IsAsset, IsAmount, IsLimit, AreTerms, IsKind, IsTx}
+use Rattle.sx_tx.specs.Laws.{length_of, KindIsLength, NoneIsShorter}
 use Rattle.sx_tx.proofs.FieldLaws.{id_takes, id_again, seq_takes, seq_again, asset_takes, asset_again, amount_takes, amount_again, limit_takes, limit_again}
 use Rattle.sx_tx.specs.TransactionDecoding.{id_at, seq_at, asset_at, amount_at, limit_at, terms_at, pay_at, create_at, offer_at, cancel_at, fields_at, kind_at, tx_at}
 
@@ -52,7 +52,7 @@ offer terms amount = kind.Offer terms.0 terms.1 terms.2 amount
 abbrev cancel : Terms → ℕ → Kind
 cancel terms seq = kind.Cancel terms.0 terms.1 terms.2 seq
 
--- behind its number n stand the fields of a kind
+-- after its byte n the fields of a kind stand
 abbrev AreFields : ℕ → Cursor → Cursor → Kind → Type 0
 AreFields n c next x = (text : List ℕ) × (big_bytes 1 n ++ text ≡ kind_bytes x) × Takes c text next × IsKind x
 
@@ -83,7 +83,7 @@ kind_takes c next x bytes e =
     let t1 = fields_take n.0.0 n.0.1 next x (bytes_after c n.0.1 (big_bytes 1 n.0.0) t0.0 bytes) t0.1 t0.2 n.2 in
     (subst (λ (text : List ℕ). Takes c text next) {x = big_bytes 1 n.0.0 ++ t1.0} {y = kind_bytes x} t1.1 (Takes-then c n.0.1 next (big_bytes 1 n.0.0) t1.0 t0.0 t1.2), t1.3)
 
--- a number of a kind, and its fields behind it
+-- the byte of a kind, and its fields after it
 number_again : (n : ℕ) (c : Cursor) (x : Kind) (text after : List ℕ) → 1 ≤ n → n ≤ 4 → ((mid : Cursor) → mid.place ≤ length mid.bytes → rest mid ≡ text ++ after → Again (fields_at n mid) mid x after)
     → c.place ≤ length c.bytes → rest c ≡ (big_bytes 1 n ++ text) ++ after → Again (kind_at c) c x after
 unfolding kind_at
@@ -132,3 +132,12 @@ length_is account seq (kind.Cancel sell buy limit seq') = refl
 
 pub length-tx_bytes : KindIsLength
 length-tx_bytes tx = length_is tx.account.0 tx.seq tx.kind
+
+least_of : (what : Kind) → least_tx_bytes ≤ length_of what
+least_of (kind.Pay to asset amount) = omega arith
+least_of (kind.Create id) = omega arith
+least_of (kind.Offer sell buy limit amount) = omega arith
+least_of (kind.Cancel sell buy limit seq) = omega arith
+
+pub none_is_shorter : NoneIsShorter
+none_is_shorter tx = rw (length-tx_bytes tx) (least_of tx.kind)

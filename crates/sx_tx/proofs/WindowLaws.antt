@@ -39,7 +39,7 @@ highest_is (suc n) map i lt set unset =
       | inr at ↦ let same : i ≡ n = omega arith in rw (← same) (rw set refl)
     ]
 
--- a map that is not 0 has a highest bit, and its count is what the leading zeros leave
+-- a map that is not 0 has a highest bit, and the leading zeros say where
 pub highest_of : (map : ℕ) → map ≢ 0 → map < 2 ^ 64 → (i : ℕ) × (i < 64) × IsBitSet map i × (64 - count_leading_zeros 64 map ≡ suc i) × (behind_highest 64 map ≡ suc i)
 highest_of map some fits =
     let t = leading_top 64 map (omega arith) fits in

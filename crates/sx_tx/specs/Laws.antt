@@ -5,8 +5,8 @@ use Rattle.sx_tx.specs.declared.kind.Kind.{Kind}
 use Rattle.sx_tx.specs.declared.kind.Kind.TheVariants as kind
 use Rattle.sx_tx.specs.declared.tx.Tx.{Tx}
 use Rattle.sx_tx.specs.declared.window.Window.{Window}
-use Rattle.sx_tx.specs.Transactions.{tx_bytes, list_bytes}
-use Rattle.sx_tx.specs.Window.{Next}
+use Rattle.sx_tx.specs.Transactions.{most_transactions, least_tx_bytes, most_list_bytes, tx_bytes, list_bytes}
+use Rattle.sx_tx.specs.Window.{open_numbers, Next}
 
 -- how many bytes a transaction of this kind takes
 abbrev pub length_of : Kind → ℕ
@@ -18,16 +18,20 @@ length_of (kind.Cancel sell buy limit seq) = 35
 abbrev pub KindIsLength : Type 0
 KindIsLength = (tx : Tx) → length (tx_bytes tx) ≡ length_of tx.kind
 
--- a list of transactions fits the payload of a record
-abbrev pub EveryListFits : Type 0
-EveryListFits = (txs : List Tx) → length txs ≤ 1000000 → length (list_bytes txs) ≤ 67108864
+abbrev pub NoneIsShorter : Type 0
+NoneIsShorter = (tx : Tx) → least_tx_bytes ≤ length (tx_bytes tx)
 
--- where bit i is the highest of the map, the number that it stands for is the last one afterwards
+-- the encoding of a list of transactions fits the payload of a record, which may have 64 MiB
+abbrev pub EveryListFits : Type 0
+EveryListFits = (txs : List Tx) → length txs ≤ most_transactions → length (list_bytes txs) ≤ most_list_bytes
+
+-- where bit i is the highest of the map, the sequence number that it stands for is the last one afterwards
 abbrev pub HighestIsLast : Type 0
 HighestIsLast =
-    (window : Window) (map i : ℕ) → i < 64 → IsBitSet map i → ((k : ℕ) → i < k → k < 64 → ¬ IsBitSet map k) →
+    (window : Window) (map i : ℕ) → i < open_numbers → IsBitSet map i →
+    ((k : ℕ) → i < k → k < open_numbers → ¬ IsBitSet map k) →
     Next 1 window map ≡ record { last = window.last + 1 + i; used = 0 }
 
--- where no number was used, the window stays
-abbrev pub NoneStays : Type 0
-NoneStays = (version : ℕ) (window : Window) → Next version window 0 ≡ window
+-- where no sequence number was used, the window does not change
+abbrev pub NoneUsedNoChange : Type 0
+NoneUsedNoChange = (version : ℕ) (window : Window) → Next version window 0 ≡ window

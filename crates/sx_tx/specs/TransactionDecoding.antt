@@ -1,4 +1,4 @@
--- Reading a transaction, or a list of them, from left to right, with the first fault.
+-- Decoding a transaction, or a list of them, from left to right, with the first fault.
 use Rattle.std.specs.Prelude.{ℕ, ◌-◌, ◌^◌, true, List, Result, Ok, Err, ◌==◌, if◌then◌else◌}
 use Rattle.sx_bytes.specs.declared.fault.Form.TheVariants as form
 use Rattle.sx_bytes.specs.declared.fault.FormFault.{FormFault}
@@ -7,8 +7,9 @@ use Rattle.sx_bytes.specs.Grammar.{◌>>=◌, between, field_at, many_at}
 use Rattle.sx_tx.specs.declared.kind.Kind.{Kind}
 use Rattle.sx_tx.specs.declared.kind.Kind.TheVariants as kind
 use Rattle.sx_tx.specs.declared.tx.Tx.{Tx}
+use Rattle.sx_tx.specs.Transactions.{most_transactions}
 
--- any number
+-- any account
 abbrev pub id_at : Cursor → Result (ℕ × Cursor) FormFault
 id_at = field_at 8 (λ _. true) form.Short
 
@@ -56,17 +57,17 @@ cancel_at c = do
   seq ← seq_at terms.1
   Ok (kind.Cancel terms.0.0 terms.0.1 terms.0.2 seq.0, seq.1)
 
--- the fields of the kind of this number
+-- the fields after the byte of a kind
 abbrev pub fields_at : ℕ → Cursor → Result (Kind × Cursor) FormFault
-fields_at number c =
-    if number == 1 then pay_at c else
-    (if number == 2 then create_at c else
-    (if number == 3 then offer_at c else cancel_at c))
+fields_at byte c =
+    if byte == 1 then pay_at c else
+    (if byte == 2 then create_at c else
+    (if byte == 3 then offer_at c else cancel_at c))
 
 unfoldable pub kind_at : Cursor → Result (Kind × Cursor) FormFault
 kind_at c = do
-  number ← field_at 1 (between 1 4) form.Tag c
-  fields_at number.0 number.1
+  byte ← field_at 1 (between 1 4) form.Tag c
+  fields_at byte.0 byte.1
 
 unfoldable pub tx_at : Cursor → Result (Tx × Cursor) FormFault
 tx_at c = do
@@ -77,7 +78,7 @@ tx_at c = do
 
 unfoldable pub list_at : Cursor → Result (List Tx × Cursor) FormFault
 list_at c = do
-  count ← field_at 4 (between 0 1000000) form.TooMany c
+  count ← field_at 4 (between 0 most_transactions) form.TooMany c
   many_at tx_at count.0 count.1
 
 -- a whole payload, from its first byte

@@ -1,10 +1,22 @@
--- Transactions, and their one spelling as bytes.
-use Rattle.std.specs.Prelude.{ℕ, ◌^◌, ◌<◌, ◌≤◌, List, ◌++◌, length, All}
+-- Transactions, and their encoding.
+use Rattle.std.specs.Prelude.{ℕ, ◌+◌, ◌*◌, ◌^◌, ◌<◌, ◌≤◌, List, ◌++◌, length, All}
 use Rattle.std.specs.List.{flat_map}
 use Rattle.byteorder.specs.Endian.{big_bytes}
 use Rattle.sx_tx.specs.declared.kind.Kind.{Kind}
 use Rattle.sx_tx.specs.declared.kind.Kind.TheVariants as kind
 use Rattle.sx_tx.specs.declared.tx.Tx.{Tx}
+
+-- how many transactions a list may have
+abbrev pub most_transactions : ℕ
+most_transactions = 1000000
+
+-- how many bytes a transaction takes at least
+abbrev pub least_tx_bytes : ℕ
+least_tx_bytes = 25
+
+-- how many bytes a list of transactions takes at most
+abbrev pub most_list_bytes : ℕ
+most_list_bytes = 4 + 35 * most_transactions
 
 -- what is sold, what is bought, and the limit
 abbrev pub terms_bytes : ℕ → ℕ → ℕ → List ℕ
@@ -20,7 +32,7 @@ kind_bytes (kind.Cancel sell buy limit seq) = big_bytes 1 4 ++ (terms_bytes sell
 abbrev pub tx_bytes : Tx → List ℕ
 tx_bytes tx = big_bytes 8 tx.account.0 ++ (big_bytes 8 tx.seq ++ kind_bytes tx.kind)
 
--- a list of transactions, their number first
+-- a list of transactions, its length first
 abbrev pub list_bytes : List Tx → List ℕ
 list_bytes txs = big_bytes 4 (length txs) ++ flat_map tx_bytes txs
 
@@ -56,5 +68,5 @@ pub record IsTx (tx : Tx) : Type 0 where
   pub kind : IsKind tx.kind
 
 pub record IsTxList (txs : List Tx) : Type 0 where
-  pub few : length txs ≤ 1000000
+  pub few : length txs ≤ most_transactions
   pub each : All IsTx txs

@@ -1,6 +1,7 @@
-//! The fields that ledgers and transactions are made of: an account, a number, an asset, an amount
-//! and a limit. Each is read whole and then tested. A refusal leaves the reader where it was, and its
-//! offset is that of the field, or that of the end of the bytes for `Short`. They take no memory.
+//! The fields that ledgers and transactions are made of: an account, a sequence number, an asset, an
+//! amount and a limit. Each is read whole and then tested. A refusal leaves the reader where it was,
+//! and its offset is that of the field, or that of the end of the bytes for `Short`. They take no
+//! memory.
 
 ghost use Rattle.std.specs.Prelude.{◌≡◌, ◌≤◌};
 ghost use Rattle.sx_bytes.specs.Cursor.{Decodes};
@@ -21,16 +22,16 @@ pub fn read_id(from: &mut Reader) -> Result<AccountId, FormFault>
     Ok(AccountId(from.get_u64()?))
 }
 
-/// The number at the place, in eight bytes. The faults are `Short`, and `SeqRange` of what is no
-/// sequence number.
+/// The sequence number at the place, in eight bytes. The faults are `Short`, and `SeqRange` of what
+/// is no sequence number.
 #[inline]
 pub fn read_seq(from: &mut Reader) -> Result<Seq, FormFault>
     ensures exact { Decodes (λ x. x) (seq_at from.old) from.old from.new result }
     ensures same { from.new.bytes ≡ from.old.bytes }
     ensures onward { from.old.place ≤ from.new.place }
 {
-    let number = from.field_u64(Seq::FIRST, Seq::LAST, Form::SeqRange)?;
-    Ok(Seq::new(number).unwrap())
+    let raw = from.field_u64(Seq::FIRST, Seq::LAST, Form::SeqRange)?;
+    Ok(Seq::new(raw).unwrap())
 }
 
 /// The asset at the place, in one byte. The faults are `Short`, and `AssetRange` of what is no
@@ -41,8 +42,8 @@ pub fn read_asset(from: &mut Reader) -> Result<AssetId, FormFault>
     ensures same { from.new.bytes ≡ from.old.bytes }
     ensures onward { from.old.place ≤ from.new.place }
 {
-    let number = from.field_u8(0, AssetId::LIMIT - 1, Form::AssetRange)?;
-    Ok(AssetId::new(number).unwrap())
+    let raw = from.field_u8(0, AssetId::LIMIT - 1, Form::AssetRange)?;
+    Ok(AssetId::new(raw).unwrap())
 }
 
 /// The amount at the place, in eight bytes. The faults are `Short`, and `AmountRange` of what is no

@@ -1,3 +1,5 @@
+//! The four kinds of transaction.
+
 use sx_base::{AccountId, Amount, AssetId, Seq};
 use sx_price::Limit;
 
@@ -21,7 +23,7 @@ pub enum Kind {
         limit: Limit,
         amount: Amount,
     },
-    /// Ends the account's own offer of these assets, this limit and this number.
+    /// Ends the account's own offer of these assets, this limit and this sequence number.
     Cancel {
         sell: AssetId,
         buy: AssetId,

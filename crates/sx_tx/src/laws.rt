@@ -1,31 +1,44 @@
+//! Laws of the encodings and of the windows, for all values.
+
+ghost use Rattle.std.specs.Prelude.{◌≡◌};
 ghost use Rattle.sx_bytes.specs.Laws.{DecodesOnlyEncodings, DecodesEveryEncoding, IsInjective, IsPrefixFree};
-ghost use Rattle.sx_tx.specs.Transactions.{tx_bytes, list_bytes, IsTx, IsTxList};
+ghost use Rattle.sx_tx.specs.Transactions.{most_transactions, least_tx_bytes, tx_bytes, list_bytes, IsTx, IsTxList};
 ghost use Rattle.sx_tx.specs.TransactionDecoding.{tx_at, list_at};
-ghost use Rattle.sx_tx.specs.Laws.{KindIsLength, EveryListFits, HighestIsLast, NoneStays};
+ghost use Rattle.sx_tx.specs.Window.{open_numbers};
+ghost use Rattle.sx_tx.specs.Laws.{KindIsLength, NoneIsShorter, EveryListFits, HighestIsLast, NoneUsedNoChange};
 
-/// What is read as a transaction is spelled so, and what is spelled so is read. Two transactions of
-/// one spelling are the same, bytes begin with the spelling of one transaction at most, and the
-/// kind alone says how many bytes there are.
+use crate::tx::Tx;
+use crate::tx_list::MOST_TRANSACTIONS;
+use crate::window::Window;
+
+/// Decoding a transaction answers a transaction only where the bytes begin with its encoding, and
+/// does so for every encoding. Two transactions of one encoding are the same, no encoding is a prefix
+/// of another, and the kind alone says how many bytes there are, never fewer than `Tx::LEAST_BYTES`.
 pub fn tx_laws()
-    ensures read { DecodesOnlyEncodings tx_at tx_bytes IsTx }
-    ensures spelled { DecodesEveryEncoding tx_at tx_bytes IsTx }
-    ensures one { IsInjective tx_bytes IsTx }
-    ensures first { IsPrefixFree tx_bytes IsTx }
+    ensures decodes_only { DecodesOnlyEncodings tx_at tx_bytes IsTx }
+    ensures decodes_every { DecodesEveryEncoding tx_at tx_bytes IsTx }
+    ensures injective { IsInjective tx_bytes IsTx }
+    ensures prefix_free { IsPrefixFree tx_bytes IsTx }
     ensures length { KindIsLength }
+    ensures shortest { NoneIsShorter }
+    ensures least_bytes { Tx.LEAST_BYTES ≡ least_tx_bytes }
 {}
 
-/// The same of lists of transactions, and each fits the payload of a record.
+/// The same of lists of at most `MOST_TRANSACTIONS` transactions, and each fits the payload of a
+/// record.
 pub fn list_laws()
-    ensures read { DecodesOnlyEncodings list_at list_bytes IsTxList }
-    ensures spelled { DecodesEveryEncoding list_at list_bytes IsTxList }
-    ensures one { IsInjective list_bytes IsTxList }
-    ensures first { IsPrefixFree list_bytes IsTxList }
+    ensures decodes_only { DecodesOnlyEncodings list_at list_bytes IsTxList }
+    ensures decodes_every { DecodesEveryEncoding list_at list_bytes IsTxList }
+    ensures injective { IsInjective list_bytes IsTxList }
+    ensures prefix_free { IsPrefixFree list_bytes IsTxList }
     ensures fits { EveryListFits }
+    ensures most { MOST_TRANSACTIONS ≡ most_transactions }
 {}
 
-/// The last number of a window after a block of version 1 is the greatest that was used, and a
-/// window of which no number was used stays.
+/// The last sequence number of a window after a block of version 1 is the greatest that was used,
+/// and a window of which none was used does not change. `Window::OPEN` of them are open.
 pub fn window_laws()
     ensures highest { HighestIsLast }
-    ensures none { NoneStays }
+    ensures none { NoneUsedNoChange }
+    ensures open_numbers { Window.OPEN ≡ open_numbers }
 {}

@@ -1,4 +1,4 @@
-//! Reading a transaction, or a payload of them, field by field from left to right. Each field is
+//! Decoding a transaction, or a payload of them, field by field from left to right. Each field is
 //! read whole and then tested.
 
 ghost use Rattle.std.specs.Prelude.{◌≡◌, ◌≤◌, List, IfOk, Ok};
@@ -12,17 +12,11 @@ ghost use Rattle.sx_tx.specs.TransactionDecoding.{terms_at, pay_at, create_at, o
 use crate::fields::{read_amount, read_asset, read_id, read_limit, read_seq};
 use crate::kind::Kind;
 use crate::tx::Tx;
-use crate::tx_list::TxList;
+use crate::tx_list::{MOST_TRANSACTIONS, TxList};
 use std::alloc::Global;
 use sx_base::AssetId;
 use sx_bytes::{Form, FormFault, ReadError, Reader};
 use sx_price::Limit;
-
-/// How many transactions a list may have.
-const MOST_TXS: u32 = 1_000_000;
-
-// How many bytes the shortest transaction takes.
-const LEAST_BYTES: usize = 25;
 
 // What is sold, what is bought, and the limit.
 #[inline]
@@ -111,7 +105,7 @@ fn kind(from: &mut Reader) -> Result<Kind, FormFault>
     }
 }
 
-// A transaction. Where it refuses, the reader may stand anywhere behind its old place.
+// A transaction. Where it refuses, the reader may stand anywhere after its old place.
 #[inline]
 #[tactic(auto, unfolding(crate::specs::TransactionDecoding::tx_at))]
 fn tx(from: &mut Reader) -> Result<Tx, FormFault>
@@ -125,10 +119,10 @@ fn tx(from: &mut Reader) -> Result<Tx, FormFault>
     Ok(Tx { account, seq, kind })
 }
 
-/// The transaction that the bytes at the place spell; the reader then stands behind it. An error is
+/// The transaction whose encoding stands at the place; the reader then stands after it. An error is
 /// the first fault from left to right, its offset counted from the reader's first byte, and leaves
-/// the reader where it was. The faults are `SeqRange` of the transaction's own number or the one
-/// that a cancel names, `Tag` of a kind that is not 1 to 4, `AssetRange`, `LimitRange`,
+/// the reader where it was. The faults are `SeqRange` of the transaction's own sequence number or of
+/// the one that a cancel names, `Tag` of a kind that is not 1 to 4, `AssetRange`, `LimitRange`,
 /// `AmountRange`, and `Short` where a field passes the end of the bytes. It takes no memory.
 pub fn read_tx(from: &mut Reader) -> Result<Tx, FormFault>
     ensures { Decodes (λ x. x) (tx_at from.old) from.old from.new result }
@@ -145,7 +139,7 @@ pub fn read_tx(from: &mut Reader) -> Result<Tx, FormFault>
 fn txs(alloc: Global, from: &mut Reader, count: u32) -> Result<TxList, ReadError>
     ensures { MayDecodeOrStray (λ x. x) (many_at tx_at count from.old) from.new result }
 {
-    let room = from.left() / LEAST_BYTES;
+    let room = from.left() / Tx::LEAST_BYTES;
     let mut txs = Vec::with_capacity(alloc, room.min(count as usize))?;
     for _ in 0..count {
         // Taken apart, since the check knows how to move a kind only where one is named.
@@ -159,7 +153,7 @@ fn txs(alloc: Global, from: &mut Reader, count: u32) -> Result<TxList, ReadError
 fn list(alloc: Global, from: &mut Reader) -> Result<TxList, ReadError>
     ensures { MayDecodeOrStray (λ x. x) (list_at from.old) from.new result }
 {
-    let count = from.field_u32(0, MOST_TXS, Form::TooMany)?;
+    let count = from.field_u32(0, MOST_TRANSACTIONS, Form::TooMany)?;
     txs(alloc, from, count)
 }
 
@@ -177,15 +171,15 @@ fn whole(alloc: Global, payload: &[u8]) -> Result<TxList, ReadError>
     Ok(txs)
 }
 
-/// The transactions that a payload of candidates spells, all of the payload: a count and so many
-/// transactions, in any order and with repeats. An error is the first fault from left to right, its
-/// offset counted from the payload's first byte, or `NoMemory`, which may come in place of any
-/// other answer. The faults are `TooMany` of a count above 1,000,000, those of `read_tx`, and
-/// `Rest` at the first byte behind the last transaction.
+/// The transactions of a payload of candidates, which has to be all of the bytes: a count and that
+/// many transactions, in any order and with repeats. An error is the first fault from left to right,
+/// its offset counted from the payload's first byte. The faults are `TooMany` of a count above
+/// `MOST_TRANSACTIONS`, those of `read_tx`, and `Rest` at the first byte after the last transaction.
+/// It may answer `NoMemory` in place of any other answer.
 pub fn read_candidates(alloc: Global, payload: &[u8]) -> Result<TxList, ReadError>
-    // What is read is spelled so.
+    // It answers transactions only where the payload is their encoding.
     ensures found { IfOk result (λ txs. IsTxList txs × (payload.now ≡ list_bytes txs)) }
-    // What is spelled so is read, unless memory runs out.
+    // It does so for every encoding, unless memory runs out.
     ensures only { (txs : List Tx) → IsTxList txs → payload.now ≡ list_bytes txs →
         Gives (λ found. found) result (Ok txs) }
     // Which fault it is.

@@ -1,66 +1,76 @@
-//! Which numbers of an account may come next.
+//! Which sequence numbers of an account may come next.
 
 ghost use Rattle.std.specs.Prelude.{◌≡◌, ℕ, ◌+◌, ◌^◌, ◌<◌, ◌≤◌, ◌↔◌, IfOk, IsOk, IsErrOf, IsBitSet};
 ghost use Rattle.sx_tx.specs.declared.window.WindowFault.TheVariants as fault;
-ghost use Rattle.sx_tx.specs.Window.{Next};
+ghost use Rattle.sx_tx.specs.Window.{open_numbers, number_of, Next};
 
 use sx_base::Seq;
 use thiserror::Error;
 
-/// How many numbers are open behind the last one.
-const OPEN: u64 = 64;
-
-/// What an account has used of its numbers: the greatest one, 0 where it used none, and a word that
-/// is 0 in version 1.
+/// What an account has used of its sequence numbers: the greatest one, 0 where it used none, and a
+/// word that is 0 in version 1.
 #[derive(Clone, Copy, Debug, PartialEq, Eq)]
 pub struct Window {
     pub last: u64,
     pub used: u64,
 }
 
-/// Why a number is not in the window.
+/// Why a sequence number is not in the window.
 #[derive(Clone, Copy, Debug, PartialEq, Eq, Error)]
 pub enum WindowFault {
     /// 1: it is not above the last one.
-    #[error("the number is not above the last one")]
+    #[error("the sequence number is not above the last one")]
     Behind = 1,
     /// 2: it is more than 64 above the last one.
-    #[error("the number is more than 64 above the last one")]
+    #[error("the sequence number is more than 64 above the last one")]
     Beyond = 2,
 }
 
+impl WindowFault {
+    /// The number of the fault.
+    pub fn number(self) -> u8
+        ensures { result ≡ number_of self }
+    {
+        self as u8
+    }
+}
+
 impl Window {
-    /// The place of a number in the window, from 0 to 63: the first open number has place 0.
+    /// How many sequence numbers are open after the last one.
+    pub const OPEN: u64 = 64;
+
+    /// The place of a sequence number in the window, from 0 to 63: the one after the last has
+    /// place 0. `WindowFault` comes exactly where it is not in the window.
     pub fn place(&self, seq: Seq) -> Result<u32, WindowFault>
         ensures place { IfOk result (λ place. self.now.last + 1 + place ≡ seq) }
-        ensures inside { IsOk result ↔ ((self.now.last < seq) × (seq ≤ self.now.last + 64)) }
+        ensures inside { IsOk result ↔ ((self.now.last < seq) × (seq ≤ self.now.last + open_numbers)) }
         ensures behind { IsErrOf result fault.Behind ↔ (seq ≤ self.now.last) }
-        ensures beyond { IsErrOf result fault.Beyond ↔ (self.now.last + 64 < seq) }
+        ensures beyond { IsErrOf result fault.Beyond ↔ (self.now.last + open_numbers < seq) }
     {
-        let number = seq.get();
-        if number <= self.last {
+        let seq = seq.get();
+        if seq <= self.last {
             return Err(WindowFault::Behind);
         }
-        let place = number - self.last - 1;
-        if place >= OPEN {
+        let place = seq - self.last - 1;
+        if place >= Self::OPEN {
             return Err(WindowFault::Beyond);
         }
         Ok(place as u32)
     }
 
-    /// The window after a block of this version in which the account used the numbers of `map`: bit
-    /// i stands for the number `last + 1 + i`.
+    /// The window after a block of this version in which the account used the sequence numbers of
+    /// `map`: bit i stands for `last + 1 + i`.
     pub fn next(&self, version: u8, map: u64) -> Window
         requires version { version ≡ 1 }
-        requires numbers { (i : ℕ) → i < 64 → IsBitSet map i → self.now.last + 1 + i < 2 ^ 63 }
+        requires in_range { (i : ℕ) → i < open_numbers → IsBitSet map i → self.now.last + 1 + i < 2 ^ 63 }
         ensures { result ≡ Next version self.now map }
     {
         if map == 0 {
             return *self;
         }
-        let behind_highest = u64::from(u64::BITS - map.leading_zeros());
+        let bit_length = u64::from(u64::BITS - map.leading_zeros());
         Window {
-            last: self.last + behind_highest,
+            last: self.last + bit_length,
             used: 0,
         }
     }

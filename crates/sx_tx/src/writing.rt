@@ -1,10 +1,10 @@
-//! Writing a transaction, or a payload of them. What is written is the one spelling, and where
-//! memory runs out it is taken back.
+//! Encoding a transaction, or a payload of them. Where memory runs out, what was written is taken
+//! back.
 
 ghost use Rattle.std.specs.Prelude.{◌≡◌, ◌≤◌, ◌++◌, length, OnOk, OnErr};
 ghost use Rattle.byteorder.specs.Endian.{big_bytes};
 ghost use Rattle.sx_bytes.specs.Written.{Begins};
-ghost use Rattle.sx_tx.specs.Transactions.{terms_bytes, kind_bytes, tx_bytes, list_bytes};
+ghost use Rattle.sx_tx.specs.Transactions.{most_transactions, terms_bytes, kind_bytes, tx_bytes, list_bytes};
 
 use crate::kind::Kind;
 use crate::tx::Tx;
@@ -39,7 +39,7 @@ fn put_create(to: &mut Writer, id: AccountId) -> Result<(), NoMemory>
     to.put_u64(id.0)
 }
 
-// The number of a kind, what is sold, what is bought, the limit, and the last field.
+// The byte of a kind, what is sold, what is bought, the limit, and the last field.
 #[inline]
 #[tactic(auto, using(sx_bytes::proofs::Written::begins, sx_bytes::proofs::Written::begins_then))]
 fn put_terms(
@@ -99,8 +99,7 @@ fn put_tx(to: &mut Writer, tx: &Tx) -> Result<(), NoMemory>
     put_kind(to, tx.kind)
 }
 
-/// Appends the transaction's one spelling. Where memory runs out, what was written before stays as
-/// it was.
+/// Appends the transaction's encoding. `NoMemory` does not change what was written before.
 #[tactic(auto, using(sx_bytes::proofs::Written::begins_cut))]
 pub fn write_tx(to: &mut Writer, tx: &Tx) -> Result<(), NoMemory>
     ensures ok { OnOk result (to.new ≡ to.old ++ tx_bytes tx.now) }
@@ -116,7 +115,7 @@ pub fn write_tx(to: &mut Writer, tx: &Tx) -> Result<(), NoMemory>
 
 #[tactic(auto, using(sx_bytes::proofs::Written::begins, sx_bytes::proofs::Written::begins_then))]
 fn put_list(to: &mut Writer, txs: &[Tx]) -> Result<(), NoMemory>
-    requires { length txs.now ≤ 1000000 }
+    requires { length txs.now ≤ most_transactions }
     ensures ok { OnOk result (to.new ≡ to.old ++ list_bytes txs.now) }
     ensures err { OnErr result (Begins to.old to.new) }
 {
@@ -127,11 +126,11 @@ fn put_list(to: &mut Writer, txs: &[Tx]) -> Result<(), NoMemory>
     Ok(())
 }
 
-/// Appends the one spelling of a payload of candidates: their count and the transactions, in the
-/// order of the slice. Where memory runs out, what was written before stays as it was.
+/// Appends the encoding of a payload of candidates: their count and the transactions, in the order
+/// of the slice. `NoMemory` does not change what was written before.
 #[tactic(auto, using(sx_bytes::proofs::Written::begins_cut))]
 pub fn write_candidates(to: &mut Writer, txs: &[Tx]) -> Result<(), NoMemory>
-    requires { length txs.now ≤ 1000000 }
+    requires { length txs.now ≤ most_transactions }
     ensures ok { OnOk result (to.new ≡ to.old ++ list_bytes txs.now) }
     ensures err { OnErr result (to.new ≡ to.old) }
 {

@@ -7,10 +7,10 @@ use Rattle.sx_tx.proofs.window.Window.next.Goals as goal
 pub overflow_add-result : goal.overflow_add-result
 overflow_add-result c =
     let top = highest_of c.args.map c.if-map-eq0.false c.ranges.map.fits in
-    omega (arith, c.requires.numbers top.0 top.1 top.2, c.from-behind_highest.ensures, top.3)
+    omega (arith, c.requires.in_range top.0 top.1 top.2, c.from-bit_length.ensures, top.3)
 
 pub returns : goal.returns
 returns c =
     let top = highest_of c.args.map c.if-map-eq0.false c.ranges.map.fits in
-    let same : c.from-behind_highest.result ≡ behind_highest 64 c.args.map = c.from-behind_highest.ensures ∙ top.3 ∙ sym top.4 in
+    let same : c.from-bit_length.result ≡ behind_highest 64 c.args.map = c.from-bit_length.ensures ∙ top.3 ∙ sym top.4 in
     rw (ne_eqb c.args.map 0 c.if-map-eq0.false) (ap (λ (n : ℕ). record { last = c.args.self.now.last + n; used = 0 }) same)

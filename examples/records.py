@@ -1,0 +1,343 @@
+#!/usr/bin/env python3
+"""Records from plain text, and plain text from records. Needs Python 3.9 or later, and nothing else.
+
+    python3 examples/records.py write <TEXT >RECORDS
+    python3 examples/records.py show <RECORDS >TEXT
+
+It is written apart from the program, from docs/FORMATS.md and docs/RULES.md, and nothing of it is proved.
+
+The text has one entry a line. Words are parted by spaces, numbers are decimal, and `#` starts a comment.
+A line `state` or `block` begins a record, and the lines after it, up to the next such line, belong to it.
+
+    state version 1 height H assets N                        a ledger at height H, with N assets
+    asset A price P rounding R                               for each asset; a price of 1 is 16777216
+    account ID last L balances B0 B1 ..                      its greatest sequence number used, 0 if none
+    offer SELL BUY limit M account ID seq S amount E         an offer that stands in the ledger
+
+    block version 1 height H mu J assets N                   a block, where μ is 2 to the power -J
+    asset A price P potential Q rounding R
+    trade SELL BUY VALUE
+    dropped none                                             or `dropped CUT`, 8 hexadecimal digits
+    parent DIGEST                                            64 hexadecimal digits
+    body DIGEST
+    after DIGEST
+    transactions COUNT                                       not looked at
+    tx ACCOUNT SEQ pay TO ASSET AMOUNT
+    tx ACCOUNT SEQ create ID
+    tx ACCOUNT SEQ offer SELL BUY limit M amount E
+    tx ACCOUNT SEQ cancel SELL BUY limit M seq S
+
+Lines of one kind stand in the order in which they are to be written: accounts by id, offers and transactions
+as docs/FORMATS.md says. `write` tests neither order nor ranges, so it can make wrong records on purpose.
+
+`version 1` may be left out, and in a block everything but the lines `tx`. A line `block` alone has the next
+height and μ = 2^-10. Without lines that say otherwise the prices are those of the ledger before the block, the
+potentials are 0, and digests and roundings are the right ones: `write` applies each block to the ledger before
+it. Where that fails, as with an overdraft, roundings and the digest `after` are 0. `show` writes every line.
+"""
+import contextlib
+import hashlib
+import struct
+import sys
+
+STATE, BLOCK = 1, 3
+KINDS = {"pay": (1, "QBQ"), "create": (2, "Q"), "offer": (3, "BBQQ"), "cancel": (4, "BBQQ")}
+NAMES = {
+    "pay": ("", "", ""),
+    "create": ("",),
+    "offer": ("", "", "limit ", "amount "),
+    "cancel": ("", "", "limit ", "seq "),
+}
+
+
+# ---- records as bytes: a state and a block are dictionaries, with the words of the text as keys
+
+
+def record(tag, payload):
+    return struct.pack(">BI", tag, len(payload)) + payload
+
+
+def state_record(state):
+    out = struct.pack(">BQB", 1, state["height"], len(state["prices"]))
+    out += numbers("Q", state["prices"]) + numbers("Q", state["roundings"])
+    out += struct.pack(">I", len(state["accounts"]))
+    out += b"".join(numbers("Q", [id, last, *balances]) for id, last, balances in state["accounts"])
+    out += struct.pack(">I", len(state["offers"]))
+    return record(STATE, out + b"".join(struct.pack(">BBQQQQ", *offer) for offer in state["offers"]))
+
+
+def body_bytes(txs):
+    out = [struct.pack(">I", len(txs))]
+    for account, seq, kind, fields in txs:
+        tag, widths = KINDS[kind]
+        out.append(struct.pack(">QQB" + widths, account, seq, tag, *fields))
+    return b"".join(out)
+
+
+def block_record(block):
+    out = struct.pack(">BQ", 1, block["height"]) + block["parent"] + block["body"]
+    out += struct.pack(">BB", block["mu"], len(block["prices"])) + numbers("Q", block["prices"])
+    out += struct.pack(">H", len(block["trades"]))
+    for (sell, buy), value in block["trades"].items():
+        out += struct.pack(">BB", sell, buy) + value.to_bytes(16, "big")
+    out += b"\0" if block["cut"] is None else struct.pack(">BI", 1, block["cut"])
+    out += numbers("I", block["potentials"]) + numbers("Q", block["roundings"])
+    return record(BLOCK, out + block["after"] + body_bytes(block["txs"]))
+
+
+def numbers(width, items):
+    return struct.pack(f">{len(items)}{width}", *items)
+
+
+# ---- bytes as records
+
+
+class Bytes:
+    def __init__(self, data):
+        self.data, self.at = data, 0
+
+    def take(self, count):
+        if self.at + count > len(self.data):
+            sys.exit(f"records: the bytes end at {len(self.data)}, inside a field")
+        self.at += count
+        return self.data[self.at - count : self.at]
+
+    def fields(self, widths):
+        return list(struct.unpack(">" + widths, self.take(struct.calcsize(">" + widths))))
+
+    def one(self, width):
+        return self.fields(width)[0]
+
+
+def read_state(at):
+    _, height, assets = at.fields("BQB")
+    prices, roundings = at.fields(f"{assets}Q"), at.fields(f"{assets}Q")
+    rows = [at.fields(f"{2 + assets}Q") for _ in range(at.one("I"))]
+    offers = [tuple(at.fields("BBQQQQ")) for _ in range(at.one("I"))]
+    accounts = [(id, last, balances) for id, last, *balances in rows]
+    return {"height": height, "prices": prices, "roundings": roundings, "accounts": accounts, "offers": offers}
+
+
+def read_tx(at):
+    account, seq, tag = at.fields("QQB")
+    kind = next((it for it in KINDS if KINDS[it][0] == tag), None)
+    if kind is None:
+        sys.exit(f"records: no kind of transaction has the tag {tag}")
+    return account, seq, kind, at.fields(KINDS[kind][1])
+
+
+def read_block(at):
+    block = {"height": at.fields("BQ")[1], "parent": at.take(32), "body": at.take(32), "mu": at.one("B")}
+    assets = at.one("B")
+    block["prices"], block["trades"] = at.fields(f"{assets}Q"), {}
+    for _ in range(at.one("H")):
+        pair = tuple(at.fields("BB"))
+        block["trades"][pair] = int.from_bytes(at.take(16), "big")
+    block["cut"] = at.one("I") if at.one("B") else None
+    block["potentials"], block["roundings"] = at.fields(f"{assets}I"), at.fields(f"{assets}Q")
+    block["after"] = at.take(32)
+    block["txs"] = [read_tx(at) for _ in range(at.one("I"))]
+    return block
+
+
+# ---- the ledger after a block
+
+# what comes where a number or a word does not fit
+WRONG = (ValueError, IndexError, KeyError, TypeError, OverflowError, struct.error)
+
+
+def digest(data):
+    return hashlib.sha256(data).digest()
+
+
+def applied(state, block):
+    """The ledger after a block that is taken to be right, and the block's roundings."""
+    accounts = {id: [last, list(balances)] for id, last, balances in state["accounts"]}
+    offers = {offer[:5]: offer[5] for offer in state["offers"]}
+    for account, seq, kind, fields in block["txs"]:
+        entry = accounts.setdefault(account, [0, [0] * len(state["prices"])])
+        entry[0] = max(entry[0], seq)
+        if kind == "pay":
+            to, asset, amount = fields
+            entry[1][asset] -= amount
+            accounts.setdefault(to, [0, [0] * len(state["prices"])])[1][asset] += amount
+        elif kind == "create":
+            accounts.setdefault(fields[0], [0, [0] * len(state["prices"])])
+        elif kind == "offer":
+            sell, buy, limit, amount = fields
+            entry[1][sell] -= amount
+            offers[sell, buy, limit, account, seq] = amount
+        else:
+            sell, buy, limit, number = fields
+            entry[1][sell] += offers.pop((sell, buy, limit, account, number), 0)
+    roundings = traded(accounts, offers, block)
+    after = {
+        "height": state["height"] + 1,
+        "prices": block["prices"],
+        "roundings": [a + b for a, b in zip(state["roundings"], roundings)],
+        "accounts": [(id, *accounts[id]) for id in sorted(accounts)],
+        "offers": [(*key, offers[key]) for key in sorted(offers)],
+    }
+    return after, roundings
+
+
+def traded(accounts, offers, block):
+    """Fills the offers of each pair, from the lowest limit price up; answers the roundings."""
+    prices, roundings = block["prices"], [0] * len(block["prices"])
+    for (sell, buy), left in block["trades"].items():
+        for key in sorted(it for it in offers if it[:2] == (sell, buy)):
+            value = min(left, prices[sell] * offers[key])
+            left -= value
+            gives, gets = -(-value // prices[sell]), value // prices[buy]
+            offers[key] -= gives
+            if not offers[key]:
+                del offers[key]
+            accounts[key[3]][1][buy] += gets
+            roundings[sell] += gives
+            roundings[buy] -= gets
+    return roundings
+
+
+def completed(block, state):
+    """The block with what its text left out, and the ledger after it."""
+    assets = range(len(state["prices"]) if block["assets"] is None else block["assets"])
+    rows = block.pop("rows")
+    for at, name in enumerate(("price", "potential", "rounding")):
+        block[name + "s"] = [rows[it][at] if it in rows else 0 for it in assets]
+    for it in assets:
+        if it not in rows:
+            block["prices"][it] = state["prices"][it]
+    if block["height"] is None:
+        block["height"] = state["height"] + 1
+    after, roundings, after_digest = None, [0 for _ in assets], bytes(32)
+    with contextlib.suppress(*WRONG):
+        after, roundings = applied(state, block)
+        after_digest = digest(state_record(after))
+    for it in assets:
+        if it not in rows:
+            block["roundings"][it] = roundings[it]
+    right = {"parent": digest(state_record(state)), "body": digest(body_bytes(block["txs"])), "after": after_digest}
+    return {**block, **{name: block[name] or right[name] for name in right}}, after
+
+
+# ---- text
+
+
+def number_after(words, name, other):
+    return int(words[words.index(name) + 1]) if name in words else other
+
+
+def write(lines):
+    """The bytes of the records that the text says."""
+    out, state, block = [], None, None
+
+    def close():
+        nonlocal state, block
+        if block:
+            whole, state = completed(block, state)
+            out.append(block_record(whole))
+        elif state:
+            out.append(state_record(state))
+        block = None
+
+    for at, line in enumerate(lines, 1):
+        words = line.split("#")[0].split()
+        try:
+            if words[:1] == ["state"]:
+                close()
+                state = state_of(words)
+            elif words[:1] == ["block"]:
+                close()
+                block = block_of(words)
+            elif words:
+                add_line(block or state, words, block is None)
+        except WRONG:
+            sys.exit(f"records: line {at}, or the record that ends before it, is not understood: {line.strip()}")
+    try:
+        close()
+    except WRONG:
+        sys.exit("records: the last record is not understood")
+    return b"".join(out)
+
+
+def state_of(words):
+    return {"height": number_after(words, "height", 0), "prices": [], "roundings": [], "accounts": [], "offers": []}
+
+
+def block_of(words):
+    block = {"parent": None, "body": None, "after": None, "cut": None, "rows": {}, "trades": {}, "txs": []}
+    block["mu"] = number_after(words, "mu", 10)
+    return {**block, **{it: number_after(words, it, None) for it in ("height", "assets")}}
+
+
+def add_line(to, words, is_state):
+    """Adds a line to a state or a block."""
+    found = [int(it) for it in words if it.isdigit()]
+    if words[0] == "asset" and is_state:
+        to["prices"].append(found[1])
+        to["roundings"].append(found[2])
+    elif words[0] == "account" and is_state:
+        to["accounts"].append((found[0], found[1], found[2:]))
+    elif words[0] == "offer" and is_state:
+        to["offers"].append(tuple(found))
+    elif words[0] == "asset":
+        to["rows"][found[0]] = found[1:]
+    elif words[0] == "trade":
+        to["trades"][found[0], found[1]] = found[2]
+    elif words[0] == "dropped":
+        to["cut"] = None if words[1] == "none" else int(words[1], 16)
+    elif words[0] in ("parent", "body", "after"):
+        to[words[0]] = bytes.fromhex(words[1])
+    elif words[0] == "tx" and len(found) == 2 + len(KINDS[words[3]][1]):
+        to["txs"].append((found[0], found[1], words[3], found[2:]))
+    elif words[0] != "transactions":
+        raise ValueError
+
+
+def show(data):
+    at = Bytes(data)
+    while at.at < len(data):
+        tag, length = at.fields("BI")
+        end = at.at + length
+        if tag == STATE:
+            print(*state_lines(read_state(at)), sep="\n")
+        elif tag == BLOCK:
+            print(*block_lines(read_block(at)), sep="\n")
+        else:
+            sys.exit(f"records: this script shows no record of tag {tag}")
+        if at.at != end:
+            sys.exit(f"records: the record's length says that it ends at {end}, and its fields end at {at.at}")
+
+
+def state_lines(state):
+    yield f"state version 1 height {state['height']} assets {len(state['prices'])}"
+    for asset, (price, rounding) in enumerate(zip(state["prices"], state["roundings"])):
+        yield f"asset {asset} price {price} rounding {rounding}"
+    for id, last, balances in state["accounts"]:
+        yield f"account {id} last {last} balances {' '.join(map(str, balances))}"
+    for sell, buy, limit, account, seq, amount in state["offers"]:
+        yield f"offer {sell} {buy} limit {limit} account {account} seq {seq} amount {amount}"
+
+
+def block_lines(block):
+    yield f"block version 1 height {block['height']} mu {block['mu']} assets {len(block['prices'])}"
+    yield f"parent {block['parent'].hex()}"
+    yield f"body {block['body'].hex()}"
+    for asset, row in enumerate(zip(block["prices"], block["potentials"], block["roundings"])):
+        yield "asset {} price {} potential {} rounding {}".format(asset, *row)
+    for (sell, buy), value in block["trades"].items():
+        yield f"trade {sell} {buy} {value}"
+    yield "dropped none" if block["cut"] is None else f"dropped {block['cut']:08x}"
+    yield f"after {block['after'].hex()}"
+    yield f"transactions {len(block['txs'])}"
+    for account, seq, kind, fields in block["txs"]:
+        yield f"tx {account} {seq} {kind} " + " ".join(f"{name}{it}" for name, it in zip(NAMES[kind], fields))
+
+
+if __name__ == "__main__":
+    if sys.argv[1:] == ["write"]:
+        sys.stdout.buffer.write(write(sys.stdin))
+    elif sys.argv[1:] == ["show"]:
+        show(sys.stdin.buffer.read())
+    else:
+        sys.exit("usage: python3 records.py write <TEXT >RECORDS, or python3 records.py show <RECORDS >TEXT")
