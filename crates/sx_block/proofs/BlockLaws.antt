@@ -46,15 +46,18 @@ body_takes c next x bytes e =
     let t0 = range_takes 4 0 1000000 form.TooMany c n.0.1 n.0.0 bytes n.1 in
     let bytes1 = bytes_after c n.0.1 (big_bytes 4 n.0.0) t0.0 bytes in
     let t1 = ordered_takes tx_at tx_bytes IsTx tx_before form.Order tx_takes n.0.0 None n.0.1 next x bytes1 n.2 in
-    let count : Takes c (big_bytes 4 (length x)) n.0.1 = subst (λ (m : ℕ). Takes c (big_bytes 4 m) n.0.1) (sym t1.1) t0.0 in
+    let count : Takes c (big_bytes 4 (length x)) n.0.1 =
+    subst (λ (m : ℕ). Takes c (big_bytes 4 m) n.0.1) (sym t1.1) t0.0 in
     let few : length x ≤ 1000000 = subst (λ (m : ℕ). m ≤ 1000000) (sym t1.1) t0.2 in
     (Takes-then c n.0.1 next (big_bytes 4 (length x)) (flat_map tx_bytes x) count t1.0, record { few = few; each = t1.2; ordered = t1.3 })
 
 body_again : ReadsAgain body_at list_bytes IsBody
 unfolding body_at
 body_again c x after is within e =
-    let n = range_again 4 0 1000000 form.TooMany c (length x) (flat_map tx_bytes x ++ after) (omega arith) (omega arith) is.few within (e ∙ append_assoc (big_bytes 4 (length x)) (flat_map tx_bytes x) after) in
-    let t = ordered_again tx_at tx_bytes IsTx tx_before form.Order tx_again x None n.next after is.each is.ordered n.within n.rest_is in
+    let n =
+    range_again 4 0 1000000 form.TooMany c (length x) (flat_map tx_bytes x ++ after) (omega arith) (omega arith) is.few within (e ∙ append_assoc (big_bytes 4 (length x)) (flat_map tx_bytes x) after) in
+    let t =
+    ordered_again tx_at tx_bytes IsTx tx_before form.Order tx_again x None n.next after is.each is.ordered n.within n.rest_is in
     again_then (field_at 4 (between 0 1000000) form.TooMany c) at_count c (length x) x (flat_map tx_bytes x ++ after) after n t
 
 -- ---- header and transactions
@@ -65,14 +68,17 @@ made header txs = record { header = header; txs = txs }
 fields_take : TakesAll fields_at block_bytes IsBlock
 unfolding fields_at
 fields_take c next x bytes e =
-    let t = two_take header_at body_at made header_bytes list_bytes IsHeader IsBody header_takes body_takes c next x bytes e in
-    let is : IsBlock (made t.0 t.1) = record { header = t.4; few = t.5.few; each = All-from_recursion IsTx t.1 t.5.each; ordered = t.5.ordered } in
+    let t =
+    two_take header_at body_at made header_bytes list_bytes IsHeader IsBody header_takes body_takes c next x bytes e in
+    let is : IsBlock (made t.0 t.1) =
+    record { header = t.4; few = t.5.few; each = All-from_recursion IsTx t.1 t.5.each; ordered = t.5.ordered } in
     subst (λ (y : Block). Takes c (block_bytes y) next × IsBlock y) t.2 (t.3, is)
 
 fields_again : ReadsAgain fields_at block_bytes IsBlock
 unfolding fields_at
 fields_again c x after is within e =
-    let body : IsBody x.txs = record { few = is.few; each = recursion_from_All IsTx x.txs is.each; ordered = is.ordered } in
+    let body : IsBody x.txs =
+    record { few = is.few; each = recursion_from_All IsTx x.txs is.each; ordered = is.ordered } in
     two_again header_at body_at made header_bytes list_bytes IsHeader IsBody header_again body_again c x.header x.txs after is.header body within e
 
 pub blocks_of_one_encoding : IsInjective block_bytes IsBlock
@@ -89,7 +95,8 @@ start bytes = record { bytes = bytes; place = 0 }
 abbrev at_end : Block × Cursor → Result Block FormFault
 at_end block = cond (eqb (left block.1) 0) (Ok block.0) (Err (record { at = block.1.place; fault = form.Rest }))
 
-block_takes : (bytes : List ℕ) (x : Block) → AreBytes bytes → block_at bytes ≡ Ok x → IsBlock x × (bytes ≡ block_bytes x)
+block_takes : (bytes : List ℕ) (x : Block) → AreBytes bytes → block_at bytes ≡ Ok x
+    → IsBlock x × (bytes ≡ block_bytes x)
 unfolding block_at
 block_takes bytes x are e =
     let a = bind_ok (fields_at (start bytes)) at_end x e in
@@ -97,7 +104,8 @@ block_takes bytes x are e =
     let g = guard_ok (eqb (left a.0.1) 0) a.0.0 x (record { at = a.0.1.place; fault = form.Rest }) a.2 in
     let ended : left a.0.1 ≡ 0 = eqb-true (left a.0.1) 0 g.0 in
     let none : rest a.0.1 ≡ [] = nil_from_length (rest a.0.1) (length-rest a.0.1 ∙ ended) in
-    let text : bytes ≡ block_bytes a.0.0 = t.0.parts ∙ ap (λ (r : List ℕ). block_bytes a.0.0 ++ r) none ∙ append-nil (block_bytes a.0.0) in
+    let text : bytes ≡ block_bytes a.0.0 =
+    t.0.parts ∙ ap (λ (r : List ℕ). block_bytes a.0.0 ++ r) none ∙ append-nil (block_bytes a.0.0) in
     subst (λ (y : Block). IsBlock y × (bytes ≡ block_bytes y)) g.1 (t.1, text)
 
 block_again : (x : Block) → IsBlock x → block_at (block_bytes x) ≡ Ok x
@@ -109,9 +117,12 @@ block_again x is =
 
 -- ---- what the reader answers
 
-pub found_in : (bytes : List ℕ) (r : Result Block ReadError) → AreBytes bytes → Gives (λ block. block) r (block_at bytes) → IfOk r (λ block. IsBlock block × (bytes ≡ block_bytes block))
+pub found_in : (bytes : List ℕ) (r : Result Block ReadError) → AreBytes bytes
+    → Gives (λ block. block) r (block_at bytes) → IfOk r (λ block. IsBlock block × (bytes ≡ block_bytes block))
 found_in bytes (Ok block) are e = block_takes bytes block are e
 found_in bytes (Err error) are e = tt
 
-pub only_in : (bytes : List ℕ) (r : Result Block ReadError) (x : Block) → Gives (λ block. block) r (block_at bytes) → IsBlock x → bytes ≡ block_bytes x → Gives (λ block. block) r (Ok x)
-only_in bytes r x given is e = subst (λ (read : Result Block FormFault). Gives (λ block. block) r read) (ap block_at e ∙ block_again x is) given
+pub only_in : (bytes : List ℕ) (r : Result Block ReadError) (x : Block) → Gives (λ block. block) r (block_at bytes)
+    → IsBlock x → bytes ≡ block_bytes x → Gives (λ block. block) r (Ok x)
+only_in bytes r x given is e =
+    subst (λ (read : Result Block FormFault). Gives (λ block. block) r read) (ap block_at e ∙ block_again x is) given

@@ -23,13 +23,16 @@ use Rattle.sx_tx.specs.declared.tx.Tx.{Tx}
 use Rattle.sx_tx.specs.Window.{behind_highest}
 
 abbrev pub account : ℕ → ℕ → List ℕ → Account
-account id last balances = record { id = record { 0 = id }; window = record { last = last; used = 0 }; balances = balances }
+account id last balances =
+    record { id = record { 0 = id }; window = record { last = last; used = 0 }; balances = balances }
 
 abbrev pub offer : ℕ → ℕ → ℕ → ℕ → ℕ → ℕ → Offer
-offer sell buy limit id seq amount = record { sell = sell; buy = buy; limit = limit; account = record { 0 = id }; seq = seq; amount = amount }
+offer sell buy limit id seq amount =
+    record { sell = sell; buy = buy; limit = limit; account = record { 0 = id }; seq = seq; amount = amount }
 
 abbrev sells : ℕ → ℕ → ℕ → ℕ → ℕ → ℕ → Tx
-sells id seq sell buy limit amount = record { account = record { 0 = id }; seq = seq; kind = kind.Offer sell buy limit amount }
+sells id seq sell buy limit amount =
+    record { account = record { 0 = id }; seq = seq; kind = kind.Offer sell buy limit amount }
 
 abbrev trade : ℕ → ℕ → ℕ → Trade
 trade sell buy value = record { sell = sell; buy = buy; value = value }

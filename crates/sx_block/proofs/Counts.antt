@@ -35,7 +35,8 @@ nonzero-lt (v ∷ vs) zero lt e = let none : eqb v 0 ≡ true = eq-eqb v 0 e in 
 nonzero-lt (v ∷ vs) (suc k) lt e = omega (arith, one_at_most v, nonzero-lt vs k (omega arith) e)
 
 -- row by row
-rows : (m n r : ℕ) (vs : List ℕ) → length vs ≡ m * n → r + m ≤ n → ((a : ℕ) → a < m → get_or vs (a * n + (r + a)) 0 ≡ 0) → nonzero vs ≤ m * (n - 1)
+rows : (m n r : ℕ) (vs : List ℕ) → length vs ≡ m * n → r + m ≤ n
+    → ((a : ℕ) → a < m → get_or vs (a * n + (r + a)) 0 ≡ 0) → nonzero vs ≤ m * (n - 1)
 rows zero n r [] len fits none = omega arith
 rows zero n r (v ∷ vs) len fits none = absurd (omega arith)
 rows (suc m) n r vs len fits none =
@@ -44,12 +45,16 @@ rows (suc m) n r vs len fits none =
     let back = drop n vs in
     let front_length : length front ≡ n = omega (arith, length-take n vs) in
     let back_length : length back ≡ m * n = omega (arith, length-drop n vs) in
-    let here : get_or front r 0 ≡ 0 = get_or-take n vs r 0 (omega arith) ∙ ap (λ (p : ℕ). get_or vs p 0) (let k : r ≡ zero * n + (r + zero) = omega arith in k) ∙ none zero (omega arith) in
+    let here : get_or front r 0 ≡ 0 =
+    get_or-take n vs r 0 (omega arith)
+    ∙ ap (λ (p : ℕ). get_or vs p 0) (let k : r ≡ zero * n + (r + zero) = omega arith in k)
+    ∙ none zero (omega arith) in
     let first : nonzero front < length front = nonzero-lt front r (omega arith) here in
     let others : nonzero back ≤ m * (n - 1) =
     rows m n (suc r) back back_length (omega arith)
     (λ a lt. get_or-drop n vs (a * n + (suc r + a)) 0 ∙ ap (λ (p : ℕ). get_or vs p 0) (let k : n + (a * n + (suc r + a)) ≡ suc a * n + (r + suc a) = omega arith in k) ∙ none (suc a) (omega arith)) in
-    let split : nonzero vs ≡ nonzero front + nonzero back = ap nonzero (sym (take-append-drop n vs)) ∙ nonzero-append front back in
+    let split : nonzero vs ≡ nonzero front + nonzero back =
+    ap nonzero (sym (take-append-drop n vs)) ∙ nonzero-append front back in
     let more : suc m * (n - 1) ≡ (n - 1) + m * (n - 1) = omega arith in
     omega arith
 

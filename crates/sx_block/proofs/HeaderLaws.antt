@@ -34,10 +34,12 @@ same_bytes digest = digest
 digest_takes : TakesAll digest_at same_bytes IsDigest
 digest_takes c next x bytes e =
     let read = or_fault_ok (raw_at 32 c) (x, next) e in
-    let g = guard_short (ltb (left c) 32) (record { at = length c.bytes }) (take 32 (rest c), moved 32 c) (x, next) read in
+    let g =
+    guard_short (ltb (left c) 32) (record { at = length c.bytes }) (take 32 (rest c), moved 32 c) (x, next) read in
     let enough : 32 ≤ length c.bytes - c.place = ltb-false _ _ g.0 in
     let len : length (take 32 (rest c)) ≡ 32 = omega (arith, length-take 32 (rest c), length-drop c.place c.bytes) in
-    let is : IsDigest (take 32 (rest c)) = record { whole = len; bytes = AreBytes-take 32 (rest c) (AreBytes-drop c.place c.bytes bytes) } in
+    let is : IsDigest (take 32 (rest c)) =
+    record { whole = len; bytes = AreBytes-take 32 (rest c) (AreBytes-drop c.place c.bytes bytes) } in
     subst (λ (y : List ℕ × Cursor). Takes c y.0 y.1 × IsDigest y.0) g.1 (moved_takes 32 c enough, is)
 
 digest_again : ReadsAgain digest_at same_bytes IsDigest
@@ -63,21 +65,26 @@ record AreNumbers (P : ℕ → Type 0) (n : ℕ) (numbers : List ℕ) : Type 0 w
   are : All P numbers
 
 module _ (width : ℕ) (entry : Reading ℕ) (P : ℕ → Type 0) (n : ℕ) where
-  numbers_take : TakesAll entry (big_bytes width) P → TakesAll (many_at entry n) (flat_map (big_bytes width)) (AreNumbers P n)
+  numbers_take : TakesAll entry (big_bytes width) P
+      → TakesAll (many_at entry n) (flat_map (big_bytes width)) (AreNumbers P n)
   numbers_take takes c next numbers bytes e =
       let t = many_takes entry (big_bytes width) P takes n c next numbers bytes e in
       (t.0, record { number = t.1; are = All-from_recursion P numbers t.2 })
 
-  numbers_again : ReadsAgain entry (big_bytes width) P → ReadsAgain (many_at entry n) (flat_map (big_bytes width)) (AreNumbers P n)
+  numbers_again : ReadsAgain entry (big_bytes width) P
+      → ReadsAgain (many_at entry n) (flat_map (big_bytes width)) (AreNumbers P n)
   numbers_again again c numbers after is within e =
-      let read = many_again entry (big_bytes width) P again numbers c after (recursion_from_All P numbers is.are) within e in
+      let read =
+      many_again entry (big_bytes width) P again numbers c after (recursion_from_All P numbers is.are) within e in
       subst (λ (k : ℕ). Again (many_at entry k c) c numbers after) is.number read
 
 price_takes : TakesAll price_at (big_bytes 8) IsPrice
-price_takes c next x bytes e = let t = range_takes 8 (2 ^ 8) (2 ^ 40) form.PriceRange c next x bytes e in (t.0, (t.1, t.2))
+price_takes c next x bytes e =
+    let t = range_takes 8 (2 ^ 8) (2 ^ 40) form.PriceRange c next x bytes e in (t.0, (t.1, t.2))
 
 price_again : ReadsAgain price_at (big_bytes 8) IsPrice
-price_again c x after is within e = range_again 8 (2 ^ 8) (2 ^ 40) form.PriceRange c x after (omega arith) is.0 is.1 within e
+price_again c x after is within e =
+    range_again 8 (2 ^ 8) (2 ^ 40) form.PriceRange c x after (omega arith) is.0 is.1 within e
 
 abbrev IsPotential : ℕ → Type 0
 IsPotential potential = potential < 2 ^ 32
@@ -95,7 +102,8 @@ units_takes : TakesAll units_field_at (big_bytes 8) IsRounded
 units_takes c next x bytes e = let t = range_takes 8 0 (2 ^ 62) form.AmountRange c next x bytes e in (t.0, t.2)
 
 units_again : ReadsAgain units_field_at (big_bytes 8) IsRounded
-units_again c x after is within e = range_again 8 0 (2 ^ 62) form.AmountRange c x after (omega arith) (omega arith) is within e
+units_again c x after is within e =
+    range_again 8 0 (2 ^ 62) form.AmountRange c x after (omega arith) (omega arith) is within e
 
 -- ---- what stands before the number of assets
 
@@ -148,19 +156,25 @@ front_takes c next x bytes e =
     let bytes1 = bytes_after c v.0.1 (big_bytes 1 v.0.0) t0.0 bytes in
     let t1 = range_takes 8 0 (2 ^ 63 - 1) form.HeightRange v.0.1 h.0.1 h.0.0 bytes1 h.1 in
     let bytes2 = bytes_after v.0.1 h.0.1 (big_bytes 8 h.0.0) t1.0 bytes1 in
-    let t2 = three_take digest_at digest_at mu_at (joined v.0.0 h.0.0) same_bytes same_bytes (big_bytes 1) IsDigest IsDigest IsMu digest_takes digest_takes mu_takes h.0.1 next x bytes2 h.2 in
+    let t2 =
+    three_take digest_at digest_at mu_at (joined v.0.0 h.0.0) same_bytes same_bytes (big_bytes 1) IsDigest IsDigest IsMu digest_takes digest_takes mu_takes h.0.1 next x bytes2 h.2 in
     let text = digests_text t2.0 t2.1 t2.2 in
-    let all = Takes-then c v.0.1 next (big_bytes 1 v.0.0) (big_bytes 8 h.0.0 ++ text) t0.0 (Takes-then v.0.1 h.0.1 next (big_bytes 8 h.0.0) text t1.0 t2.4) in
-    let is : IsFront (joined v.0.0 h.0.0 t2.0 t2.1 t2.2) = record { version = omega (arith, t0.1, t0.2); height = t1.2; parent = t2.5; body = t2.6; mu = t2.7 } in
+    let all =
+    Takes-then c v.0.1 next (big_bytes 1 v.0.0) (big_bytes 8 h.0.0 ++ text) t0.0 (Takes-then v.0.1 h.0.1 next (big_bytes 8 h.0.0) text t1.0 t2.4) in
+    let is : IsFront (joined v.0.0 h.0.0 t2.0 t2.1 t2.2) =
+    record { version = omega (arith, t0.1, t0.2); height = t1.2; parent = t2.5; body = t2.6; mu = t2.7 } in
     subst (λ (y : Front). Takes c (front_text y) next × IsFront y) t2.3 (all, is)
 
 front_again : ReadsAgain front_at front_text IsFront
 unfolding front_at
 front_again c x after is within e =
     let text = digests_text x.2 x.3 x.4 in
-    let v = range_again 1 1 1 form.Version c x.0 ((big_bytes 8 x.1 ++ text) ++ after) (omega arith) (omega (arith, is.version)) (omega (arith, is.version)) within (e ∙ append_assoc (big_bytes 1 x.0) (big_bytes 8 x.1 ++ text) after) in
-    let h = range_again 8 0 (2 ^ 63 - 1) form.HeightRange v.next x.1 (text ++ after) (omega arith) (omega arith) (omega (arith, is.height)) v.within (v.rest_is ∙ append_assoc (big_bytes 8 x.1) text after) in
-    let d = three_again digest_at digest_at mu_at (joined x.0 x.1) same_bytes same_bytes (big_bytes 1) IsDigest IsDigest IsMu digest_again digest_again mu_again h.next x.2 x.3 x.4 after is.parent is.body is.mu h.within h.rest_is in
+    let v =
+    range_again 1 1 1 form.Version c x.0 ((big_bytes 8 x.1 ++ text) ++ after) (omega arith) (omega (arith, is.version)) (omega (arith, is.version)) within (e ∙ append_assoc (big_bytes 1 x.0) (big_bytes 8 x.1 ++ text) after) in
+    let h =
+    range_again 8 0 (2 ^ 63 - 1) form.HeightRange v.next x.1 (text ++ after) (omega arith) (omega arith) (omega (arith, is.height)) v.within (v.rest_is ∙ append_assoc (big_bytes 8 x.1) text after) in
+    let d =
+    three_again digest_at digest_at mu_at (joined x.0 x.1) same_bytes same_bytes (big_bytes 1) IsDigest IsDigest IsMu digest_again digest_again mu_again h.next x.2 x.3 x.4 after is.parent is.body is.mu h.within h.rest_is in
     again_then (version_at c) (λ version. from_height version.0 version.1) c x.0 x ((big_bytes 8 x.1 ++ text) ++ after) after v
     (again_then (height_at v.next) (λ height. from_digests x.0 height.0 height.1) v.next x.1 x (text ++ after) after h d)
 
@@ -257,14 +271,18 @@ count_again c x after is within e = range_again 1 1 32 form.AssetCount c x after
 
 from_market_takes : (front : Front) (n : ℕ) → IsCount n → TakesAll (from_market front n) market_text_of (IsFrom front n)
 from_market_takes front n count c next h bytes e =
-    let t = two_take (market_at n) (outcome_at n) (header_of front) market_text outcome_text (IsMarket n count.0 count.1) (IsOutcome n count.0 count.1) (market_takes n count.0 count.1) (outcome_takes n count.0 count.1) c next h bytes e in
-    let is : IsFrom front n (header_of front t.0 t.1) = record { front_is = refl; some = count.0; few = count.1; market = t.4; outcome = t.5 } in
+    let t =
+    two_take (market_at n) (outcome_at n) (header_of front) market_text outcome_text (IsMarket n count.0 count.1) (IsOutcome n count.0 count.1) (market_takes n count.0 count.1) (outcome_takes n count.0 count.1) c next h bytes e in
+    let is : IsFrom front n (header_of front t.0 t.1) =
+    record { front_is = refl; some = count.0; few = count.1; market = t.4; outcome = t.5 } in
     subst (λ (y : Header). Takes c (market_text_of y) next × IsFrom front n y) t.2 (t.3, is)
 
 from_market_again : (front : Front) (n : ℕ) → ReadsAgain (from_market front n) market_text_of (IsFrom front n)
 from_market_again front n c h after is within e =
-    let read = two_again (market_at n) (outcome_at n) (header_of front) market_text outcome_text (IsMarket n is.some is.few) (IsOutcome n is.some is.few) (market_again n is.some is.few) (outcome_again n is.some is.few) c (market_of h) (outcome_of h) after is.market is.outcome within e in
-    let same : header_of front (market_of h) (outcome_of h) ≡ h = ap (λ (f : Front). header_of f (market_of h) (outcome_of h)) is.front_is in
+    let read =
+    two_again (market_at n) (outcome_at n) (header_of front) market_text outcome_text (IsMarket n is.some is.few) (IsOutcome n is.some is.few) (market_again n is.some is.few) (outcome_again n is.some is.few) c (market_of h) (outcome_of h) after is.market is.outcome within e in
+    let same : header_of front (market_of h) (outcome_of h) ≡ h =
+    ap (λ (f : Front). header_of f (market_of h) (outcome_of h)) is.front_is in
     subst (λ (y : Header). Again (from_market front n c) c y after) same read
 
 from_assets_takes : (front : Front) → TakesAll (from_assets front) assets_text_of (FromAssets front)
@@ -280,7 +298,8 @@ from_assets_again front =
 pub header_takes : TakesAll header_at header_bytes IsHeader
 unfolding header_at
 header_takes c next h bytes e =
-    let t = chained_takes front_at from_assets front_text assets_text_of IsFront FromAssets front_of front_takes (λ front is. from_assets_takes front) (λ front h is. is.1.front_is) c next h bytes e in
+    let t =
+    chained_takes front_at from_assets front_text assets_text_of IsFront FromAssets front_of front_takes (λ front is. from_assets_takes front) (λ front h is. is.1.front_is) c next h bytes e in
     let front = t.1.0 in
     let count = t.1.1.0 in
     let market = t.1.1.1.market in
@@ -310,10 +329,13 @@ header_takes c next h bytes e =
 pub header_again : ReadsAgain header_at header_bytes IsHeader
 unfolding header_at
 header_again c h after is within e =
-    let front : IsFront (front_of h) = record { version = is.version; height = is.height; parent = is.parent; body = is.body; mu = (is.some_mu, is.most_mu) } in
+    let front : IsFront (front_of h) =
+    record { version = is.version; height = is.height; parent = is.parent; body = is.body; mu = (is.some_mu, is.most_mu) } in
     let n = assets_of h in
-    let market : IsMarket n is.some_asset is.few_assets (market_of h) = record { prices = record { number = refl; are = is.prices }; trades = (is.same_assets, is.trades); cut = is.cut } in
+    let market : IsMarket n is.some_asset is.few_assets (market_of h) =
+    record { prices = record { number = refl; are = is.prices }; trades = (is.same_assets, is.trades); cut = is.cut } in
     let outcome : IsOutcome n is.some_asset is.few_assets (outcome_of h) =
     record { potentials = record { number = is.one_potential; are = is.potentials }; rounding = record { number = is.one_rounding; are = is.rounding }; after = is.after } in
-    let from : IsFrom (front_of h) n h = record { front_is = refl; some = is.some_asset; few = is.few_assets; market = market; outcome = outcome } in
+    let from : IsFrom (front_of h) n h =
+    record { front_is = refl; some = is.some_asset; few = is.few_assets; market = market; outcome = outcome } in
     chained_again front_at from_assets front_text assets_text_of IsFront FromAssets front_of front_again (λ front is. from_assets_again front) c h after (front, ((is.some_asset, is.few_assets), from)) within e

@@ -19,7 +19,7 @@ use Rattle.sx_tx.specs.declared.kind.Kind.TheVariants as kind
 use Rattle.sx_tx.specs.declared.tx.Tx.{Tx}
 use Rattle.sx_tx.specs.Laws.{length_of}
 use Rattle.sx_tx.specs.Transactions.{tx_bytes, list_bytes}
-use Rattle.sx_tx.proofs.TxLaws.{length-tx_bytes}
+use Rattle.sx_tx.proofs.ListLaws.{fits_record}
 
 length-numbers : (width : ℕ) (xs : List ℕ) → length (flat_map (big_bytes width) xs) ≡ length xs * width
 length-numbers width [] = omega arith
@@ -29,7 +29,8 @@ length-numbers width (x ∷ xs) =
 
 length-trade_texts : (ts : List Trade) → length (flat_map trade_bytes ts) ≡ length ts * 18
 length-trade_texts [] = refl
-length-trade_texts (t ∷ ts) = let others : length (flat_map trade_bytes ts) ≡ length ts * 18 = length-trade_texts ts in omega arith
+length-trade_texts (t ∷ ts) =
+    let others : length (flat_map trade_bytes ts) ≡ length ts * 18 = length-trade_texts ts in omega arith
 
 -- the bytes of a cut
 abbrev pub cut_length : Option Cut → ℕ
@@ -48,18 +49,21 @@ length-front h is =
     let rest = h.body ++ big_bytes 1 h.mu in
     omega (arith, length-append h.parent rest, length-append h.body (big_bytes 1 h.mu), is.parent.whole, is.body.whole)
 
-length-market : (h : Header) → length (market_bytes h) ≡ length h.prices * 8 + 3 + length (trades_of h.trades) * 18 + cut_length h.dropped
+length-market : (h : Header)
+    → length (market_bytes h) ≡ length h.prices * 8 + 3 + length (trades_of h.trades) * 18 + cut_length h.dropped
 length-market h =
     let ts = trades_of h.trades in
     let flow : length (flow_bytes h.trades) ≡ 2 + length ts * 18 = omega (arith, length-trade_texts ts) in
     omega (arith, length-append (flat_map (big_bytes 8) h.prices) (flow_bytes h.trades ++ cut_bytes h.dropped), length-append (flow_bytes h.trades) (cut_bytes h.dropped), length-numbers 8 h.prices, length-cut h.dropped)
 
-length-outcome : (h : Header) → IsHeader h → length (outcome_bytes h) ≡ length h.potentials * 4 + length h.rounding * 8 + 32
+length-outcome : (h : Header) → IsHeader h
+    → length (outcome_bytes h) ≡ length h.potentials * 4 + length h.rounding * 8 + 32
 length-outcome h is =
     let rounding = flat_map (big_bytes 8) h.rounding in
     omega (arith, length-append (flat_map (big_bytes 4) h.potentials) (rounding ++ h.after), length-append rounding h.after, length-numbers 4 h.potentials, length-numbers 8 h.rounding, is.after.whole)
 
-pub length-header : (h : Header) → IsHeader h → length (header_bytes h) ≡ 110 + 20 * assets_of h + 18 * length (trades_of h.trades) + cut_length h.dropped
+pub length-header : (h : Header) → IsHeader h
+    → length (header_bytes h) ≡ 110 + 20 * assets_of h + 18 * length (trades_of h.trades) + cut_length h.dropped
 length-header h is =
     let back = market_bytes h ++ outcome_bytes h in
     omega (arith, length-append (front_bytes h) (big_bytes 1 (assets_of h) ++ back), length-append (market_bytes h) (outcome_bytes h), length-front h is, length-market h, length-outcome h is, is.one_potential, is.one_rounding)
@@ -68,28 +72,18 @@ header_most : (h : Header) → IsHeader h → length (header_bytes h) ≤ 18610
 header_most h is =
     omega (arith, length-header h is, cut_most h.dropped, is.few_assets, trades_most h.trades is.trades)
 
-length_most : (what : Kind) → length_of what ≤ 35
-length_most (kind.Pay to asset amount) = omega arith
-length_most (kind.Create id) = omega arith
-length_most (kind.Offer sell buy limit amount) = omega arith
-length_most (kind.Cancel sell buy limit seq) = omega arith
-
-length-txs : (txs : List Tx) → length (flat_map tx_bytes txs) ≤ 35 * length txs
-length-txs [] = omega arith
-length-txs (tx ∷ txs) =
-    let first : length (tx_bytes tx) ≡ length_of tx.kind = length-tx_bytes tx in
-    omega (arith, length_most tx.kind, length-append (tx_bytes tx) (flat_map tx_bytes txs), length-txs txs)
-
 pub block_most : HasMostBytes
 block_most block is =
-    omega (arith, length-append (header_bytes block.header) (list_bytes block.txs), header_most block.header is.header, length-txs block.txs, is.few)
+    omega (arith, length-append (header_bytes block.header) (list_bytes block.txs), header_most block.header is.header, fits_record block.txs is.few)
 
 pub block_fits : EveryBlockFits
 block_fits block is = omega (arith, block_most block is)
 
 -- where the transactions begin
-pub after_header : (block : Block) → drop (length (header_bytes block.header)) (block_bytes block) ≡ list_bytes block.txs
-after_header block = drop_at (header_bytes block.header) (list_bytes block.txs) (length (header_bytes block.header)) refl
+pub after_header : (block : Block)
+    → drop (length (header_bytes block.header)) (block_bytes block) ≡ list_bytes block.txs
+after_header block =
+    drop_at (header_bytes block.header) (list_bytes block.txs) (length (header_bytes block.header)) refl
 
 pub header_within : (block : Block) → length (header_bytes block.header) ≤ length (block_bytes block)
 header_within block = omega (arith, length-append (header_bytes block.header) (list_bytes block.txs))

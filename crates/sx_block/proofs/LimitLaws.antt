@@ -56,14 +56,16 @@ more_is : (x y : ℕ) → y < x → nat_cmp x y ≡ Greater
 more_is x y lt = sym (nat_cmp_is x y Greater lt)
 
 -- of two keys of one pair, that of the lower limit comes first
-not_before : (sell buy limit limit' : ℕ) (xs ys : List ℕ) → limit' < limit → is_lt (slice_cmp nat_cmp (sell ∷ buy ∷ limit ∷ xs) (sell ∷ buy ∷ limit' ∷ ys)) ≡ false
+not_before : (sell buy limit limit' : ℕ) (xs ys : List ℕ) → limit' < limit
+    → is_lt (slice_cmp nat_cmp (sell ∷ buy ∷ limit ∷ xs) (sell ∷ buy ∷ limit' ∷ ys)) ≡ false
 not_before sell buy limit limit' xs ys lt = rw (same_is sell, same_is buy, more_is limit limit' lt) refl
 
 limit_rises : (x o : Offer) → x.sell ≡ o.sell → x.buy ≡ o.buy → offer_before x o ≡ true → x.limit ≤ o.limit
 limit_rises x o sell buy before =
     elim (cases_lt o.limit x.limit) [
       | inl less ↦
-          let after : offer_before x o ≡ false = rw (sell, buy) (not_before o.sell o.buy x.limit o.limit (x.account.0 ∷ x.seq ∷ []) (o.account.0 ∷ o.seq ∷ []) less) in
+          let after : offer_before x o ≡ false =
+          rw (sell, buy) (not_before o.sell o.buy x.limit o.limit (x.account.0 ∷ x.seq ∷ []) (o.account.0 ∷ o.seq ∷ []) less) in
           absurd cc
       | inr more ↦ more
     ]
@@ -98,7 +100,9 @@ module _ (parts : Parts) (prices : List ℕ) (flow : ℕ → ℕ → ℕ) (is : 
   rising = subst Rising split.2 (rising_kept of_pair all_offers (rising_is all_offers is.by_key))
 
   ahead : ahead_of all_offers o ≡ amounts split.0
-  ahead = ap (λ (xs : List Offer). amounts (filter (λ other. offer_before other o) xs)) split.2 ∙ ap amounts (in_front split.0 split.1 o rising)
+  ahead =
+      ap (λ (xs : List Offer). amounts (filter (λ other. offer_before other o) xs)) split.2
+      ∙ ap amounts (in_front split.0 split.1 o rising)
 
   of_one_pair : AllByRecursion (λ x. of_pair x ≡ true) (split.0 ++ o ∷ split.1)
   of_one_pair = subst (AllByRecursion (λ x. of_pair x ≡ true)) split.2 (in_pair o.sell o.buy all_offers)
@@ -111,7 +115,8 @@ module _ (parts : Parts) (prices : List ℕ) (flow : ℕ → ℕ → ℕ) (is : 
   abbrev IsHigher : Offer → Type 0
   IsHigher x = (x.sell ≡ o.sell) × (x.buy ≡ o.buy) × (o.limit ≤ x.limit)
 
-  lower : (xs : List Offer) → AllByRecursion (λ x. of_pair x ≡ true) xs → AllByRecursion (λ x. offer_before x o ≡ true) xs → AllByRecursion IsLower xs
+  lower : (xs : List Offer) → AllByRecursion (λ x. of_pair x ≡ true) xs
+      → AllByRecursion (λ x. offer_before x o ≡ true) xs → AllByRecursion IsLower xs
   lower [] pair before = tt
   lower (x ∷ xs) pair before =
       let p = and_parts (eqb x.sell o.sell) (eqb x.buy o.buy) pair.0 in
@@ -119,7 +124,8 @@ module _ (parts : Parts) (prices : List ℕ) (flow : ℕ → ℕ → ℕ) (is : 
       let buy = eqb-true x.buy o.buy p.1 in
       ((sell, buy, limit_rises x o sell buy before.0), lower xs pair.1 before.1)
 
-  higher : (xs : List Offer) → AllByRecursion (λ x. of_pair x ≡ true) xs → Precedes (key_of o) xs → AllByRecursion IsHigher xs
+  higher : (xs : List Offer) → AllByRecursion (λ x. of_pair x ≡ true) xs → Precedes (key_of o) xs
+      → AllByRecursion IsHigher xs
   higher [] pair after = tt
   higher (x ∷ xs) pair after =
       let p = and_parts (eqb x.sell o.sell) (eqb x.buy o.buy) pair.0 in
@@ -128,24 +134,28 @@ module _ (parts : Parts) (prices : List ℕ) (flow : ℕ → ℕ → ℕ) (is : 
       ((sell, buy, limit_rises o x (sym sell) (sym buy) after.0), higher xs pair.1 after.1)
 
   front_lower : AllByRecursion IsLower split.0
-  front_lower = lower split.0 (all_front (λ x. of_pair x ≡ true) split.0 (o ∷ split.1) of_one_pair) (before_all split.0 split.1 o rising)
+  front_lower =
+      lower split.0 (all_front (λ x. of_pair x ≡ true) split.0 (o ∷ split.1) of_one_pair) (before_all split.0 split.1 o rising)
 
   back_higher : AllByRecursion IsHigher split.1
-  back_higher = higher split.1 (all_back (λ x. of_pair x ≡ true) split.0 (o ∷ split.1) of_one_pair).1 (rising_back split.0 (o ∷ split.1) rising).0
+  back_higher =
+      higher split.1 (all_back (λ x. of_pair x ≡ true) split.0 (o ∷ split.1) of_one_pair).1 (rising_back split.0 (o ∷ split.1) rising).0
 
   within : flow o.sell o.buy ≤ high_of prices all_offers o.sell o.buy
   within = fits.within o.sell o.buy offer_is.sell offer_is.buy (λ e. offer_is.differ (sym e))
 
   -- ---- who may not trade does not
 
-  too_high : (xs : List Offer) → may_trade_at prices o ≡ false → AllByRecursion IsHigher xs → AllByRecursion (λ x. may_trade_at prices x ≡ false) xs
+  too_high : (xs : List Offer) → may_trade_at prices o ≡ false → AllByRecursion IsHigher xs
+      → AllByRecursion (λ x. may_trade_at prices x ≡ false) xs
   too_high [] none all = tt
   too_high (x ∷ xs) none all = (
     elim (cases_Bool (may_trade_at prices x)) [
       | inl may ↦
           let pb = price_of prices o.buy in
           let step : o.limit * pb ≤ x.limit * pb = mul-le-mul_right pb all.0.2 in
-          let reach : x.limit * pb ≤ price_sold * 2 ^ 24 = rw (all.0.0, all.0.1) at (leb-true (x.limit * price_of prices x.buy) (price_of prices x.sell * 2 ^ 24) may) in
+          let reach : x.limit * pb ≤ price_sold * 2 ^ 24 =
+          rw (all.0.0, all.0.1) at (leb-true (x.limit * price_of prices x.buy) (price_of prices x.sell * 2 ^ 24) may) in
           let may_too : may_trade_at prices o ≡ true = le-leb (o.limit * pb) (price_sold * 2 ^ 24) (omega arith) in
           absurd cc
       | inr not ↦ not
@@ -155,30 +165,38 @@ module _ (parts : Parts) (prices : List ℕ) (flow : ℕ → ℕ → ℕ) (is : 
 
   no_value : may_trade_at prices o ≡ false → value_of prices flow all_offers o ≡ 0
   no_value none =
-      let nothing : filter (may_trade_at prices) (o ∷ split.1) ≡ [] = keeps_none (may_trade_at prices) (o ∷ split.1) (none, too_high split.1 none back_higher) in
+      let nothing : filter (may_trade_at prices) (o ∷ split.1) ≡ [] =
+      keeps_none (may_trade_at prices) (o ∷ split.1) (none, too_high split.1 none back_higher) in
       let kept : filter (may_trade_at prices) pair_offers ≡ filter (may_trade_at prices) split.0 ++ filter (may_trade_at prices) (o ∷ split.1) =
       ap (filter (may_trade_at prices)) split.2 ∙ filter-append (may_trade_at prices) split.0 (o ∷ split.1) in
       let sum : amounts (filter (may_trade_at prices) pair_offers) ≡ amounts (filter (may_trade_at prices) split.0) =
-      ap amounts (kept ∙ ap (λ (xs : List Offer). filter (may_trade_at prices) split.0 ++ xs) nothing) ∙ sum_by-append (λ (x : Offer). x.amount) (filter (may_trade_at prices) split.0) [] ∙ (let e : amounts (filter (may_trade_at prices) split.0) + 0 ≡ amounts (filter (may_trade_at prices) split.0) = omega arith in e) in
-      let some : amounts (filter (may_trade_at prices) pair_offers) ≤ ahead_of all_offers o = omega (arith, filter-le (λ (x : Offer). x.amount) (may_trade_at prices) split.0, ahead, sum) in
-      let most : high_of prices all_offers o.sell o.buy ≤ price_sold * ahead_of all_offers o = mul-le-mul_left price_sold some in
+      ap amounts (kept ∙ ap (λ (xs : List Offer). filter (may_trade_at prices) split.0 ++ xs) nothing)
+      ∙ sum_by-append (λ (x : Offer). x.amount) (filter (may_trade_at prices) split.0) []
+      ∙ (let e : amounts (filter (may_trade_at prices) split.0) + 0 ≡ amounts (filter (may_trade_at prices) split.0) = omega arith in e) in
+      let some : amounts (filter (may_trade_at prices) pair_offers) ≤ ahead_of all_offers o =
+      omega (arith, filter-le (λ (x : Offer). x.amount) (may_trade_at prices) split.0, ahead, sum) in
+      let most : high_of prices all_offers o.sell o.buy ≤ price_sold * ahead_of all_offers o =
+      mul-le-mul_left price_sold some in
       let left : flow o.sell o.buy - price_sold * ahead_of all_offers o ≡ 0 = omega (arith, within) in
       ap (λ (z : ℕ). min z (price_sold * o.amount)) left ∙ min-eq_left (omega arith)
 
   pub trades_within_limit : 0 < value_of prices flow all_offers o → may_trade_at prices o ≡ true
-  trades_within_limit some = elim (cases_Bool (may_trade_at prices o)) [ inl may ↦ may | inr not ↦ absurd (omega (arith, no_value not)) ]
+  trades_within_limit some =
+      elim (cases_Bool (may_trade_at prices o)) [ inl may ↦ may | inr not ↦ absurd (omega (arith, no_value not)) ]
 
   -- ---- who must trade does so in full
 
   module _ (j : ℕ) (must : must_trade_at prices j o ≡ true) (least : low_of prices j false all_offers o.sell o.buy ≤ flow o.sell o.buy) where
-    low_enough : (xs : List Offer) → AllByRecursion IsLower xs → AllByRecursion (λ x. must_trade_at prices j x ≡ true) xs
+    low_enough : (xs : List Offer) → AllByRecursion IsLower xs
+        → AllByRecursion (λ x. must_trade_at prices j x ≡ true) xs
     low_enough [] all = tt
     low_enough (x ∷ xs) all =
         let pb = price_of prices o.buy in
         let step : x.limit * pb ≤ o.limit * pb = mul-le-mul_right pb all.0.2 in
         let scaled : x.limit * pb * 2 ^ j ≤ o.limit * pb * 2 ^ j = mul-le-mul_right (2 ^ j) step in
         let reach : o.limit * pb * 2 ^ j ≤ price_sold * 2 ^ 24 * (2 ^ j - 1) = leb-true _ _ must in
-        let here : must_trade_at prices j x ≡ true = rw (all.0.0, all.0.1) (le-leb (x.limit * pb * 2 ^ j) (price_sold * 2 ^ 24 * (2 ^ j - 1)) (omega arith)) in
+        let here : must_trade_at prices j x ≡ true =
+        rw (all.0.0, all.0.1) (le-leb (x.limit * pb * 2 ^ j) (price_sold * 2 ^ 24 * (2 ^ j - 1)) (omega arith)) in
         (here, low_enough xs all.1)
 
     pub trades_in_full : gives prices flow all_offers o ≡ o.amount
@@ -188,19 +206,28 @@ module _ (parts : Parts) (prices : List ℕ) (flow : ℕ → ℕ → ℕ) (is : 
         let all : filter test split.0 ≡ split.0 = keeps_all test split.0 (low_enough split.0 front_lower) in
         let own : filter test (o ∷ split.1) ≡ o ∷ filter test split.1 = rw must refl in
         let kept : filter test pair_offers ≡ split.0 ++ o ∷ filter test split.1 =
-        ap (filter test) split.2 ∙ filter-append test split.0 (o ∷ split.1) ∙ ap (λ (xs : List Offer). xs ++ filter test (o ∷ split.1)) all ∙ ap (λ (xs : List Offer). split.0 ++ xs) own in
-        let sum : amounts (filter test pair_offers) ≡ amounts split.0 + amounts (o ∷ filter test split.1) = ap amounts kept ∙ sum_by-append (λ (x : Offer). x.amount) split.0 (o ∷ filter test split.1) in
-        let some : ahead_of all_offers o + o.amount ≤ amounts (filter test pair_offers) = omega (arith, ahead, sum, sum_by-cons (λ (x : Offer). x.amount) o (filter test split.1)) in
-        let reach : price_sold * (ahead_of all_offers o + o.amount) ≤ low_of prices j false all_offers o.sell o.buy = mul-le-mul_left price_sold some in
-        let parted : price_sold * (ahead_of all_offers o + o.amount) ≡ price_sold * ahead_of all_offers o + price_sold * o.amount = omega arith in
+        ap (filter test) split.2 ∙ filter-append test split.0 (o ∷ split.1)
+        ∙ ap (λ (xs : List Offer). xs ++ filter test (o ∷ split.1)) all
+        ∙ ap (λ (xs : List Offer). split.0 ++ xs) own in
+        let sum : amounts (filter test pair_offers) ≡ amounts split.0 + amounts (o ∷ filter test split.1) =
+        ap amounts kept ∙ sum_by-append (λ (x : Offer). x.amount) split.0 (o ∷ filter test split.1) in
+        let some : ahead_of all_offers o + o.amount ≤ amounts (filter test pair_offers) =
+        omega (arith, ahead, sum, sum_by-cons (λ (x : Offer). x.amount) o (filter test split.1)) in
+        let reach : price_sold * (ahead_of all_offers o + o.amount) ≤ low_of prices j false all_offers o.sell o.buy =
+        mul-le-mul_left price_sold some in
+        let parted : price_sold * (ahead_of all_offers o + o.amount) ≡ price_sold * ahead_of all_offers o + price_sold * o.amount =
+        omega arith in
         let value : value_of prices flow all_offers o ≡ price_sold * o.amount = min-eq_right (omega (arith, least)) in
-        let up : value_of prices flow all_offers o ≤ price_sold * gives prices flow all_offers o = (up_is (value_of prices flow all_offers o) price_sold above).0 in
+        let up : value_of prices flow all_offers o ≤ price_sold * gives prices flow all_offers o =
+        (up_is (value_of prices flow all_offers o) price_sold above).0 in
         let most = gives_has prices flow all_offers o above in
-        let least_given : o.amount ≤ gives prices flow all_offers o = le_of_mul-le-mul_left {k = price_sold} (let e : price_sold * o.amount ≤ price_sold * gives prices flow all_offers o = omega arith in e) above in
+        let least_given : o.amount ≤ gives prices flow all_offers o =
+        le_of_mul-le-mul_left {k = price_sold} (let e : price_sold * o.amount ≤ price_sold * gives prices flow all_offers o = omega arith in e) above in
         omega arith
 
 pub only_within_limit : TradesOnlyWithinLimit
-only_within_limit parts prices flow offer is fits within some = leb-true _ _ (trades_within_limit parts prices flow is fits offer within.0 within.1 within.2 some)
+only_within_limit parts prices flow offer is fits within some =
+    leb-true _ _ (trades_within_limit parts prices flow is fits offer within.0 within.1 within.2 some)
 
 pub must_in_full : MustTradeInFull
 must_in_full parts prices flow j offer is fits least within must =

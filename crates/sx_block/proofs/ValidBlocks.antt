@@ -37,7 +37,8 @@ module _ (parts : Parts) (block : Block) (valid : IsValid parts block) where
   middle_is : IsLedger parts → IsLedger middle
   middle_is is = body_keeps_ledger parts block.txs is valid.form.each valid.admissible
 
-  least : block.header.dropped ≡ None → EachPair (assets_of parts) (λ sell buy. undropped_low_in parts block sell buy ≤ flow_of_block block sell buy)
+  least : block.header.dropped ≡ None
+      → EachPair (assets_of parts) (λ sell buy. undropped_low_in parts block sell buy ≤ flow_of_block block sell buy)
   least none sell buy s b differ =
       subst (λ (dropped : Option Cut). low_of block.header.prices block.header.mu (is_some dropped) (offers_of parts block) sell buy ≤ flow_of_block block sell buy) none
       (valid.fits.circulation.within sell buy s b differ).at_least
@@ -61,7 +62,8 @@ blocks_chain parts block next valid valid_next =
     (valid_next.next_height ∙ ap (λ (h : ℕ). h + 1) (sym valid.next_height), valid_next.parent ∙ sym valid.after)
 
 pub block_trades_most : BlockTradesMost
-block_trades_most parts block valid = fit_is_greatest (assets_of parts) (low_in parts block) (high_in parts block) (flow_of_block block) (potential_of block.header.potentials) valid.fits
+block_trades_most parts block valid =
+    fit_is_greatest (assets_of parts) (low_in parts block) (high_in parts block) (flow_of_block block) (potential_of block.header.potentials) valid.fits
 
 pub drops_the_impossible : BlockDropsTheImpossible
 drops_the_impossible parts block cut valid dropped =

@@ -42,7 +42,8 @@ bytes_append xs ys are are' i =
 digest_bytes_are : (h : List ℕ) (n : ℕ) → AreBytes (digest_bytes h n)
 unfolding digest_bytes
 digest_bytes_are h zero i = omega arith
-digest_bytes_are h (suc n) i = bytes_append (digest_bytes h n) (to_be_bytes w32 (slice_index h n)) (digest_bytes_are h n) (AreBytes-big_bytes 4 (slice_index h n)) i
+digest_bytes_are h (suc n) i =
+    bytes_append (digest_bytes h n) (to_be_bytes w32 (slice_index h n)) (digest_bytes_are h n) (AreBytes-big_bytes 4 (slice_index h n)) i
 
 is_digest : (message : List ℕ) → IsDigest (sha256 message)
 unfolding sha256
@@ -103,7 +104,8 @@ is_flow = record {
   assets = record { some = omega arith; few = omega arith };
   values = record {
     full = refl;
-    in_range = All-from_recursion (λ entry. entry ≤ 2 ^ 102) block.header.trades.values (omega arith, (omega arith, (omega arith, (omega arith, tt))));
+    in_range =
+        All-from_recursion (λ entry. entry ≤ 2 ^ 102) block.header.trades.values (omega arith, (omega arith, (omega arith, (omega arith, tt))));
     diagonal = no_diagonal;
   };
 }
@@ -124,7 +126,8 @@ is_block = record {
     trades = is_flow;
     cut = omega arith;
     one_potential = refl;
-    potentials = All-from_recursion (λ potential. potential < 2 ^ 32) block.header.potentials (omega arith, (omega arith, tt));
+    potentials =
+        All-from_recursion (λ potential. potential < 2 ^ 32) block.header.potentials (omega arith, (omega arith, tt));
     one_rounding = refl;
     rounding = All-from_recursion (λ units. units ≤ 2 ^ 62) block.header.rounding (omega arith, (omega arith, tt));
     after = is_digest (record_bytes 1 (state_bytes after));
@@ -149,7 +152,8 @@ tight : EachPair 2 (IsTight (low_in before block) (high_in before block) (flow_o
 tight zero zero s b differ = absurd (differ refl)
 tight zero (suc zero) s b differ = record { gaining = λ gain. refl; losing = λ loss. absurd (omega (arith, ints)) }
 tight zero (suc (suc buy)) s b differ = absurd (omega arith)
-tight (suc zero) zero s b differ = record { gaining = λ gain. absurd (omega (arith, ints)); losing = λ loss. absurd (omega (arith, ints)) }
+tight (suc zero) zero s b differ =
+    record { gaining = λ gain. absurd (omega (arith, ints)); losing = λ loss. absurd (omega (arith, ints)) }
 tight (suc zero) (suc zero) s b differ = absurd (differ refl)
 tight (suc zero) (suc (suc buy)) s b differ = absurd (omega arith)
 tight (suc (suc sell)) buy s b differ = absurd (omega arith)
@@ -160,7 +164,8 @@ balanced zero lt = refl
 balanced (suc zero) lt = refl
 balanced (suc (suc asset)) lt = absurd (omega arith)
 
-rounded : (asset : ℕ) → asset < 2 → IsRounding prices (flow_of_block block) (offers_of before block) asset (slice_index block.header.rounding asset)
+rounded : (asset : ℕ) → asset < 2
+    → IsRounding prices (flow_of_block block) (offers_of before block) asset (slice_index block.header.rounding asset)
 rounded zero lt = refl
 rounded (suc zero) lt = refl
 rounded (suc (suc asset)) lt = absurd (omega arith)

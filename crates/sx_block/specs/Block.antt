@@ -10,7 +10,7 @@ use Rattle.sx_dual.specs.Tables.{IsFlow}
 use Rattle.sx_ledger.specs.Body.{tx_before}
 use Rattle.sx_ledger.specs.Ledger.{most_height}
 use Rattle.sx_price.specs.Limits.{IsPrice}
-use Rattle.sx_tx.specs.Transactions.{IsTx}
+use Rattle.sx_tx.specs.Transactions.{IsTx, most_transactions}
 
 -- a cut, where there is one, is a set of some of n assets
 abbrev pub CutFits : ℕ → Option Cut → Type 0
@@ -42,6 +42,6 @@ pub record IsHeader (header : Header) : Type 0 where
 
 pub record IsBlock (block : Block) : Type 0 where
   pub header : IsHeader block.header
-  pub few : length block.txs ≤ 1000000
+  pub few : length block.txs ≤ most_transactions
   pub each : All IsTx block.txs
   pub ordered : IsTrue (in_order tx_before None block.txs)

@@ -16,6 +16,7 @@ use Rattle.sx_ledger.specs.Decoding.{price_at, units_field_at, sell_at, buy_at}
 use Rattle.sx_ledger.specs.Ledger.{most_height}
 use Rattle.sx_tx.specs.declared.tx.Tx.{Tx}
 use Rattle.sx_tx.specs.TransactionDecoding.{tx_at}
+use Rattle.sx_tx.specs.Transactions.{most_transactions}
 
 -- 32 bytes as they are
 abbrev pub digest_at : Cursor → Result (List ℕ × Cursor) FormFault
@@ -121,7 +122,7 @@ header_at c = do
 -- the number of transactions, and the transactions
 unfoldable pub body_at : Cursor → Result (List Tx × Cursor) FormFault
 body_at c = do
-  count ← field_at 4 (between 0 1000000) form.TooMany c
+  count ← field_at 4 (between 0 most_transactions) form.TooMany c
   ordered_at tx_at tx_before form.Order count.0 None count.1
 
 unfoldable pub fields_at : Cursor → Result (Block × Cursor) FormFault

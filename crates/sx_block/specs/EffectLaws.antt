@@ -25,7 +25,8 @@ pub record IsTradable (parts : Parts) (prices : List ℕ) (flow : ℕ → ℕ �
 -- each asset keeps by rounding what was given less what was got
 pub record IsRounded (parts : Parts) (prices : List ℕ) (flow : ℕ → ℕ → ℕ) (rounding : List ℕ) : Type 0 where
   pub one_each : length rounding ≡ assets_of parts
-  pub is : (asset : ℕ) → asset < assets_of parts → IsRounding prices flow parts.offers asset (slice_index rounding asset)
+  pub is : (asset : ℕ) → asset < assets_of parts
+      → IsRounding prices flow parts.offers asset (slice_index rounding asset)
 
 -- ---- fills
 
@@ -40,41 +41,46 @@ abbrev pub GivesLessThanOneMore : Type 0
 GivesLessThanOneMore =
     (prices : List ℕ) (flow : ℕ → ℕ → ℕ) (offers : List Offer) (offer : Offer) → 0 < price_of prices offer.sell →
     (value_of prices flow offers offer ≤ price_of prices offer.sell * gives prices flow offers offer)
-    × (price_of prices offer.sell * gives prices flow offers offer < value_of prices flow offers offer + price_of prices offer.sell)
+    × (price_of prices offer.sell * gives prices flow offers offer
+    < value_of prices flow offers offer + price_of prices offer.sell)
 
 -- what it gets is worth no more than its value, and less than one unit less
 abbrev pub GetsLessThanOneLess : Type 0
 GetsLessThanOneLess =
     (prices : List ℕ) (flow : ℕ → ℕ → ℕ) (offers : List Offer) (offer : Offer) → 0 < price_of prices offer.buy →
     (price_of prices offer.buy * gets prices flow offers offer ≤ value_of prices flow offers offer)
-    × (value_of prices flow offers offer < price_of prices offer.buy * gets prices flow offers offer + price_of prices offer.buy)
+    × (value_of prices flow offers offer
+    < price_of prices offer.buy * gets prices flow offers offer + price_of prices offer.buy)
 
 -- an offer that trades at all may trade: the rate reaches its limit
 abbrev pub TradesOnlyWithinLimit : Type 0
 TradesOnlyWithinLimit =
-    (parts : Parts) (prices : List ℕ) (flow : ℕ → ℕ → ℕ) (offer : Offer) → IsLedger parts → IsTradable parts prices flow → Contains parts.offers offer →
+    (parts : Parts) (prices : List ℕ) (flow : ℕ → ℕ → ℕ) (offer : Offer) → IsLedger parts →
+    IsTradable parts prices flow → Contains parts.offers offer →
     0 < value_of prices flow parts.offers offer → MayTrade (price_of prices offer.sell) (price_of prices offer.buy) offer.limit
 
 -- where no pair trades less than its lower bound, an offer that must trade gives its whole amount
 abbrev pub MustTradeInFull : Type 0
 MustTradeInFull =
     (parts : Parts) (prices : List ℕ) (flow : ℕ → ℕ → ℕ) (j : ℕ) (offer : Offer) → IsLedger parts → IsTradable parts prices flow →
-    EachPair (assets_of parts) (λ sell buy. low_of prices j false parts.offers sell buy ≤ flow sell buy) → Contains parts.offers offer →
-    MustTrade (price_of prices offer.sell) (price_of prices offer.buy) offer.limit j → gives prices flow parts.offers offer ≡ offer.amount
+    EachPair (assets_of parts) (λ sell buy. low_of prices j false parts.offers sell buy ≤ flow sell buy) →
+    Contains parts.offers offer → MustTrade (price_of prices offer.sell) (price_of prices offer.buy) offer.limit j →
+    gives prices flow parts.offers offer ≡ offer.amount
 
 -- ---- trading
 
 -- rounding is never negative: no more is got of an asset than is given
 abbrev pub RoundingIsNeverNegative : Type 0
 RoundingIsNeverNegative =
-    (parts : Parts) (prices : List ℕ) (flow : ℕ → ℕ → ℕ) (asset : ℕ) → IsLedger parts → IsTradable parts prices flow → asset < assets_of parts →
+    (parts : Parts) (prices : List ℕ) (flow : ℕ → ℕ → ℕ) (asset : ℕ) → IsLedger parts →
+    IsTradable parts prices flow → asset < assets_of parts →
     got prices flow parts.offers asset ≤ given prices flow parts.offers asset
 
 -- trading makes and loses nothing of any asset
 abbrev pub TradeConserves : Type 0
 TradeConserves =
-    (parts : Parts) (prices : List ℕ) (flow : ℕ → ℕ → ℕ) (rounding : List ℕ) (asset : ℕ) → IsLedger parts → IsTradable parts prices flow →
-    IsRounded parts prices flow rounding → asset < assets_of parts →
+    (parts : Parts) (prices : List ℕ) (flow : ℕ → ℕ → ℕ) (rounding : List ℕ) (asset : ℕ) → IsLedger parts →
+    IsTradable parts prices flow → IsRounded parts prices flow rounding → asset < assets_of parts →
     total_of (traded parts prices flow rounding) asset ≡ total_of parts asset
 
 -- the ledger after trading is a ledger
@@ -87,7 +93,8 @@ TradeKeepsLedger =
 
 -- the ledger after a valid block is a ledger
 abbrev pub BlockKeepsLedger : Type 0
-BlockKeepsLedger = (parts : Parts) (block : Block) → IsLedger parts → IsValid parts block → IsLedger (ledger_after parts block)
+BlockKeepsLedger =
+    (parts : Parts) (block : Block) → IsLedger parts → IsValid parts block → IsLedger (ledger_after parts block)
 
 -- a valid block makes and loses nothing of any asset
 abbrev pub BlockConserves : Type 0
@@ -123,7 +130,8 @@ BlockDropsTheImpossible =
 -- an offer that trades in a valid block may trade at its prices
 abbrev pub BlockTradesWithinLimits : Type 0
 BlockTradesWithinLimits =
-    (parts : Parts) (block : Block) (offer : Offer) → IsLedger parts → IsValid parts block → Contains (offers_of parts block) offer →
+    (parts : Parts) (block : Block) (offer : Offer) → IsLedger parts → IsValid parts block →
+    Contains (offers_of parts block) offer →
     0 < value_of block.header.prices (flow_of_block block) (offers_of parts block) offer →
     MayTrade (price_of block.header.prices offer.sell) (price_of block.header.prices offer.buy) offer.limit
 
@@ -132,5 +140,6 @@ abbrev pub BlockTradesInFull : Type 0
 BlockTradesInFull =
     (parts : Parts) (block : Block) (offer : Offer) → IsLedger parts → IsValid parts block → block.header.dropped ≡ None →
     Contains (offers_of parts block) offer →
-    MustTrade (price_of block.header.prices offer.sell) (price_of block.header.prices offer.buy) offer.limit block.header.mu →
+    MustTrade (price_of block.header.prices offer.sell) (price_of block.header.prices offer.buy) offer.limit
+    block.header.mu →
     gives block.header.prices (flow_of_block block) (offers_of parts block) offer ≡ offer.amount

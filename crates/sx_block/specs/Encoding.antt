@@ -32,7 +32,8 @@ abbrev pub market_bytes : Header → List ℕ
 market_bytes header = flat_map (big_bytes 8) header.prices ++ (flow_bytes header.trades ++ cut_bytes header.dropped)
 
 abbrev pub outcome_bytes : Header → List ℕ
-outcome_bytes header = flat_map (big_bytes 4) header.potentials ++ (flat_map (big_bytes 8) header.rounding ++ header.after)
+outcome_bytes header =
+    flat_map (big_bytes 4) header.potentials ++ (flat_map (big_bytes 8) header.rounding ++ header.after)
 
 abbrev pub header_bytes : Header → List ℕ
 header_bytes header =

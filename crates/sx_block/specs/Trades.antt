@@ -25,7 +25,8 @@ pub record IsTrade (n : ℕ) (trade : Trade) : Type 0 where
 abbrev pub trades_from : ℕ → ℕ → List ℕ → List Trade
 trades_from n place [] = []
 trades_from n place (value ∷ values) =
-    if value == 0 then trades_from n (suc place) values else (record { sell = place / n; buy = place % n; value = value } ∷ trades_from n (suc place) values)
+    if value == 0 then trades_from n (suc place) values else
+    (record { sell = place / n; buy = place % n; value = value } ∷ trades_from n (suc place) values)
 
 -- each pair that trades, by the sold and then by the bought asset
 abbrev pub trades_of : FlowTable → List Trade

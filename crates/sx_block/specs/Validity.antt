@@ -30,7 +30,8 @@ flow_of_block block = value_of block.header.trades
 
 -- the transactions first, then the trade
 abbrev pub ledger_after : Parts → Block → Parts
-ledger_after parts block = traded (body_after parts block.txs) block.header.prices (flow_of_block block) block.header.rounding
+ledger_after parts block =
+    traded (body_after parts block.txs) block.header.prices (flow_of_block block) block.header.rounding
 
 -- the offers that trade: those after the transactions
 abbrev pub offers_of : Parts → Block → List Offer
@@ -44,11 +45,13 @@ high_in parts block sell buy = high_of block.header.prices (offers_of parts bloc
 
 -- the least value of a pair, before any lower bound is dropped
 abbrev pub undropped_low_in : Parts → Block → ℕ → ℕ → ℕ
-undropped_low_in parts block sell buy = low_of block.header.prices block.header.mu false (offers_of parts block) sell buy
+undropped_low_in parts block sell buy =
+    low_of block.header.prices block.header.mu false (offers_of parts block) sell buy
 
 -- the least value of a pair, which is 0 where the header has a cut
 abbrev pub low_in : Parts → Block → ℕ → ℕ → ℕ
-low_in parts block sell buy = low_of block.header.prices block.header.mu (is_some block.header.dropped) (offers_of parts block) sell buy
+low_in parts block sell buy =
+    low_of block.header.prices block.header.mu (is_some block.header.dropped) (offers_of parts block) sell buy
 
 -- a cut, where there is one, shows that no circulation keeps the bounds
 abbrev pub CutHolds : ℕ → (ℕ → ℕ → ℕ) → (ℕ → ℕ → ℕ) → Option Cut → Type 0
@@ -67,7 +70,10 @@ pub record IsValid (parts : Parts) (block : Block) : Type 0 where
   pub body : block.header.body ≡ sha256 (list_bytes block.txs)
   pub same_assets : length block.header.prices ≡ assets_of parts
   pub admissible : IsAdmissible parts block.txs
-  pub fits : Fits (assets_of parts) (low_in parts block) (high_in parts block) (flow_of_block block) (potential_of block.header.potentials)
+  pub fits : Fits (assets_of parts) (low_in parts block) (high_in parts block) (flow_of_block block)
+      (potential_of block.header.potentials)
   pub cut : CutHolds (assets_of parts) (undropped_low_in parts block) (high_in parts block) block.header.dropped
-  pub rounding : (asset : ℕ) → asset < assets_of parts → IsRounding block.header.prices (flow_of_block block) (offers_of parts block) asset (slice_index block.header.rounding asset)
+  pub rounding : (asset : ℕ) → asset < assets_of parts
+      → IsRounding block.header.prices (flow_of_block block) (offers_of parts block) asset
+      (slice_index block.header.rounding asset)
   pub after : block.header.after ≡ digest_of_ledger (ledger_after parts block)

@@ -5,7 +5,7 @@ ghost use Rattle.sha2.specs.Sha256.{sha256};
 ghost use Rattle.sx_block.specs.Digest.{IsDigest};
 ghost use Rattle.sx_block.specs.Validity.{digest_of_ledger};
 ghost use Rattle.sx_record.specs.Frame.{record_bytes};
-ghost use Rattle.sx_tx.specs.Transactions.{list_bytes};
+ghost use Rattle.sx_tx.specs.Transactions.{list_bytes, most_transactions};
 
 use crate::digest::Digest;
 use sha2::{Digest as Hasher, Sha256};
@@ -51,7 +51,7 @@ pub fn ledger_digest(alloc: Global, ledger: &Ledger) -> Result<Digest, NoMemory>
 
 /// The digest of a list of transactions: that of the list's encoding, their number included.
 pub fn body_digest(alloc: Global, txs: &[Tx]) -> Result<Digest, NoMemory>
-    requires { length txs.now ≤ 1000000 }
+    requires { length txs.now ≤ most_transactions }
     ensures hash { IfOk result (λ digest. digest ≡ sha256 (list_bytes txs.now)) }
     ensures digest { IfOk result IsDigest }
 {

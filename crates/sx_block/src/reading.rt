@@ -15,10 +15,7 @@ use crate::header_reading::read_header;
 use crate::trade_reading::fault_at;
 use std::alloc::Global;
 use sx_bytes::{Form, ReadError, Reader};
-use sx_tx::{Tx, TxList, read_tx};
-
-// How many transactions a block may hold.
-const MOST_TXS: u32 = 1_000_000;
+use sx_tx::{MOST_TRANSACTIONS, Tx, TxList, read_tx};
 
 // How many bytes the shortest transaction takes.
 const LEAST_BYTES: usize = 25;
@@ -59,7 +56,7 @@ fn read_txs(alloc: Global, from: &mut Reader, count: u32) -> Result<TxList, Read
 fn read_body(alloc: Global, from: &mut Reader) -> Result<TxList, ReadError>
     ensures { MayDecodeOrStray (λ x. x) (body_at from.old) from.new result }
 {
-    let count = from.field_u32(0, MOST_TXS, Form::TooMany)?;
+    let count = from.field_u32(0, MOST_TRANSACTIONS, Form::TooMany)?;
     read_txs(alloc, from, count)
 }
 
