@@ -17,9 +17,9 @@ use Rattle.sx_bytes.specs.declared.fault.FormFault.{FormFault}
 use Rattle.sx_bytes.specs.declared.fault.ReadError.{ReadError}
 use Rattle.sx_bytes.specs.Field.{AreBytes}
 use Rattle.sx_bytes.specs.Cursor.{Cursor, rest, left}
-use Rattle.sx_bytes.specs.Grammar.{◌>>=◌, Gives, between, field_at, ordered_at, in_order}
+use Rattle.sx_bytes.specs.Grammar.{Gives, between, field_at, ordered_at, in_order}
 use Rattle.sx_bytes.specs.Laws.{IsInjective, IsPrefixFree}
-use Rattle.sx_bytes.proofs.Grammar.{bind_ok, guard_ok, length-rest, Takes, Takes-then, Again}
+use Rattle.sx_bytes.proofs.Grammar.{bind_ok, guard_ok, length-rest, Takes, Takes-then}
 use Rattle.sx_bytes.proofs.Ordered.{ordered_takes, ordered_again}
 use Rattle.sx_bytes.proofs.Parts.{TakesAll, ReadsAgain, two_take, two_again, is_injective, is_prefix_free}
 use Rattle.sx_bytes.proofs.DecodingSteps.{bytes_after, range_takes, range_again, again_then}

@@ -1,9 +1,7 @@
 -- The definitions, computed at small blocks that were worked out by hand. Prices and limits are in units of 2 ^ -24.
-use Rattle.std.proofs.Common.{◌≡◌, ℕ, ◌*◌, ◌^◌, true, false, List, [], ◌∷◌, ◌++◌, length, Option, None, Some, Ok, Err, refl}
-use Rattle.std.specs.Prelude.{ℤ, pos}
-use Rattle.byteorder.specs.Endian.{big_bytes}
+use Rattle.std.proofs.Common.{◌≡◌, ℕ, ◌*◌, ◌^◌, List, [], ◌∷◌, Option, None, Some, refl}
+use Rattle.std.specs.Prelude.{pos}
 use Rattle.sx_block.specs.declared.header.Block.{Block}
-use Rattle.sx_block.specs.declared.header.Header.{Header}
 use Rattle.sx_block.specs.declared.trade.Trade.{Trade}
 use Rattle.sx_block.specs.Encoding.{cut_bytes, flow_bytes}
 use Rattle.sx_block.specs.Trades.{flow_of, trades_of}
@@ -17,7 +15,6 @@ use Rattle.sx_dual.specs.Tables.{FlowTable, potential_of, value_of}
 use Rattle.sx_ledger.specs.declared.account.Account.{Account}
 use Rattle.sx_ledger.specs.declared.offer.Offer.{Offer}
 use Rattle.sx_ledger.specs.declared.parts.Parts.{Parts}
-use Rattle.sx_ledger.specs.Fills.{given, got}
 use Rattle.sx_tx.specs.declared.kind.Kind.TheVariants as kind
 use Rattle.sx_tx.specs.declared.tx.Tx.{Tx}
 use Rattle.sx_tx.specs.Window.{behind_highest}

@@ -1,15 +1,14 @@
 -- A flow and the list of its trades: each is made from the other.
-use Rattle.std.proofs.Common.{◌≡◌, ◌≢◌, ℕ, zero, suc, ◌+◌, ◌-◌, ◌*◌, ◌/◌, ◌%◌, ◌^◌, ◌<◌, ◌≤◌, Bool, true, false, cond, eqb, List, [], ◌∷◌, length, get_or, Option, Some, None, refl, sym, ap, ap₂, subst, ◌∙◌, inl, inr, arith}
-use Rattle.std.specs.Prelude.{All, slice_index, nat_lt, ◌==◌, ◌&&◌, ◌||◌}
+use Rattle.std.proofs.Common.{◌≡◌, ◌≢◌, ℕ, zero, suc, ◌+◌, ◌-◌, ◌*◌, ◌/◌, ◌%◌, ◌^◌, ◌<◌, ◌≤◌, true, false, eqb, List, [], ◌∷◌, length, get_or, Option, Some, None, refl, sym, ap, ap₂, subst, ◌∙◌, inl, inr, arith}
+use Rattle.std.specs.Prelude.{nat_lt, ◌==◌, ◌&&◌}
 use Rattle.std.specs.List.{AllByRecursion}
 use Rattle.std.proofs.Math.Nat.{mul-le-mul_right}
 use Rattle.std.proofs.lemmas.Bool.{cases_Bool, cases_lt, cases_order, eqb-true, eqb-false, eq-eqb, ne_eqb, lt-ltb, ltb-true, or_cases, and_parts}
-use Rattle.std.proofs.lemmas.List.{get_or-drop}
 use Rattle.std.proofs.lemmas.Nat.{div-add-mod', div-mul-add, mod-mul-add, mod_below, div_below, same_from_place}
 use Rattle.sx_block.specs.declared.trade.Trade.{Trade}
 use Rattle.sx_block.specs.Trades.{place_of, trade_before, IsTrade, trades_from, trades_of, value_at, entries_from, flow_of}
 use Rattle.sx_bytes.specs.Grammar.{may_follow, in_order}
-use Rattle.sx_dual.specs.Tables.{FlowTable, IsFlow, IsTable, entry_at}
+use Rattle.sx_dual.specs.Tables.{FlowTable, IsFlow}
 
 abbrev pair : ℕ → ℕ → ℕ → Trade
 pair n place value = record { sell = place / n; buy = place % n; value = value }

@@ -1,7 +1,6 @@
 -- What offers give and get, against the value that they trade.
-use Rattle.std.proofs.Common.{◌≡◌, ◌≢◌, ℕ, zero, suc, ◌+◌, ◌-◌, ◌*◌, ◌/◌, ◌%◌, ◌<◌, ◌≤◌, min, true, false, cond, eqb, ◌&&◌, List, [], ◌∷◌, sum_by, refl, sym, ap, ap₂, subst, ◌∙◌, inl, inr, arith}
+use Rattle.std.proofs.Common.{◌≡◌, ◌≢◌, ℕ, suc, ◌+◌, ◌-◌, ◌*◌, ◌/◌, ◌%◌, ◌<◌, ◌≤◌, cond, eqb, ◌&&◌, List, [], ◌∷◌, sum_by, refl, sym, ap, subst, ◌∙◌, inl, inr, arith}
 use Rattle.std.specs.Cmp.{both_ways}
-use Rattle.std.specs.Int.{div_ceil}
 use Rattle.std.specs.List.{AllByRecursion}
 use Rattle.std.proofs.Math.Bool.{and_comm}
 use Rattle.std.proofs.Math.Nat.{div-add-mod, lt_of_mul-lt-mul_left, min-le_right, mod-lt, mul_comm, le_of_mul-le-mul_left}
@@ -10,15 +9,15 @@ use Rattle.std.proofs.lemmas.Grind.{div_ceil_times}
 use Rattle.std.proofs.lemmas.List.Elements.{recursion_from_All}
 use Rattle.std.proofs.lemmas.List.Sums.{sum_by-cons}
 use Rattle.sx_block.specs.EffectLaws.{GivesWhatItHas, GivesLessThanOneMore, GetsLessThanOneLess, RoundingIsNeverNegative, IsTradable}
-use Rattle.sx_block.proofs.ListSums.{grouped, sum_by-agree, sum_by-filter}
+use Rattle.sx_block.proofs.ListSums.{grouped, sum_by-filter}
 use Rattle.sx_block.proofs.OfferOrder.{Rising, rising_is}
 use Rattle.sx_block.proofs.PairFills.{pair_trades}
-use Rattle.sx_dual.specs.Circulation.{IsBalanced, bought, sold}
+use Rattle.sx_dual.specs.Circulation.{bought, sold}
 use Rattle.sx_dual.specs.Sums.{between}
 use Rattle.sx_dual.proofs.SumLaws.{sum_below-same}
 use Rattle.sx_ledger.specs.declared.offer.Offer.{Offer}
 use Rattle.sx_ledger.specs.declared.parts.Parts.{Parts}
-use Rattle.sx_ledger.specs.Bounds.{high_of, pair_of, price_of}
+use Rattle.sx_ledger.specs.Bounds.{price_of}
 use Rattle.sx_ledger.specs.Fills.{given, gives, gets, got, value_of}
 use Rattle.sx_ledger.specs.Ledger.{IsLedger, IsOffer, assets_of}
 use Rattle.sx_price.specs.Rounding.{rounded_up, rounded_down}

@@ -1,5 +1,5 @@
 -- The header of a block: what is read is encoded so, and what is encoded so is read.
-use Rattle.std.proofs.Common.{◌≡◌, ℕ, zero, suc, ◌+◌, ◌-◌, ◌^◌, ◌<◌, ◌≤◌, true, false, ltb, List, ◌++◌, length, take, drop, Option, Result, Ok, refl, sym, ap, subst, ◌∙◌, append_assoc, arith}
+use Rattle.std.proofs.Common.{◌≡◌, ℕ, ◌+◌, ◌-◌, ◌^◌, ◌<◌, ◌≤◌, true, false, ltb, List, ◌++◌, length, take, drop, refl, sym, ap, subst, ◌∙◌, append_assoc, arith}
 use Rattle.std.specs.Prelude.{All}
 use Rattle.std.specs.List.{flat_map}
 use Rattle.std.proofs.lemmas.Bool.{ltb-false, le-ltb}
@@ -13,15 +13,11 @@ use Rattle.sx_block.specs.Digest.{IsDigest}
 use Rattle.sx_block.specs.Encoding.{flow_bytes, cut_bytes, header_bytes}
 use Rattle.sx_block.proofs.TradeLaws.{IsFlowOf, flow_takes, flow_reads_again, cut_takes, cut_again}
 use Rattle.sx_bytes.specs.declared.fault.Form.TheVariants as form
-use Rattle.sx_bytes.specs.declared.fault.FormFault.{FormFault}
-use Rattle.sx_bytes.specs.Field.{AreBytes}
 use Rattle.sx_bytes.specs.Cursor.{Cursor, rest, left, moved, raw_at}
-use Rattle.sx_bytes.specs.Grammar.{◌>>=◌, or_fault, between, field_at, many_at}
+use Rattle.sx_bytes.specs.Grammar.{◌>>=◌, between, field_at, many_at}
 use Rattle.sx_bytes.proofs.Grammar.{bind_ok, guard_short, or_fault_ok, AreBytes-take, AreBytes-drop, moved_takes, length-rest, Takes, Takes-then, Again, field_takes, field_again, many_takes, many_again}
 use Rattle.sx_bytes.proofs.Parts.{Reading, TakesAll, ReadsAgain, two_at, two_take, two_again, three_at, three_take, three_again}
 use Rattle.sx_bytes.proofs.DecodingSteps.{bytes_after, range_takes, range_again, again_then}
-use Rattle.sx_dual.specs.declared.cut.Cut.{Cut}
-use Rattle.sx_dual.specs.Tables.{FlowTable}
 use Rattle.sx_price.specs.Limits.{IsPrice}
 use Rattle.sx_ledger.specs.Decoding.{price_at, units_field_at}
 use Rattle.sx_ledger.proofs.DependentParts.{chained_takes, chained_again}

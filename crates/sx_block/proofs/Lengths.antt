@@ -1,5 +1,5 @@
 -- How long the encoding of a block is.
-use Rattle.std.proofs.Common.{◌≡◌, ℕ, ◌+◌, ◌-◌, ◌*◌, ◌≤◌, cond, List, [], ◌∷◌, ◌++◌, length, drop, Option, None, Some, refl, ◌∙◌, arith}
+use Rattle.std.proofs.Common.{◌≡◌, ℕ, ◌+◌, ◌*◌, ◌≤◌, cond, List, [], ◌∷◌, ◌++◌, length, drop, Option, None, Some, refl, arith}
 use Rattle.std.specs.Prelude.{is_some}
 use Rattle.std.specs.List.{flat_map}
 use Rattle.std.proofs.lemmas.List.{length-append, drop_at}
@@ -7,18 +7,14 @@ use Rattle.byteorder.specs.Endian.{big_bytes}
 use Rattle.sx_block.specs.declared.header.Block.{Block}
 use Rattle.sx_block.specs.declared.header.Header.{Header}
 use Rattle.sx_block.specs.declared.trade.Trade.{Trade}
-use Rattle.sx_block.specs.Block.{IsBlock, IsHeader, assets_of}
+use Rattle.sx_block.specs.Block.{IsHeader, assets_of}
 use Rattle.sx_block.specs.Encoding.{trade_bytes, flow_bytes, cut_bytes, front_bytes, market_bytes, outcome_bytes, header_bytes, block_bytes}
 use Rattle.sx_block.specs.Laws.{HasMostBytes, EveryBlockFits}
 use Rattle.sx_block.specs.Trades.{trades_of}
 use Rattle.sx_block.proofs.Counts.{trades_most}
 use Rattle.sx_bytes.proofs.Field.{length-big_bytes}
 use Rattle.sx_dual.specs.declared.cut.Cut.{Cut}
-use Rattle.sx_tx.specs.declared.kind.Kind.{Kind}
-use Rattle.sx_tx.specs.declared.kind.Kind.TheVariants as kind
-use Rattle.sx_tx.specs.declared.tx.Tx.{Tx}
-use Rattle.sx_tx.specs.Laws.{length_of}
-use Rattle.sx_tx.specs.Transactions.{tx_bytes, list_bytes}
+use Rattle.sx_tx.specs.Transactions.{list_bytes}
 use Rattle.sx_tx.proofs.ListLaws.{fits_record}
 
 length-numbers : (width : ℕ) (xs : List ℕ) → length (flat_map (big_bytes width) xs) ≡ length xs * width

@@ -1,22 +1,21 @@
 -- The ledger after trading is a ledger.
-use Rattle.std.proofs.Common.{◌≡◌, ◌≢◌, ℕ, zero, suc, ◌+◌, ◌-◌, ◌^◌, ◌<◌, ◌≤◌, Bool, true, false, cond, eqb, ltb, ◌&&◌, List, [], ◌∷◌, length, get_or, map, sum_by, refl, sym, ap, subst, ◌∙◌, inl, inr, arith}
-use Rattle.std.specs.Prelude.{All, IsTrue, nat_le, slice_index}
+use Rattle.std.proofs.Common.{◌≡◌, ℕ, ◌^◌, ◌<◌, ◌≤◌, true, ltb, List, [], ◌∷◌, length, get_or, map, sum_by, refl, sym, ap, subst, ◌∙◌, inl, inr, arith}
+use Rattle.std.specs.Prelude.{All}
 use Rattle.std.specs.List.{AllByRecursion, filter}
 use Rattle.std.specs.List.Sorted.{IsStrictlyIncreasing}
 use Rattle.std.proofs.lemmas.Bool.{cases_Bool, ltb-true}
 use Rattle.std.proofs.lemmas.List.{length-map, get_or_default, get_or-map}
 use Rattle.std.proofs.lemmas.List.Elements.{All-from_recursion, All-map, recursion_from_All}
 use Rattle.std.proofs.lemmas.List.Sums.{count_by-le-length, length-filter, get_or-le-sum_by}
-use Rattle.sx_block.specs.EffectLaws.{IsTradable, IsRounded, TradeKeepsLedger}
+use Rattle.sx_block.specs.EffectLaws.{TradeKeepsLedger}
 use Rattle.sx_block.proofs.OfferOrder.{Precedes, Rising, rising_is, rising_kept, order_is}
 use Rattle.sx_block.proofs.TradeTotals.{added_length, balances_length, trade_conserves}
 use Rattle.sx_ledger.specs.declared.account.Account.{Account}
 use Rattle.sx_ledger.specs.declared.key.Key.{Key}
 use Rattle.sx_ledger.specs.declared.offer.Offer.{Offer}
-use Rattle.sx_ledger.specs.declared.parts.Parts.{Parts}
-use Rattle.sx_ledger.specs.Ledger.{IsAccount, IsLedger, IsOffer, assets_of, balance_at, has_owner, ids, total_of}
+use Rattle.sx_ledger.specs.Ledger.{IsAccount, IsOffer, assets_of, balance_at, has_owner, ids, total_of}
 use Rattle.sx_ledger.specs.Order.{key_of}
-use Rattle.sx_ledger.specs.Trade.{account_traded, added, offer_traded, offers_traded, traded}
+use Rattle.sx_ledger.specs.Trade.{account_traded, added, offer_traded, traded}
 
 -- ---- what stays of accounts
 

@@ -1,21 +1,20 @@
 -- Trading makes and loses nothing of any asset.
-use Rattle.std.proofs.Common.{◌≡◌, ℕ, zero, suc, ◌+◌, ◌-◌, ◌*◌, ◌<◌, ◌≤◌, Bool, true, false, cond, eqb, ltb, ◌&&◌, List, [], ◌∷◌, length, get_or, map, sum_by, slice_get, Some, refl, sym, ap, ap₂, ◌∙◌, inl, inr, arith}
+use Rattle.std.proofs.Common.{◌≡◌, ℕ, zero, suc, ◌+◌, ◌<◌, ◌≤◌, true, cond, eqb, ltb, ◌&&◌, List, [], ◌∷◌, length, get_or, map, sum_by, Some, refl, sym, ap, ap₂, ◌∙◌, inl, inr, arith}
 use Rattle.std.specs.Prelude.{nat_le, slice_index, ◌==◌}
-use Rattle.std.specs.List.{AllByRecursion, filter, list_any}
+use Rattle.std.specs.List.{AllByRecursion, filter}
 use Rattle.std.specs.List.Sorted.{IsStrictlyIncreasing}
-use Rattle.std.proofs.lemmas.Bool.{cases_Bool, cases_lt, and_parts, eqb-true, eq-eqb, ne_eqb, le-ltb, ltb-false, or_cases, or_left}
+use Rattle.std.proofs.lemmas.Bool.{cases_Bool, and_parts, eq-eqb, ne_eqb, ltb-false, or_cases}
 use Rattle.std.proofs.lemmas.List.Elements.{recursion_from_All}
 use Rattle.std.proofs.lemmas.List.Sums.{sum_by-cons}
-use Rattle.sx_block.specs.EffectLaws.{IsTradable, IsRounded, TradeConserves}
+use Rattle.sx_block.specs.EffectLaws.{TradeConserves}
 use Rattle.sx_block.proofs.FillLaws.{gives_has}
 use Rattle.sx_ledger.specs.declared.account.Account.{Account}
 use Rattle.sx_ledger.specs.declared.offer.Offer.{Offer}
-use Rattle.sx_ledger.specs.declared.parts.Parts.{Parts}
 use Rattle.sx_ledger.specs.Bounds.{price_of}
-use Rattle.sx_ledger.specs.Fills.{given, gives, gets, got}
-use Rattle.sx_ledger.specs.Ledger.{IsAccount, IsLedger, IsOffer, assets_of, balance_at, has_owner, ids, offered, total_of}
+use Rattle.sx_ledger.specs.Fills.{gives, gets, got}
+use Rattle.sx_ledger.specs.Ledger.{IsAccount, IsOffer, assets_of, balance_at, has_owner, ids, offered}
 use Rattle.sx_ledger.specs.Static.{has_account}
-use Rattle.sx_ledger.specs.Trade.{account_traded, added, balances_traded, offer_traded, offers_traded, proceeds, traded}
+use Rattle.sx_ledger.specs.Trade.{account_traded, added, balances_traded, offer_traded, proceeds}
 use Rattle.sx_ledger.proofs.ListSums.{sum_by-add, sum_by-none, sum_by-one, sum_by-same}
 use Rattle.sx_ledger.proofs.PlacesOfIds.{Stands, same_place, stands}
 

@@ -1,5 +1,5 @@
 -- What follows where a block is valid.
-use Rattle.std.proofs.Common.{◌≡◌, ℕ, ◌+◌, ◌≤◌, Option, None, Some, refl, sym, ap, subst, ◌∙◌, arith}
+use Rattle.std.proofs.Common.{◌≡◌, ℕ, ◌+◌, ◌≤◌, Option, None, sym, ap, subst, ◌∙◌}
 use Rattle.std.specs.Prelude.{is_some}
 use Rattle.sx_block.specs.declared.header.Block.{Block}
 use Rattle.sx_block.specs.EffectLaws.{BlockCommits, BlockConserves, BlockDropsTheImpossible, BlockKeepsLedger, BlockTradesInFull, BlockTradesMost, BlockTradesWithinLimits, BlocksChain, IsRounded, IsTradable}

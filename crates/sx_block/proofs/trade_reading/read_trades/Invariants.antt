@@ -1,4 +1,4 @@
-use Rattle.std.proofs.Common.{◌≡◌, ◌-◌, All, None}
+use Rattle.std.proofs.Common.{◌≡◌, ◌-◌, All}
 use Rattle.sx_block.specs.Decoding.{trade_at, trades_at}
 use Rattle.sx_block.specs.Trades.{IsTrade, trade_before}
 use Rattle.sx_bytes.specs.declared.fault.Form.TheVariants as form

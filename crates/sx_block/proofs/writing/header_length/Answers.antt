@@ -1,7 +1,7 @@
-use Rattle.std.proofs.Common.{◌≡◌, ℕ, ◌*◌, ◌+◌, ◌≤◌, List, length, drop, sym, ap, ap₂, subst, ◌∙◌, arith}
+use Rattle.std.proofs.Common.{◌≡◌, ℕ, ◌≤◌, List, length, drop, sym, ap, ap₂, subst, ◌∙◌, arith}
 use Rattle.sx_block.specs.declared.header.Header.{Header}
 use Rattle.sx_block.specs.Block.{IsHeader, assets_of}
-use Rattle.sx_block.specs.Encoding.{header_bytes, block_bytes}
+use Rattle.sx_block.specs.Encoding.{block_bytes}
 use Rattle.sx_block.specs.Trades.{trades_from, trades_of}
 use Rattle.sx_block.proofs.Counts.{trades_most}
 use Rattle.sx_block.proofs.Lengths.{length-header, header_within, after_header, cut_length, cut_most}
