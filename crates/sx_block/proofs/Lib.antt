@@ -1,0 +1,17 @@
+pub mod Entries
+pub mod Listing
+pub mod Counts
+pub mod TradeLaws
+pub mod HeaderLaws
+pub mod BlockLaws
+pub mod Lengths
+pub mod OfferOrder
+pub mod ListSums
+pub mod PairFills
+pub mod FillLaws
+pub mod LimitLaws
+pub mod TradeTotals
+pub mod TradeKeeps
+pub mod ValidBlocks
+pub mod Cases
+pub mod ValidCase

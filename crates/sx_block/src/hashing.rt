@@ -1,0 +1,61 @@
+//! Digests of ledgers and of transactions, by SHA-256.
+
+ghost use Rattle.std.specs.Prelude.{◌≡◌, ◌^◌, ◌<◌, ◌≤◌, length, IfOk};
+ghost use Rattle.sha2.specs.Sha256.{sha256};
+ghost use Rattle.sx_block.specs.Digest.{IsDigest};
+ghost use Rattle.sx_block.specs.Validity.{digest_of_ledger};
+ghost use Rattle.sx_record.specs.Frame.{record_bytes};
+ghost use Rattle.sx_tx.specs.Transactions.{list_bytes, most_transactions};
+
+use crate::digest::Digest;
+use sha2::{Digest as Hasher, Sha256};
+use std::alloc::Global;
+use sx_bytes::{NoMemory, Writer};
+use sx_ledger::Ledger;
+use sx_record::tag;
+use sx_tx::{Tx, write_candidates};
+
+/// SHA-256 of these bytes. It takes no memory.
+pub fn digest_of(bytes: &[u8]) -> Digest
+    ensures hash { result ≡ sha256 bytes.now }
+    ensures digest { IsDigest result }
+{
+    Digest::of(Sha256::digest(bytes))
+}
+
+/// SHA-256 of the record of this tag and payload: of the tag, the length of the payload in four bytes,
+/// and the payload. It takes no memory.
+pub fn record_digest(tag: u8, payload: &[u8]) -> Digest
+    requires { length payload.now < 2 ^ 32 }
+    ensures hash { result ≡ sha256 (record_bytes tag payload.now) }
+    ensures digest { IsDigest result }
+{
+    let mut hasher = Sha256::new();
+    hasher.update([tag].as_slice());
+    hasher.update((payload.len() as u32).to_be_bytes().as_slice());
+    hasher.update(payload);
+    Digest::of(hasher.finalize())
+}
+
+/// The digest of a ledger: that of its whole state record.
+pub fn ledger_digest(alloc: Global, ledger: &Ledger) -> Result<Digest, NoMemory>
+    ensures hash { IfOk result (λ digest. digest ≡ digest_of_ledger ledger.now) }
+    ensures digest { IfOk result IsDigest }
+{
+    let length = ledger.state_length();
+    let mut payload = Writer::new(alloc);
+    ledger.write_state(&mut payload)?;
+    prove!(payload.bytes().len() == length as usize);
+    Ok(record_digest(tag::STATE, payload.bytes()))
+}
+
+/// The digest of a list of transactions: that of the list's encoding, their number included.
+pub fn body_digest(alloc: Global, txs: &[Tx]) -> Result<Digest, NoMemory>
+    requires { length txs.now ≤ most_transactions }
+    ensures hash { IfOk result (λ digest. digest ≡ sha256 (list_bytes txs.now)) }
+    ensures digest { IfOk result IsDigest }
+{
+    let mut list = Writer::new(alloc);
+    write_candidates(&mut list, txs)?;
+    Ok(digest_of(list.bytes()))
+}

@@ -1,0 +1,39 @@
+//! Blocks: a header and transactions, their encoding and their digests, and what makes a block valid.
+//!
+//! A [`Block`] is what one batch decided: the prices, the value that each pair of assets trades, the
+//! potentials that show that no more could be traded, what rounding keeps, the digests that chain it to
+//! the ledgers before and after it, and the transactions. [`read_block`] answers the block exactly
+//! where a payload is the encoding of one, and else the first fault from left to right; [`write_block`]
+//! appends the one encoding. [`block_laws`] says that no two blocks share an encoding and that each
+//! fits a record. [`ledger_digest`] and [`body_digest`] are the two digests of a header, by SHA-256;
+//! [`header_length`] tells where in a payload the bytes begin of which the second is made.
+//!
+//! `specs/Validity` defines the ledger after a block and when a block is valid for a ledger.
+//! [`block_effect_laws`] are laws of valid blocks, and [`fill_laws`], [`limit_laws`] and [`trade_laws`]
+//! those of trading over any ledger, on which they stand.
+//!
+//! Not here: computing the ledger after a block, and deciding whether a block is valid.
+#![tactic(auto)]
+
+mod digest;
+mod effect_laws;
+mod hashing;
+mod header;
+mod header_reading;
+mod header_writing;
+mod laws;
+mod reading;
+mod trade;
+mod trade_reading;
+mod writing;
+
+pub use digest::{Digest, Digests};
+pub use effect_laws::{block_effect_laws, fill_laws, limit_laws, trade_laws};
+pub use hashing::{body_digest, digest_of, ledger_digest, record_digest};
+pub use header::{Block, Header};
+pub use laws::block_laws;
+pub use reading::read_block;
+pub use writing::{header_length, write_block};
+
+#[cfg(test)]
+mod tests;
