@@ -1,0 +1,108 @@
+-- What the steps and the rule say of a word, and of a view that has all candidates.
+use Rattle.std.proofs.Common.{◌≡◌, ◌≢◌, ℕ, ◌+◌, ◌<◌, ◌≤◌, true, false, eqb, count_by, All, List, [], ◌∷◌, length, Option, Some, None, refl, ap, inl, inr, arith, ◌∙◌}
+use Rattle.std.specs.Prelude.{slice_index}
+use Rattle.std.proofs.lemmas.Bool.{cases_Bool, cases_lt, eqb-true, eqb-false, false_from_ne_true, lt-ltb}
+use Rattle.std.proofs.lemmas.List.{get_or_past, set_past}
+use Rattle.std.proofs.lemmas.List.Elements.{All-head, All-tail}
+use Rattle.std.proofs.lemmas.Option.{none-some, same_Some}
+use Rattle.sx_event.specs.declared.event.Event.TheVariants.{Look, Take, Claim, Split, Join}
+use Rattle.sx_event.specs.declared.event.Step.TheVariants.{Won, Lost}
+use Rattle.sx_event.specs.declared.marks.Note.{Note}
+use Rattle.sx_event.specs.declared.marks.Note.TheVariants.{Low, Set}
+use Rattle.sx_event.specs.View.{View, spent, low_in, or_else, last_low}
+use Rattle.sx_event.specs.State.{State, view_of, purse_of, word_of}
+use Rattle.sx_event.specs.Step.{wins, word_after_claim}
+use Rattle.sx_event.specs.Rule.{debits, times, LowFits, owns, Rule}
+use Rattle.sx_event.specs.Laws.{LostFindsLess, BitsStay, WholeHasAll}
+use Rattle.sx_event.proofs.Views.{live_is_within, two_at_most, sum_alone}
+use Rattle.sx_event.proofs.Ranges.{one, owns_live, lies_within, owned_is_below, two_live}
+use Rattle.sx_event.proofs.Words.{bit_after}
+
+-- ---- a lost Take
+
+-- what the last of two notes tells is one of theirs
+latest : (opening present : List ℕ) (purse : ℕ) (note : Note) (value : ℕ) (later : Option ℕ) → LowFits opening present note
+    → (later ≡ Some value → slice_index present purse ≤ value) → or_else later (low_in purse note) ≡ Some value → slice_index present purse ≤ value
+latest opening present purse note value (Some told) fit rest e = rest e
+latest opening present purse (Set word bit) value None fit rest e = absurd (none-some value e)
+latest opening present purse (Low of told) value None fit rest e = elim (cases_Bool (eqb of purse)) [
+  | inl same ↦
+      let is : Some told ≡ Some value = (let h : Some told ≡ low_in purse (Low of told) = rw same refl in h) ∙ e in
+      rw (← same_Some told value is, ← eqb-true of purse same) fit.0
+  | inr apart ↦ absurd (none-some value ((let h : None ≡ low_in purse (Low of told) = rw apart refl in h) ∙ e))
+]
+
+-- the purse has at most what the last Low note tells
+last_low_fits : (opening present : List ℕ) (purse : ℕ) (notes : List Note) (value : ℕ) → All (LowFits opening present) notes
+    → last_low purse notes ≡ Some value → slice_index present purse ≤ value
+last_low_fits opening present purse [] value fits e = absurd (none-some value e)
+last_low_fits opening present purse (note ∷ notes) value fits e =
+    latest opening present purse note value (last_low purse notes) (All-head (LowFits opening present) note notes fits)
+    (last_low_fits opening present purse notes value (All-tail (LowFits opening present) note notes fits)) e
+
+pub lost_finds_less : LostFindsLess
+lost_finds_less s actor purse need found seen rule allowed told noted =
+    let v = view_of s actor in
+    let now = purse_of s purse in
+    let lt = live_is_within s.views actor allowed.0 in
+    let le : now ≤ seen = last_low_fits s.opening_purses s.purses purse v.notes seen (rule.lows actor spent lt) noted in
+    elim (cases_Bool (wins v purse now)) [
+      | inl as_seen ↦
+          let is : Won ≡ Lost found = rw as_seen at told in
+          cc
+      | inr changed ↦
+          let is : Lost now ≡ Lost found = rw changed at told in
+          let same : now ≡ found = cc in
+          let differ : eqb now seen ≡ false = rw noted at changed in
+          omega (arith, eqb-false now seen differ)
+    ]
+
+-- ---- words along a step
+
+pub bits_stay : BitsStay
+bits_stay s actor (Look purse) word bit = omega arith
+bits_stay s actor (Take purse need) word bit = omega arith
+bits_stay s actor (Split at) word bit = omega arith
+bits_stay s actor (Join other) word bit = omega arith
+bits_stay s actor (Claim of place) word bit =
+    elim (cases_lt of (length s.bits)) [
+      | inl lt ↦ omega (arith, bit_after s.bits of place word bit lt)
+      | inr past ↦ rw (set_past s.bits of (word_after_claim place (word_of s of)) past) (omega arith)
+    ]
+
+-- ---- a view that has all candidates
+
+alone : (s : State) (name other : ℕ) → Rule s → (view_of s name).live ≡ true → (view_of s name).from ≡ 0 → (view_of s name).end ≡ s.count
+    → other ≢ name → (view_of s other).live ≢ true
+alone s name other rule live from end apart live' =
+    let v = view_of s name in
+    let o = view_of s other in
+    let lt = live_is_within s.views name live in
+    let within = live_is_within s.views other live' in
+    let some : 0 < s.count = two_live s.count s.views name other rule.ranges lt within apart live live' in
+    let filled : o.from < o.end = rule.ranges.filled some other spent within live' in
+    let below : o.from < s.count = owned_is_below s.count s.views other o.from rule.ranges within live' (omega arith) filled in
+    let first : owns o.from v ≡ true = owns_live o.from v live ∙ lies_within o.from v.from v.end (omega arith) (omega arith) in
+    let second : owns o.from o ≡ true = owns_live o.from o live' ∙ lies_within o.from o.from o.end (omega arith) filled in
+    let one_first : one (owns o.from v) ≡ 1 = ap one first in
+    let one_second : one (owns o.from o) ≡ 1 = ap one second in
+    let both : one (owns o.from v) + one (owns o.from o) ≤ count_by (owns o.from) s.views + 0 = two_at_most (λ u. one (owns o.from u)) s.views name other lt within apart in
+    let counted : count_by (owns o.from) s.views ≡ 1 = rule.ranges.one_owner o.from ∙ ap one (lt-ltb o.from s.count below) in
+    omega arith
+
+-- what is not live has nothing
+is_spent : (s : State) (other : ℕ) → Rule s → (view_of s other).live ≢ true → view_of s other ≡ spent
+is_spent s other rule dead = elim (cases_lt other (length s.views)) [
+  | inl lt ↦ rule.ranges.bare other spent lt (false_from_ne_true (view_of s other).live dead)
+  | inr past ↦ get_or_past s.views other spent past
+]
+
+pub whole_has_all : WholeHasAll
+whole_has_all s name rule live from end =
+    let lt = live_is_within s.views name live in
+    let bare = λ (other : ℕ) (apart : other ≢ name). is_spent s other rule (alone s name other rule live from end apart) in
+    record {
+      alone = λ other apart. alone s name other rule live from end apart;
+      debits = λ p. sum_alone (λ u. debits u.claims p) s.views name lt refl (λ other apart. ap (λ (u : View). debits u.claims p) (bare other apart));
+      times = λ p b. sum_alone (λ u. times u.claims p b) s.views name lt refl (λ other apart. ap (λ (u : View). times u.claims p b) (bare other apart));
+    }

@@ -1,0 +1,5 @@
+pub mod View
+pub mod State
+pub mod Step
+pub mod Rule
+pub mod Laws
