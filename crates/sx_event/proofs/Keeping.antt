@@ -15,7 +15,7 @@ use Rattle.sx_event.specs.View.{View, spent, with_claim, with_note, last_low}
 use Rattle.sx_event.specs.State.{State, view_of, purse_of, word_of}
 use Rattle.sx_event.specs.Step.{wins, has_bit, word_after_claim, left_part, right_part, joined, with_view, stepped, StepAllowed}
 use Rattle.sx_event.specs.Rule.{debit_in, bit_in, debits, times, all_debits, all_times, LowFits, SetFits, Rule}
-use Rattle.sx_event.proofs.Views.{live_is_within, sum_kept, sum_raised, sum_split, sum_joined}
+use Rattle.sx_event.proofs.Sums.{live_is_within, sum_kept, sum_raised, sum_split, sum_joined}
 use Rattle.sx_event.proofs.Ranges.{ranges_kept, ranges_split, ranges_joined}
 use Rattle.sx_event.proofs.Words.{bit_after, set_stays, found_stays, taken_falls, won_covers, lows_stay, sets_stay}
 

@@ -6,7 +6,7 @@ use Rattle.std.proofs.lemmas.List.Elements.{All-set, All-push}
 use Rattle.std.proofs.lemmas.List.Sums.{get_or-le-sum_by}
 use Rattle.sx_event.specs.View.{View, spent, opened}
 use Rattle.sx_event.specs.Rule.{owns, is_live, IsFilled, IsBare, RangesPart}
-use Rattle.sx_event.proofs.Views.{sum_kept, sum_split, sum_joined, two_at_most}
+use Rattle.sx_event.proofs.Sums.{sum_kept, sum_split, sum_joined, two_at_most}
 
 -- a test as a number
 abbrev pub one : Bool → ℕ

@@ -14,7 +14,7 @@ use Rattle.sx_event.specs.State.{State, view_of, purse_of, word_of}
 use Rattle.sx_event.specs.Step.{wins, word_after_claim}
 use Rattle.sx_event.specs.Rule.{debits, times, LowFits, owns, Rule}
 use Rattle.sx_event.specs.Laws.{LostFindsLess, BitsStay, WholeHasAll}
-use Rattle.sx_event.proofs.Views.{live_is_within, two_at_most, sum_alone}
+use Rattle.sx_event.proofs.Sums.{live_is_within, two_at_most, sum_alone}
 use Rattle.sx_event.proofs.Ranges.{one, owns_live, lies_within, owned_is_below, two_live}
 use Rattle.sx_event.proofs.Words.{bit_after}
 
