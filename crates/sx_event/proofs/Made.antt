@@ -1,5 +1,5 @@
 -- The lists of ropes, when a node is added.
-use Rattle.std.proofs.Common.{◌≡◌, ℕ, ◌+◌, List, [], ◌∷◌, ◌++◌, length, length-append, arith}
+use Rattle.std.proofs.Common.{◌≡◌, ◌+◌, List, [], ◌∷◌, length, length-append, arith}
 use Rattle.std.specs.List.{fold}
 use Rattle.sx_event.specs.declared.ropes.Node.{Node}
 use Rattle.sx_event.specs.Ropes.{made_by, grown, lists_of}

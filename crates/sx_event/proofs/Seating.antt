@@ -1,5 +1,5 @@
 -- The views that seats show, where seats and lists change.
-use Rattle.std.proofs.Common.{◌≡◌, ℕ, ◌+◌, ◌<◌, ◌≤◌, true, List, [], ◌∷◌, ◌++◌, length, get_or, set, map, All, refl, sym, ap, ◌∙◌, arith, length-set, length-append}
+use Rattle.std.proofs.Common.{◌≡◌, ℕ, ◌<◌, ◌≤◌, true, List, [], ◌∷◌, ◌++◌, length, get_or, set, map, All, refl, sym, ap, ◌∙◌, arith}
 use Rattle.std.proofs.lemmas.List.{length-map, map-set, get_or-map, get_or_append_left, get_or_push, map_push, length_push}
 use Rattle.std.proofs.lemmas.List.Elements.{All-set, All-push, All-head, All-tail}
 use Rattle.sx_event.specs.declared.marks.Claim.{Claim}

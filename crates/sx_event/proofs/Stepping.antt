@@ -1,6 +1,5 @@
 -- What holds of a core's fields, after a step.
-use Rattle.std.proofs.Common.{◌≡◌, ℕ, ◌≤◌, List, length, get_or, subst, sym}
-use Rattle.std.proofs.lemmas.List.{get_or_read}
+use Rattle.std.proofs.Common.{◌≡◌, ℕ, ◌≤◌, subst, sym}
 use Rattle.sx_event.specs.declared.event.Event.{Event}
 use Rattle.sx_event.specs.declared.machine.Core.TheInside.{Inside}
 use Rattle.sx_event.specs.State.{Running}

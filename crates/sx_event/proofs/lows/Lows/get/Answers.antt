@@ -1,6 +1,6 @@
-use Rattle.std.proofs.Common.{◌≡◌, ◌+◌, ◌-◌, ◌<◌, true, false, Some, None, is_some, ap, sym, ◌∙◌, arith}
+use Rattle.std.proofs.Common.{◌≡◌, ◌+◌, ◌-◌, true, false, is_some, ap, sym, ◌∙◌, arith}
 use Rattle.sx_event.specs.Tables.{value_in}
-use Rattle.sx_event.specs.Chains.{older_than, Chained}
+use Rattle.sx_event.specs.Chains.{Chained}
 use Rattle.sx_event.proofs.Chaining.{seek_found, look_ends, look_goes}
 use Rattle.sx_event.proofs.lows.Lows.get.Goals as goal
 

@@ -1,4 +1,4 @@
-use Rattle.std.proofs.Common.{◌≡◌, ◌-◌, length, Some}
+use Rattle.std.proofs.Common.{◌≡◌, ◌-◌, Some}
 use Rattle.sx_event.specs.Chains.{seek, seen_last}
 use Rattle.sx_event.proofs.lows.Lows.get.Given as goal
 

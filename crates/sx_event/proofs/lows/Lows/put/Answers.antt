@@ -1,4 +1,4 @@
-use Rattle.std.proofs.Common.{◌≡◌, length, sym, ap, subst, arith}
+use Rattle.std.proofs.Common.{◌≡◌, sym, ap, subst}
 use Rattle.sx_event.specs.declared.lows.Link.{Link}
 use Rattle.sx_event.specs.Chains.{newest_of, Chained, IsOpen}
 use Rattle.sx_event.proofs.Chaining.{IsPut, link_read, put_linked, put_seen}

@@ -1,4 +1,4 @@
-use Rattle.std.proofs.Common.{◌≡◌, length, ap, arith}
+use Rattle.std.proofs.Common.{length, ap, arith}
 use Rattle.sx_event.specs.Shelf.{Shelf}
 use Rattle.sx_event.proofs.Made.{lists_count}
 use Rattle.sx_event.proofs.ropes.Ropes.push.Goals as goal

@@ -1,4 +1,4 @@
-use Rattle.std.proofs.Common.{◌≡◌, ◌++◌, ◌∷◌, [], length, refl, ap}
+use Rattle.std.proofs.Common.{◌++◌, ◌∷◌, [], length, refl, ap}
 use Rattle.sx_event.specs.View.{with_note}
 use Rattle.sx_event.specs.Ropes.{list_at}
 use Rattle.sx_event.specs.Seats.{shown}

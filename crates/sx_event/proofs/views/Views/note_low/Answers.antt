@@ -1,4 +1,4 @@
-use Rattle.std.proofs.Common.{◌≡◌, true, sym, get_or, ap, ◌∙◌}
+use Rattle.std.proofs.Common.{◌≡◌, true, get_or, ap, ◌∙◌}
 use Rattle.sx_event.specs.View.{spent}
 use Rattle.sx_event.specs.Seated.{Seated}
 use Rattle.sx_event.proofs.Agreeing.{agree_low}
