@@ -86,17 +86,17 @@ agree_low views name of value lows lows' live count open' put agree =
       as_many = count ∙ agree.as_many ∙ sym (length-set views name view);
       is_open = λ k here. open' k (agree.is_open k (live_before k here));
       seen = λ k purse here.
-        let is_put = put k purse (agree.is_open k (live_before k here)) in
-        let was = agree.seen k purse (live_before k here) in
-        elim (cases_eq name k) [
-          | inl is ↦
-              let at : get_or (set views name view) k spent ≡ view = rw (← is) (get_or-set_same views name view spent lt) in
-              let old_is : last_low purse (get_or views k spent).notes ≡ last_low purse old.notes = rw is refl in
-              rw (at, after_low purse old.notes of value, is_put, eq-eqb name k is, was, old_is) refl
-          | inr apart ↦
-              let at : get_or (set views name view) k spent ≡ get_or views k spent = get_or-set_other views name k view spent (λ e. apart (sym e)) in
-              rw (at, is_put, ne_eqb name k apart) was
-        ];
+          let is_put = put k purse (agree.is_open k (live_before k here)) in
+          let was = agree.seen k purse (live_before k here) in
+          elim (cases_eq name k) [
+            | inl is ↦
+                let at : get_or (set views name view) k spent ≡ view = rw (← is) (get_or-set_same views name view spent lt) in
+                let old_is : last_low purse (get_or views k spent).notes ≡ last_low purse old.notes = rw is refl in
+                rw (at, after_low purse old.notes of value, is_put, eq-eqb name k is, was, old_is) refl
+            | inr apart ↦
+                let at : get_or (set views name view) k spent ≡ get_or views k spent = get_or-set_other views name k view spent (λ e. apart (sym e)) in
+                rw (at, is_put, ne_eqb name k apart) was
+          ];
     }
 
 -- a view is made
@@ -132,7 +132,7 @@ agree_open views from end lows lows' count open' fresh same none agree =
 pub agree_join : (views : List View) (name other : ℕ) (lows lows' : Chained) → (get_or views name spent).live ≡ true → (get_or views other spent).live ≡ true → other ≢ name
     → length lows'.links ≡ length lows.links → ((k : ℕ) → k ≢ other → IsOpen lows k → IsOpen lows' k)
     → ((k purse : ℕ) → k ≢ other → IsOpen lows k → seen_last lows' k purse
-      ≡ cond (eqb name k) (or_else (seen_last lows other purse) (seen_last lows name purse)) (seen_last lows k purse))
+    ≡ cond (eqb name k) (or_else (seen_last lows other purse) (seen_last lows name purse)) (seen_last lows k purse))
     → Agree views lows → Agree (set (set views name (joined (get_or views name spent) (get_or views other spent))) other spent) lows'
 agree_join views name other lows lows' live other_live apart count open' put agree =
     let v = get_or views name spent in
@@ -144,9 +144,9 @@ agree_join views name other lows lows' live other_live apart count open' put agr
     let at_other : get_or after other spent ≡ spent = get_or-set_same (set views name both) other spent spent lt' in
     let at_name : get_or after name spent ≡ both = get_or-set_other (set views name both) other name spent spent (λ e. apart (sym e)) ∙ get_or-set_same views name both spent lt in
     let at_third : (k : ℕ) → k ≢ other → k ≢ name → get_or after k spent ≡ get_or views k spent =
-      λ k one two. get_or-set_other (set views name both) other k spent spent one ∙ get_or-set_other views name k both spent two in
+    λ k one two. get_or-set_other (set views name both) other k spent spent one ∙ get_or-set_other views name k both spent two in
     let not_other : (k : ℕ) → (get_or after k spent).live ≡ true → k ≢ other =
-      λ k here is. false≢true (ap (λ (u : View). u.live) (sym at_other) ∙ (ap (λ (j : ℕ). (get_or after j spent).live) (sym is) ∙ here)) in
+    λ k here is. false≢true (ap (λ (u : View). u.live) (sym at_other) ∙ (ap (λ (j : ℕ). (get_or after j spent).live) (sym is) ∙ here)) in
     let was_live : (k : ℕ) → (get_or after k spent).live ≡ true → (get_or views k spent).live ≡ true = λ k here. elim (cases_eq k name) [
       | inl is ↦ rw is live
       | inr third ↦ ap (λ (u : View). u.live) (sym (at_third k (not_other k here) third)) ∙ here
@@ -155,12 +155,12 @@ agree_join views name other lows lows' live other_live apart count open' put agr
       as_many = omega (arith, count, agree.as_many, length-set (set views name both) other spent, length-set views name both);
       is_open = λ k here. open' k (not_other k here) (agree.is_open k (was_live k here));
       seen = λ k purse here.
-        let is_put = put k purse (not_other k here) (agree.is_open k (was_live k here)) in
-        elim (cases_eq name k) [
-          | inl is ↦
-              let at : get_or after k spent ≡ both = rw (← is) at_name in
-              rw (at, is_put, eq-eqb name k is, agree.seen other purse other_live, agree.seen name purse live) (sym (last_low-append purse v.notes o.notes))
-          | inr third ↦
-              rw (at_third k (not_other k here) (λ e. third (sym e)), is_put, ne_eqb name k third) (agree.seen k purse (was_live k here))
-        ];
+          let is_put = put k purse (not_other k here) (agree.is_open k (was_live k here)) in
+          elim (cases_eq name k) [
+            | inl is ↦
+                let at : get_or after k spent ≡ both = rw (← is) at_name in
+                rw (at, is_put, eq-eqb name k is, agree.seen other purse other_live, agree.seen name purse live) (sym (last_low-append purse v.notes o.notes))
+            | inr third ↦
+                rw (at_third k (not_other k here) (λ e. third (sym e)), is_put, ne_eqb name k third) (agree.seen k purse (was_live k here))
+          ];
     }

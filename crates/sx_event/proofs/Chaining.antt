@@ -166,12 +166,15 @@ top_is_known links view table (x ∷ y ∷ chain) lt walk = elim (cases_lt table
 
 pub reserved : (e e' : Entries) (links : List Link) (room room' : ℕ) → ((t p : ℕ) → value_in e' t p ≡ value_in e t p)
     → Linked (chained e links room) → Linked (chained e' links room')
-reserved e e' links room room' same linked = (linked.0, record {
-  as_many = linked.1.as_many;
-  fit = linked.1.fit;
-  walks = λ view is_open. linked.1.walks view record { known = is_open.known; last = is_open.last };
-  unused = λ t p past. same t p ∙ linked.1.unused t p past;
-})
+reserved e e' links room room' same linked = (
+  linked.0,
+  record {
+    as_many = linked.1.as_many;
+    fit = linked.1.fit;
+    walks = λ view is_open. linked.1.walks view record { known = is_open.known; last = is_open.last };
+    unused = λ t p past. same t p ∙ linked.1.unused t p past;
+  },
+)
 
 -- ---- put
 
@@ -186,13 +189,15 @@ put_elsewhere e e' table purse value t p put apart = put t p ∙ rw (ne_eqb tabl
 pub put_linked : (e e' : Entries) (links : List Link) (room room' view purse value : ℕ) → IsPut e e' (newest_of links view) purse value
     → IsOpen (chained e links room) view → Linked (chained e links room) → Linked (chained e' links room')
 put_linked e e' links room room' view purse value put is_open linked =
-    let known = top_is_known links view (newest_of links view) (get_or linked.0 view []) is_open.known (linked.1.walks view is_open) in
-    (linked.0, record {
-      as_many = linked.1.as_many;
-      fit = linked.1.fit;
-      walks = λ view is_open. linked.1.walks view record { known = is_open.known; last = is_open.last };
-      unused = λ t p past. put_elsewhere e e' (newest_of links view) purse value t p put (λ is. absurd (omega arith)) ∙ linked.1.unused t p past;
-    })
+    let known = top_is_known links view (newest_of links view) (get_or linked.0 view []) is_open.known (linked.1.walks view is_open) in (
+      linked.0,
+      record {
+        as_many = linked.1.as_many;
+        fit = linked.1.fit;
+        walks = λ view is_open. linked.1.walks view record { known = is_open.known; last = is_open.last };
+        unused = λ t p past. put_elsewhere e e' (newest_of links view) purse value t p put (λ is. absurd (omega arith)) ∙ linked.1.unused t p past;
+      },
+    )
 
 first_in-same : (e e' : Entries) (purse : ℕ) (chain : List ℕ) → ((t : ℕ) → value_in e' t purse ≡ value_in e t purse) → first_in e' purse chain ≡ first_in e purse chain
 first_in-same e e' purse [] same = refl
@@ -231,7 +236,7 @@ put_seen e e' links room room' view purse value w p put is_open w_open linked =
       | inl same ↦ rw (eq-eqb view w same, now, before) (rw (← same) (put_own e e' links view (newest_of links view) purse value p (get_or chains view []) put (linked.1.walks view is_open)))
       | inr apart ↦ rw (ne_eqb view w apart, now, before)
           (seen_kept e e' links view w top (newest_of links w) p (get_or chains view []) (get_or chains w []) is_open.last w_open.last apart
-            (linked.1.walks view is_open) (linked.1.walks w w_open) (λ t other. put_elsewhere e e' top purse value t p put other))
+          (linked.1.walks view is_open) (linked.1.walks w w_open) (λ t other. put_elsewhere e e' top purse value t p put other))
     ]
 
 -- ---- add
@@ -278,23 +283,25 @@ add_linked e links room room' linked =
     let new = fresh n in
     let chains = linked.0 in
     let one = n ∷ [] in
-    let as_many : length chains ≡ n = linked.1.as_many in
-    (chains ++ one ∷ [], record {
-      as_many = omega (arith, length_push chains one, length_push links new, as_many);
-      fit = omega (arith, sum_by_push (length {A = ℕ}) chains one, length_push links new, linked.1.fit);
-      walks = λ view is_open. elim (cases_eq view n) [
-        | inl same ↦
-            let chain : get_or (chains ++ one ∷ []) view [] ≡ one = rw same (get_or_push chains one [] n as_many) in
-            let top : newest_of (links ++ new ∷ []) view ≡ n = rw same (ap (λ (l : Link). l.newest) (get_or_push links new no_link n refl)) in
-            rw chain (top, sym same)
-        | inr other ↦
-            let old = was_open e links room room' view other is_open in
-            let in' : view < length chains = omega (arith, as_many, old.known) in
-            rw (get_or_append_left chains (one ∷ []) [] view in', newest_kept links view old.known)
+    let as_many : length chains ≡ n = linked.1.as_many in (
+      chains ++ one ∷ [],
+      record {
+        as_many = omega (arith, length_push chains one, length_push links new, as_many);
+        fit = omega (arith, sum_by_push (length {A = ℕ}) chains one, length_push links new, linked.1.fit);
+        walks = λ view is_open. elim (cases_eq view n) [
+          | inl same ↦
+              let chain : get_or (chains ++ one ∷ []) view [] ≡ one = rw same (get_or_push chains one [] n as_many) in
+              let top : newest_of (links ++ new ∷ []) view ≡ n = rw same (ap (λ (l : Link). l.newest) (get_or_push links new no_link n refl)) in
+              rw chain (top, sym same)
+          | inr other ↦
+              let old = was_open e links room room' view other is_open in
+              let in' : view < length chains = omega (arith, as_many, old.known) in
+              rw (get_or_append_left chains (one ∷ []) [] view in', newest_kept links view old.known)
               (walks_kept links (links ++ new ∷ []) view (newest_of links view) (get_or chains view []) (link_kept links) (linked.1.walks view old))
-      ];
-      unused = λ t p past. linked.1.unused t p (omega (arith, length_push links new));
-    })
+        ];
+        unused = λ t p past. linked.1.unused t p (omega (arith, length_push links new));
+      },
+    )
 
 pub add_seen : (e : Entries) (links : List Link) (room room' view purse : ℕ) → IsOpen (chained e links room) view → Linked (chained e links room)
     → seen_last (chained e (links ++ fresh (length links) ∷ []) room') view purse ≡ seen_last (chained e links room) view purse
@@ -302,8 +309,10 @@ unfolding add_linked
 add_seen e links room room' view purse is_open linked =
     let after = add_linked e links room room' linked in
     let in' : view < length linked.0 = omega (arith, linked.1.as_many, is_open.known) in
-    rw (seen_by_chain (chained e links room) linked.0 view purse linked.1 is_open,
-      seen_by_chain (chained e (links ++ fresh (length links) ∷ []) room') after.0 view purse after.1 (stays_open e links room room' view is_open))
+    rw (
+      seen_by_chain (chained e links room) linked.0 view purse linked.1 is_open,
+      seen_by_chain (chained e (links ++ fresh (length links) ∷ []) room') after.0 view purse after.1 (stays_open e links room room' view is_open),
+    )
     (ap (first_in e purse) (get_or_append_left linked.0 ((length links ∷ []) ∷ []) [] view in'))
 
 pub add_fresh : (e : Entries) (links : List Link) (room room' purse : ℕ) → Linked (chained e links room)
@@ -322,7 +331,7 @@ add_fresh e links room room' purse linked =
 abbrev pub put_behind : List Link → ℕ → ℕ → List Link
 put_behind links view other =
     set (set links other record { newest = newest_of links other; older = Some (newest_of links view) }) view
-      record { newest = newest_of links other; older = older_than links view }
+    record { newest = newest_of links other; older = older_than links view }
 
 module _ (e : Entries) (links : List Link) (room room' view other : ℕ) (apart : other ≢ view)
     (is_open : IsOpen (chained e links room) view) (other_open : IsOpen (chained e links room) other) where
@@ -385,36 +394,42 @@ module _ (e : Entries) (links : List Link) (room room' view other : ℕ) (apart 
       let there : other < length (set chains view both) = omega (arith, as_many, other_open.known, length-set chains view both) in
       let stays : get_or (set chains view both) other [] ≡ get_or chains other [] = get_or-set_other chains view other both [] apart in
       let is : length (get_or (set chains view both) other []) ≡ length (get_or chains other []) = ap (length {A = ℕ}) stays in
-      omega (arith, sum_by-set (length {A = ℕ}) chains view both [] in', sum_by-set (length {A = ℕ}) (set chains view both) other [] [] there,
-        length-append (get_or chains other []) (get_or chains view []))
+      omega (
+        arith,
+        sum_by-set (length {A = ℕ}) chains view both [] in',
+        sum_by-set (length {A = ℕ}) (set chains view both) other [] [] there,
+        length-append (get_or chains other []) (get_or chains view []),
+      )
 
   pub join_linked : Linked (chained e links room) → Linked (chained e (put_behind links view other) room')
   join_linked linked =
       let chains = linked.0 in
-      let both = get_or chains other [] ++ get_or chains view [] in
-      (chains_after chains, record {
-        as_many = omega (arith, behind_length, linked.1.as_many, length-set (set chains view both) other [], length-set chains view both);
-        fit = omega (arith, behind_length, lengths_after chains linked.1.as_many, linked.1.fit);
-        walks = λ w w_open. elim (cases_eq w view) [
-          | inl same ↦
-              let top : newest_of (put_behind links view other) w ≡ newest_of links other = ap (newest_of (put_behind links view other)) same ∙ ap (λ (l : Link). l.newest) at_view in
-              let behind : older_than (put_behind links view other) other ≡ Some (newest_of links view) = ap (λ (l : Link). l.older) at_other in
-              let own = walks_kept links (put_behind links view other) view (newest_of links view) (get_or chains view []) links_stay (linked.1.walks view is_open) in
-              rw (top, same, chain_at_view chains linked.1.as_many)
+      let both = get_or chains other [] ++ get_or chains view [] in (
+        chains_after chains,
+        record {
+          as_many = omega (arith, behind_length, linked.1.as_many, length-set (set chains view both) other [], length-set chains view both);
+          fit = omega (arith, behind_length, lengths_after chains linked.1.as_many, linked.1.fit);
+          walks = λ w w_open. elim (cases_eq w view) [
+            | inl same ↦
+                let top : newest_of (put_behind links view other) w ≡ newest_of links other = ap (newest_of (put_behind links view other)) same ∙ ap (λ (l : Link). l.newest) at_view in
+                let behind : older_than (put_behind links view other) other ≡ Some (newest_of links view) = ap (λ (l : Link). l.older) at_other in
+                let own = walks_kept links (put_behind links view other) view (newest_of links view) (get_or chains view []) links_stay (linked.1.walks view is_open) in
+                rw (top, same, chain_at_view chains linked.1.as_many)
                 (walks_joined links (put_behind links view other) view other (newest_of links other) (newest_of links view) (get_or chains other []) (get_or chains view [])
-                  behind links_stay (linked.1.walks other other_open) own)
-          | inr third ↦
-              let ne = not_other w w_open in
-              let top : newest_of (put_behind links view other) w ≡ newest_of links w = ap (λ (l : Link). l.newest) (at_third w third ne) in
-              rw (top, chain_at_third chains w third ne)
+                behind links_stay (linked.1.walks other other_open) own)
+            | inr third ↦
+                let ne = not_other w w_open in
+                let top : newest_of (put_behind links view other) w ≡ newest_of links w = ap (λ (l : Link). l.newest) (at_third w third ne) in
+                rw (top, chain_at_third chains w third ne)
                 (walks_kept links (put_behind links view other) w (newest_of links w) (get_or chains w []) links_stay (linked.1.walks w (open_before w w_open)))
-        ];
-        unused = λ t p past. linked.1.unused t p (omega (arith, behind_length));
-      })
+          ];
+          unused = λ t p past. linked.1.unused t p (omega (arith, behind_length));
+        },
+      )
 
   pub join_seen : (w purse : ℕ) → w ≢ other → IsOpen (chained e links room) w → Linked (chained e links room)
       → seen_last (chained e (put_behind links view other) room') w purse
-        ≡ cond (eqb view w) (or_else (seen_last (chained e links room) other purse) (seen_last (chained e links room) view purse)) (seen_last (chained e links room) w purse)
+      ≡ cond (eqb view w) (or_else (seen_last (chained e links room) other purse) (seen_last (chained e links room) view purse)) (seen_last (chained e links room) w purse)
   unfolding join_linked
   join_seen w purse ne w_open linked =
       let chains = linked.0 in

@@ -44,7 +44,7 @@ module _ (cs cs' : List (List Claim)) (ns ns' : List (List Note)) (more_claims :
   pub set_are : (seats : List Seat) (k : ℕ) (seat : Seat) → AreSeats cs ns seats → IsKnown (length cs') (length ns') seat → AreSeats cs' ns' (set seats k seat)
   set_are seats k seat are known = record {
     known = All-set (IsKnown (length cs') (length ns')) seats k seat known
-      (λ j d lt. (omega (arith, (are.known j d lt).0, more_claims.more), omega (arith, (are.known j d lt).1, more_notes.more)));
+        (λ j d lt. (omega (arith, (are.known j d lt).0, more_claims.more), omega (arith, (are.known j d lt).1, more_notes.more)));
     some_claims = omega (arith, are.some_claims, more_claims.more);
     some_notes = omega (arith, are.some_notes, more_notes.more);
     no_claims = more_claims.same 0 are.some_claims ∙ are.no_claims;

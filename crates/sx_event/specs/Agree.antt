@@ -8,4 +8,4 @@ pub record Agree (views : List View) (lows : Chained) : Type 0 where
   pub as_many : length lows.links ≡ length views
   pub is_open : (view : ℕ) → (slice_index_or views view spent).live ≡ true → IsOpen lows view
   pub seen : (view purse : ℕ) → (slice_index_or views view spent).live ≡ true →
-    seen_last lows view purse ≡ last_low purse (slice_index_or views view spent).notes
+      seen_last lows view purse ≡ last_low purse (slice_index_or views view spent).notes

@@ -51,7 +51,7 @@ pub record AreChains (chained : Chained) (chains : List (List ℕ)) : Type 0 whe
   pub as_many : length chains ≡ length chained.links
   pub fit : sum_by length chains ≤ length chained.links
   pub walks : (view : ℕ) → IsOpen chained view →
-    Walks chained.links view (newest_of chained.links view) (slice_index_or chains view [])
+      Walks chained.links view (newest_of chained.links view) (slice_index_or chains view [])
   pub unused : (table purse : ℕ) → length chained.links ≤ table → value_in chained.entries table purse ≡ None
 
 -- the chains of the views

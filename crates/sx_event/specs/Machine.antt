@@ -7,8 +7,12 @@ use Rattle.sx_event.specs.Rule.{Rule}
 -- the state that the fields show
 abbrev pub state_of : Inside → State
 state_of core = record {
-  opening_purses = core.opening_purses.items; opening_bits = core.opening_bits.items; count = core.count;
-  purses = core.purses.items; bits = core.bits.items; views = core.views.views
+  opening_purses = core.opening_purses.items;
+  opening_bits = core.opening_bits.items;
+  count = core.count;
+  purses = core.purses.items;
+  bits = core.bits.items;
+  views = core.views.views;
 }
 
 abbrev pub running : Inside → Running

@@ -9,8 +9,11 @@ use Rattle.sx_event.specs.Ropes.{list_at}
 -- the view of a seat, whose claims and notes are among these lists
 abbrev pub shown : List (List Claim) → List (List Note) → Seat → View
 shown claims notes seat = record {
-  live = seat.live; from = seat.from; end = seat.end;
-  claims = list_at claims seat.claims; notes = list_at notes seat.notes
+  live = seat.live;
+  from = seat.from;
+  end = seat.end;
+  claims = list_at claims seat.claims;
+  notes = list_at notes seat.notes;
 }
 
 -- the lists of a seat are among so many

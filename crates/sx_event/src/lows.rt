@@ -35,13 +35,13 @@ impl Model for Lows {
     ghost view = { λ l. record {
       entries = l.tables.entries;
       links = l.links.items;
-      room = min l.tables.room (vec_capacity l.links - vec_len l.links)
+      room = min l.tables.room (vec_capacity l.links - vec_len l.links);
     } };
 
     ghost invariant = { λ l. Linked (record {
       entries = l.tables.entries;
       links = l.links.items;
-      room = min l.tables.room (vec_capacity l.links - vec_len l.links)
+      room = min l.tables.room (vec_capacity l.links - vec_len l.links);
     }) };
 }
 
@@ -139,9 +139,9 @@ impl Lows {
         ensures open { (third : ℕ) → third ≢ other → IsOpen self.old third → IsOpen self.new third }
         ensures seen { (third purse : ℕ) → third ≢ other → IsOpen self.old third →
             seen_last self.new third purse ≡
-                (if view == third
-                then or_else (seen_last self.old other purse) (seen_last self.old view purse)
-                else seen_last self.old third purse) }
+            (if view == third
+            then or_else (seen_last self.old other purse) (seen_last self.old view purse)
+            else seen_last self.old third purse) }
         ensures room { self.new.room ≡ self.old.room }
     {
         let kept = self.links[view as usize];

@@ -1,5 +1,5 @@
 //! The core: its words, its views, and the one call that changes them.
-ghost use Rattle.std.specs.Prelude.{◌≡◌, ◌+◌, ◌<◌, ◌≤◌, max, length, IfOk, OnOk, OnErr};
+ghost use Rattle.std.specs.Prelude.{◌≡◌, ◌↔◌, ◌+◌, ◌<◌, ◌≤◌, max, length, IsTrue, IfOk, OnOk, OnErr};
 ghost use Rattle.sx_event.specs.State.{begun, view_of};
 ghost use Rattle.sx_event.specs.Step.{StepAllowed, stepped, answer};
 ghost use Rattle.sx_event.specs.Rule.{Rule};
@@ -104,6 +104,57 @@ impl Core {
         // The rule is part of what holds of the fields.
         let _ = &self.spare;
         told
+    }
+
+    /// Whether the conditions of this step hold, but for memory. It takes no memory.
+    ///
+    /// A caller whose events come from outside asks this first.
+    pub fn allows(&self, actor: u32, event: Event) -> bool
+        ensures { IsTrue result ↔ StepAllowed self.now.state actor event }
+    {
+        match event {
+            Event::Look { purse } => self.can_look(actor, purse),
+            Event::Take { purse, need } => self.can_take(actor, purse, need),
+            Event::Claim { word, bit } => self.can_claim(actor, word, bit),
+            Event::Split { at } => self.can_split(actor, at),
+            Event::Join { other } => self.can_join(actor, other),
+        }
+    }
+
+    fn can_look(&self, actor: u32, purse: u32) -> bool
+        ensures { IsTrue result ↔ StepAllowed self.now.state actor (Event.Look purse) }
+    {
+        self.views.is_live(actor) && (purse as usize) < self.purses.len()
+    }
+
+    fn can_take(&self, actor: u32, purse: u32, need: u64) -> bool
+        ensures { IsTrue result ↔ StepAllowed self.now.state actor (Event.Take purse need) }
+    {
+        self.can_look(actor, purse) && need >= 1 && self.views.covers(actor, purse, need)
+    }
+
+    fn can_claim(&self, actor: u32, word: u32, bit: u32) -> bool
+        ensures { IsTrue result ↔ StepAllowed self.now.state actor (Event.Claim word bit) }
+    {
+        self.views.is_live(actor) && (word as usize) < self.bits.len() && bit < 64
+    }
+
+    fn can_split(&self, actor: u32, at: u32) -> bool
+        ensures { IsTrue result ↔ StepAllowed self.now.state actor (Event.Split at) }
+    {
+        self.views.is_live(actor)
+            && self.views.from(actor) < at
+            && at < self.views.end(actor)
+            && self.views.count() < u32::MAX as usize
+    }
+
+    fn can_join(&self, actor: u32, other: u32) -> bool
+        ensures { IsTrue result ↔ StepAllowed self.now.state actor (Event.Join other) }
+    {
+        self.views.is_live(actor)
+            && other != actor
+            && self.views.is_live(other)
+            && self.views.from(other) == self.views.end(actor)
     }
 
     fn look(&mut self, actor: u32, purse: u32) -> Step
@@ -214,9 +265,8 @@ impl Core {
         self.views.count()
     }
 
-    /// Whether the view of this name is live.
+    /// Whether there is a live view of this name.
     pub fn is_live(&self, name: u32) -> bool
-        requires { name < length self.now.state.views }
         ensures { result ≡ (view_of self.now.state name).live }
     {
         self.views.is_live(name)

@@ -38,7 +38,7 @@ impl Model for Seats {
 
     ghost view = { λ s. record {
       views = map (shown s.claims.lists s.notes.lists) s.seats.items;
-      room = min (min s.claims.room s.notes.room) (vec_capacity s.seats - vec_len s.seats)
+      room = min (min s.claims.room s.notes.room) (vec_capacity s.seats - vec_len s.seats);
     } };
 
     ghost invariant = { λ s. AreSeats s.claims.lists s.notes.lists s.seats.items };
@@ -75,12 +75,14 @@ impl Seats {
         self.seats.len()
     }
 
-    // Whether the view is live.
+    // Whether there is a live view of this name.
     pub fn is_live(&self, view: u32) -> bool
-        requires { view < length self.now.views }
         ensures { result ≡ (slice_index_or self.now.views view spent).live }
     {
-        self.seats[view as usize].live
+        match self.seats.get(view as usize) {
+            Some(seat) => seat.live,
+            None => false,
+        }
     }
 
     // Where the range of the view begins.

@@ -1,7 +1,7 @@
 //! The views, and what each saw last of each purse.
-ghost use Rattle.std.specs.Prelude.{◌≡◌, ◌≢◌, ◌+◌, ◌^◌, ◌<◌, ◌≤◌, true, [], ◌∷◌, ◌++◌, length, slice_index_or, slice_set, OnOk};
+ghost use Rattle.std.specs.Prelude.{◌≡◌, ◌≢◌, ◌↔◌, ◌+◌, ◌^◌, ◌<◌, ◌≤◌, true, [], ◌∷◌, ◌++◌, length, slice_index_or, slice_set, OnOk, IsTrue, IsSomeAnd};
 ghost use Rattle.sx_event.specs.declared.marks.Note.TheVariants.{Low, Set};
-ghost use Rattle.sx_event.specs.View.{opened, spent, with_claim, with_note};
+ghost use Rattle.sx_event.specs.View.{opened, spent, with_claim, with_note, last_low};
 ghost use Rattle.sx_event.specs.Step.{wins, left_part, right_part, joined};
 
 use crate::lows::Lows;
@@ -58,9 +58,8 @@ impl Views {
         self.seats.count()
     }
 
-    // Whether the view is live.
+    // Whether there is a live view of this name.
     pub fn is_live(&self, view: u32) -> bool
-        requires { view < length self.now.views }
         ensures { result ≡ (slice_index_or self.now.views view spent).live }
     {
         self.seats.is_live(view)
@@ -89,6 +88,18 @@ impl Views {
     {
         match self.lows.get(view, purse) {
             Some(seen) => found == seen,
+            None => false,
+        }
+    }
+
+    // Whether the view's last Low note of the purse covers the need.
+    pub fn covers(&self, view: u32, purse: u32, need: u64) -> bool
+        requires { (slice_index_or self.now.views view spent).live ≡ true }
+        ensures { IsTrue result ↔ IsSomeAnd
+            (last_low purse (slice_index_or self.now.views view spent).notes) (λ seen. need ≤ seen) }
+    {
+        match self.lows.get(view, purse) {
+            Some(seen) => need <= seen,
             None => false,
         }
     }
@@ -145,7 +156,7 @@ impl Views {
         requires room { 1 ≤ self.old.room }
         ensures views { self.new.views ≡
             slice_set self.old.views view (left_part (slice_index_or self.old.views view spent) at)
-                ++ right_part (slice_index_or self.old.views view spent) at ∷ [] }
+            ++ right_part (slice_index_or self.old.views view spent) at ∷ [] }
         ensures room { self.old.room ≤ self.new.room + 1 }
     {
         let end = self.seats.end(view);

@@ -13,6 +13,6 @@ returns-clause-views c =
     let seat = c.index-seat.result.now in
     let lt = seat_is_there cs ns seats c.args.self.now.views c.args.view (ap (λ (s : Seated). s.views) c.self.view_is) c.requires in
     rw (← c.self.view_is, view_at cs ns seats c.args.view seat lt c.index-seat.ensures)
-      (set_shown cs cs ns ns (extends_itself cs) (extends_itself ns) seats c.args.view
-        record { live = seat.live; from = seat.from; end = c.args.at; claims = seat.claims; notes = seat.notes }
-        (left_part (shown cs ns seat) c.args.at) c.self.invariant refl)
+    (set_shown cs cs ns ns (extends_itself cs) (extends_itself ns) seats c.args.view
+    record { live = seat.live; from = seat.from; end = c.args.at; claims = seat.claims; notes = seat.notes }
+    (left_part (shown cs ns seat) c.args.at) c.self.invariant refl)

@@ -26,12 +26,19 @@ returns-clause-views c =
     let both : Seat = record { live = seat.live; from = seat.from; end = next.end; claims = length cs; notes = length ns } in
     let bare : Seat = record { live = false; from = 0; end = 0; claims = 0; notes = 0 } in
     let first : map (shown cs' ns') (set seats c.args.view both) ≡ set (map (shown cs ns) seats) c.args.view (joined (shown cs ns seat) (shown cs ns next)) =
-      set_shown cs cs' ns ns' (extends_pushed cs claims) (extends_pushed ns notes) seats c.args.view both (joined (shown cs ns seat) (shown cs ns next)) c.self.invariant
-        (rw (at_pushed cs claims, at_pushed ns notes) refl) in
+    set_shown cs cs' ns ns' (extends_pushed cs claims) (extends_pushed ns notes) seats c.args.view both (joined (shown cs ns seat) (shown cs ns next)) c.self.invariant
+    (rw (at_pushed cs claims, at_pushed ns notes) refl) in
     let are = set_are cs cs' ns ns' (extends_pushed cs claims) (extends_pushed ns notes) seats c.args.view both c.self.invariant
-      (omega (arith, length_push cs claims), omega (arith, length_push ns notes)) in
+    (omega (arith, length_push cs claims), omega (arith, length_push ns notes)) in
     let second : map (shown cs' ns') (set (set seats c.args.view both) c.args.other bare) ≡ set (map (shown cs' ns') (set seats c.args.view both)) c.args.other spent =
-      set_shown cs' cs' ns' ns' (extends_itself cs') (extends_itself ns') (set seats c.args.view both) c.args.other bare spent are (rw (are.no_claims, are.no_notes) refl) in
-    rw (← c.self.view_is, c.join-claims.ensures.lists, c.join-claims.ensures.name, c.join-notes.ensures.lists, c.join-notes.ensures.name,
-      view_at cs ns seats c.args.view seat lt c.index-seat.ensures, view_at cs ns seats c.args.other next lt' c.index-next.ensures)
-      (second ∙ ap (λ views. set views c.args.other spent) first)
+    set_shown cs' cs' ns' ns' (extends_itself cs') (extends_itself ns') (set seats c.args.view both) c.args.other bare spent are (rw (are.no_claims, are.no_notes) refl) in
+    rw (
+      ← c.self.view_is,
+      c.join-claims.ensures.lists,
+      c.join-claims.ensures.name,
+      c.join-notes.ensures.lists,
+      c.join-notes.ensures.name,
+      view_at cs ns seats c.args.view seat lt c.index-seat.ensures,
+      view_at cs ns seats c.args.other next lt' c.index-next.ensures,
+    )
+    (second ∙ ap (λ views. set views c.args.other spent) first)
