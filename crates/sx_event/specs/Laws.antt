@@ -1,10 +1,12 @@
 -- The laws of the steps and the rule, over all states.
-use Rattle.std.specs.Prelude.{◌≡◌, ◌≢◌, ◌⊎◌, ◌↔◌, ℕ, ◌+◌, ◌<◌, ◌≤◌, List, [], ◌∷◌, slice_index, Some, true}
+use Rattle.std.specs.Prelude.{◌≡◌, ◌≢◌, ◌⊎◌, ◌↔◌, ℕ, ◌+◌, ◌<◌, ◌≤◌, List, [], ◌∷◌, length, slice_index, Some, true, false}
+use Rattle.std.specs.List.{Contains}
 use Rattle.std.specs.Int.{bit_at}
 use Rattle.sx_event.specs.declared.event.Event.{Event}
 use Rattle.sx_event.specs.declared.event.Event.TheVariants.{Look, Take, Claim, Split, Join}
 use Rattle.sx_event.specs.declared.event.Step.TheVariants.{Won, Lost}
-use Rattle.sx_event.specs.View.{last_low}
+use Rattle.sx_event.specs.declared.marks.Note.TheVariants.{Low, Set}
+use Rattle.sx_event.specs.View.{spent, last_low}
 use Rattle.sx_event.specs.State.{State, begun, view_of, purse_of, word_of}
 use Rattle.sx_event.specs.Step.{stepped, answer, StepAllowed}
 use Rattle.sx_event.specs.Rule.{Rule, debits, times, all_debits, all_times, BitsAddUp}
@@ -73,6 +75,12 @@ BitsStay =
     (state : State) (actor : ℕ) (event : Event) (word bit : ℕ) →
     bit_at (word_of state word) bit ≤ bit_at (word_of (stepped state actor event) word) bit
 
+-- a step changes no view but its actor's, and the one that a Join spends
+abbrev pub OthersStay : Type 0
+OthersStay =
+    (state : State) (actor : ℕ) (event : Event) (view : ℕ) → view ≢ actor → event ≢ Join view →
+    view < length state.views → view_of (stepped state actor event) view ≡ view_of state view
+
 -- the second part of the rule, in words: a bit is set exactly where it was at the opening or is
 -- claimed; none is claimed twice, and none that was set at the opening is claimed
 pub record BitsMean (opening present : List ℕ) (claimed : ℕ → ℕ → ℕ) (word bit : ℕ) : Type 0 where
@@ -85,6 +93,37 @@ abbrev pub BitsRead : Type 0
 BitsRead =
     (opening present : List ℕ) (claimed : ℕ → ℕ → ℕ) (word bit : ℕ) → BitsAddUp opening present claimed →
     BitsMean opening present claimed word bit
+
+-- the third part, of one note
+abbrev pub LowsRead : Type 0
+LowsRead =
+    (state : State) (view purse value : ℕ) → Rule state → Contains (view_of state view).notes (Low purse value) →
+    (purse_of state purse ≤ value) × (value ≤ slice_index state.opening_purses purse)
+
+-- the fourth part, of one note
+abbrev pub SetsRead : Type 0
+SetsRead =
+    (state : State) (view word bit : ℕ) → Rule state → Contains (view_of state view).notes (Set word bit) →
+    bit_at (word_of state word) bit ≡ 1
+
+-- the view is live, and the candidate in its range
+pub record Owns (state : State) (name candidate : ℕ) : Type 0 where
+  pub live : (view_of state name).live ≡ true
+  pub from : (view_of state name).from ≤ candidate
+  pub end : candidate < (view_of state name).end
+
+-- the fifth part: each candidate has one owner, and what has an owner is a candidate
+pub record RangesMean (state : State) : Type 0 where
+  pub owner : (candidate : ℕ) → candidate < state.count →
+      (name : ℕ) × Owns state name candidate × ((other : ℕ) → Owns state other candidate → other ≡ name)
+  pub candidates : (name candidate : ℕ) → Owns state name candidate → candidate < state.count
+  pub filled : (name : ℕ) → 0 < state.count → (view_of state name).live ≡ true → (view_of state name).from < (view_of state name).end
+  pub lone : state.count ≡ 0 →
+      (name : ℕ) × ((view_of state name).live ≡ true) × ((other : ℕ) → (view_of state other).live ≡ true → other ≡ name)
+  pub bare : (name : ℕ) → (view_of state name).live ≡ false → view_of state name ≡ spent
+
+abbrev pub RangesRead : Type 0
+RangesRead = (state : State) → Rule state → RangesMean state
 
 -- a live view that has all candidates is the only live one, and has all claims
 pub record HasAll (state : State) (name : ℕ) : Type 0 where
