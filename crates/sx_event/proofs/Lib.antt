@@ -6,6 +6,7 @@ pub mod Runs
 pub mod Read
 pub mod Made
 pub mod Chaining
+pub mod Linking
 pub mod Seating
 pub mod Agreeing
 pub mod Stepping

@@ -1,6 +1,6 @@
 use Rattle.std.proofs.Common.{◌≡◌, ◌++◌, ◌∷◌, [], length, sym, ap, subst, ◌∙◌, arith}
 use Rattle.sx_event.specs.Chains.{Chained, IsOpen}
-use Rattle.sx_event.proofs.Chaining.{fresh, add_linked, add_seen, add_fresh}
+use Rattle.sx_event.proofs.Linking.{fresh, add_linked, add_seen, add_fresh}
 use Rattle.sx_event.proofs.lows.Lows.add.Goals as goal
 
 pub invariant_of-self : goal.invariant_of-self

@@ -1,6 +1,7 @@
 use Rattle.std.proofs.Common.{◌≡◌, get_or, sym, subst}
 use Rattle.sx_event.specs.Chains.{no_link, Chained, IsOpen}
-use Rattle.sx_event.proofs.Chaining.{link_read, join_linked, join_seen}
+use Rattle.sx_event.proofs.Chaining.{link_read}
+use Rattle.sx_event.proofs.Linking.{join_linked, join_seen}
 use Rattle.sx_event.proofs.lows.Lows.join.Goals as goal
 
 pub invariant_of-self : goal.invariant_of-self
