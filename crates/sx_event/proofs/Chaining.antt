@@ -50,7 +50,7 @@ pub look_ends : (n : ℕ) (e : Entries) (links : List Link) (table purse : ℕ) 
 look_ends n e links table purse some none last =
     rw (seek_next n (n - 1) e links table purse (omega arith) none, last, seek_none (n - 1) e links purse) refl
 
--- and goes on to the table behind it
+-- and goes on to the table after it
 pub look_goes : (n m : ℕ) (e : Entries) (links : List Link) (table next purse : ℕ) → n ≡ m + 1 → is_some (value_in e table purse) ≡ false → older_than links table ≡ Some next
     → seek m e links (Some next) purse ≡ seek n e links (Some table) purse
 look_goes n m e links table next purse is none older =
@@ -138,7 +138,7 @@ walks_kept links links' view table (x ∷ []) stay walk = walk
 walks_kept links links' view table (x ∷ y ∷ chain) stay walk =
     (walk.0, stay x y walk.1, walks_kept links links' view y (y ∷ chain) stay walk.2)
 
--- a walk, and one from the table behind it
+-- a walk, and one from the table after it
 pub walks_joined : (links links' : List Link) (view other table top : ℕ) (chain rest : List ℕ) → older_than links' other ≡ Some top
     → ((x y : ℕ) → older_than links x ≡ Some y → older_than links' x ≡ Some y)
     → Walks links other table chain → Walks links' view top rest → Walks links' view table (chain ++ rest)

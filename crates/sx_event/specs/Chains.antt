@@ -12,7 +12,7 @@ no_link = record { newest = 0; older = None }
 abbrev pub newest_of : List Link → ℕ → ℕ
 newest_of links view = (slice_index_or links view no_link).newest
 
--- the table behind this one
+-- the table after this one
 abbrev pub older_than : List Link → ℕ → Option ℕ
 older_than links table = (slice_index_or links table no_link).older
 
@@ -27,7 +27,7 @@ pub record IsOpen (chained : Chained) (view : ℕ) : Type 0 where
   pub known : view < length chained.links
   pub last : older_than chained.links view ≡ None
 
--- what the first table from this one on has of a purse, in at most so many
+-- what the first table from this one on has of a purse, in at most that many
 abbrev pub seek : ℕ → List ((ℕ × ℕ) × ℕ) → List Link → Option ℕ → ℕ → Option ℕ
 seek zero entries links table purse = None
 seek (suc n) entries links None purse = None

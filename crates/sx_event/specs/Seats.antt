@@ -16,7 +16,7 @@ shown claims notes seat = record {
   notes = list_at notes seat.notes;
 }
 
--- the lists of a seat are among so many
+-- the names of the lists of a seat are below these
 abbrev pub IsKnown : ℕ → ℕ → Seat → Type 0
 IsKnown claims notes seat = (seat.claims < claims) × (seat.notes < notes)
 

@@ -52,7 +52,7 @@ left_part view at = record view { end = at }
 abbrev pub right_part : View → ℕ → View
 right_part view at = opened at view.end
 
--- Join: both ranges, and the claims and notes of the other behind the view's own
+-- Join: both ranges, and the claims and notes of the other after the view's own
 abbrev pub joined : View → View → View
 joined view other = record view {
   end = other.end;

@@ -10,7 +10,7 @@ use sx_bytes::NoMemory;
 
 // Each view that is made gets a table of its own, and has a chain of tables: the newest, into which
 // it writes, then older ones, and its own at the end. Where two views are joined, the last table of
-// the one gets the newest of the other behind it. So a look goes through at most as many tables as
+// the one is followed by the newest of the other. So a look goes through at most as many tables as
 // views were joined, and one more.
 #[derive(Debug, Drop)]
 pub struct Lows {
@@ -22,7 +22,7 @@ pub struct Lows {
 struct Link {
     // The newest table of the view.
     newest: u32,
-    // The table behind the view's own, once the view is joined to another.
+    // The table after the view's own, once the view is joined to another.
     older: Option<u32>,
 }
 
@@ -56,7 +56,7 @@ impl Lows {
         }
     }
 
-    // Makes room for so many more notes and views.
+    // Makes room for `more` more notes and views.
     pub fn reserve(&mut self, more: usize) -> Result<(), NoMemory>
         ensures links { self.new.links ≡ self.old.links }
         ensures seen { (view purse : ℕ) → seen_last self.new view purse ≡ seen_last self.old view purse }
@@ -68,7 +68,7 @@ impl Lows {
         Ok(())
     }
 
-    // The table behind this one.
+    // The table after this one.
     fn older_than(&self, table: u32) -> Option<u32>
         ensures { result ≡ older_than self.now.links table }
     {

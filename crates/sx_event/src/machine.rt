@@ -12,7 +12,7 @@ use std::alloc::Global;
 use std::marker::Model;
 use sx_bytes::NoMemory;
 
-/// Purse words, bit words and views, and memory for so many steps.
+/// Purse words, bit words and views, and memory for a number of steps.
 ///
 /// Contracts see its state, `state`, and how many steps it has memory for, `spare`.
 #[derive(Debug, Drop)]

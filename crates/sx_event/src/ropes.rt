@@ -1,4 +1,4 @@
-//! Lists that grow at the end, and that are put behind one another in one step.
+//! Lists that grow at the end, and that are appended to one another in one step.
 ghost use Rattle.std.specs.Prelude.{◌≡◌, ◌+◌, ◌<◌, ◌≤◌, [], ◌∷◌, ◌++◌, length, OnOk};
 ghost use Rattle.sx_event.specs.Ropes.{list_at};
 
@@ -6,7 +6,7 @@ use std::alloc::Global;
 use std::marker::Model;
 use sx_bytes::NoMemory;
 
-// A list is the empty one, which is list 0, or an item behind a list, or a list behind another.
+// A list is the empty one, which is list 0, or a list and an item after it, or a list and another after it.
 // Nodes are only ever added, and each becomes a list of its own, so no list changes.
 #[derive(Debug, Drop)]
 pub struct Ropes<T> {
@@ -40,7 +40,7 @@ impl<T> Ropes<T> {
         }
     }
 
-    // Makes room for so many more lists.
+    // Makes room for `more` more lists.
     pub fn reserve(&mut self, more: usize) -> Result<(), NoMemory>
         ensures lists { self.new.lists ≡ self.old.lists }
         ensures falls_never { self.old.room ≤ self.new.room }
@@ -50,7 +50,7 @@ impl<T> Ropes<T> {
         Ok(())
     }
 
-    // The list with the item behind it. It takes no memory.
+    // The list with the item after it. It takes no memory.
     pub fn push(&mut self, list: usize, item: T) -> usize
         requires { 1 ≤ self.old.room }
         ensures name { result ≡ length self.old.lists }
@@ -61,7 +61,7 @@ impl<T> Ropes<T> {
         self.nodes.len()
     }
 
-    // The first list with the second behind it. It takes no memory.
+    // The first list with the second after it. It takes no memory.
     pub fn join(&mut self, front: usize, back: usize) -> usize
         requires { 1 ≤ self.old.room }
         ensures name { result ≡ length self.old.lists }

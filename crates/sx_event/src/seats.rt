@@ -56,7 +56,7 @@ impl Seats {
         }
     }
 
-    // Makes room for so many more steps.
+    // Makes room for `more` more steps.
     pub fn reserve(&mut self, more: usize) -> Result<(), NoMemory>
         ensures views { self.new.views ≡ self.old.views }
         ensures falls_never { self.old.room ≤ self.new.room }

@@ -32,7 +32,7 @@ impl Tables {
         }
     }
 
-    // Makes room for so many more values.
+    // Makes room for `more` more values.
     pub fn reserve(&mut self, more: usize) -> Result<(), NoMemory>
         ensures values { (table purse : ℕ) →
             value_in self.new.entries table purse ≡ value_in self.old.entries table purse }
