@@ -17,7 +17,7 @@ use Rattle.sx_ledger.specs.declared.offer.Offer.{Offer}
 use Rattle.sx_ledger.specs.declared.parts.Parts.{Parts}
 use Rattle.sx_tx.specs.declared.kind.Kind.TheVariants as kind
 use Rattle.sx_tx.specs.declared.tx.Tx.{Tx}
-use Rattle.sx_tx.specs.Window.{behind_highest}
+use Rattle.sx_tx.specs.Window.{bit_length}
 
 abbrev pub account : ℕ → ℕ → List ℕ → Account
 account id last balances =
@@ -99,7 +99,7 @@ uneven_leaves : ledger_after opening uneven ≡ record {
   accounts = account 1 1 (0 ∷ 7 ∷ []) ∷ account 2 1 (5 ∷ 0 ∷ []) ∷ [];
   offers = [];
 }
-unfolding behind_highest
+unfolding bit_length
 uneven_leaves = refl
 
 -- ---- prices that the ledger did not have, an offer that stays in part, and a pair that trades one way only by half
@@ -121,7 +121,7 @@ half_leaves : ledger_after opening half ≡ record {
   accounts = account 1 1 (0 ∷ 3 ∷ []) ∷ account 2 1 (3 ∷ 5 ∷ []) ∷ [];
   offers = offer 0 1 (2 ^ 24) 1 1 2 ∷ [];
 }
-unfolding behind_highest
+unfolding bit_length
 half_leaves = refl
 
 -- ---- trades and a cut as bytes

@@ -28,7 +28,7 @@ use Rattle.sx_ledger.specs.Static.{static_of}
 use Rattle.sx_price.specs.Limits.{IsPrice}
 use Rattle.sx_record.specs.Frame.{record_bytes}
 use Rattle.sx_tx.specs.Transactions.{IsTx, list_bytes}
-use Rattle.sx_tx.specs.Window.{behind_highest}
+use Rattle.sx_tx.specs.Window.{bit_length}
 
 -- ---- digests are 32 bytes
 
@@ -175,7 +175,7 @@ unfolding sum_below
 cuts = omega arith
 
 leaves : after ≡ ledger_after before block
-unfolding behind_highest
+unfolding bit_length
 leaves = refl
 
 valid : IsValid before block
