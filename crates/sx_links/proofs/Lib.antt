@@ -1,0 +1,4 @@
+pub mod Linking
+pub mod Runs
+pub mod Chains
+pub mod Sound
