@@ -1,0 +1,3 @@
+pub mod OwnTransactions
+pub mod Postings
+pub mod Overdrafts
