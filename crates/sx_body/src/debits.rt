@@ -35,7 +35,6 @@ fn add_debit(sums: &mut [u128; MOST_ASSETS], tx: &Tx)
 
 // The debits of each asset, where all these transactions are of one account.
 pub fn debits_of(own: &[Tx]) -> [u128; MOST_ASSETS]
-    requires few { length own.now ≤ 1000000 }
     ensures debits { (account asset : ℕ) → All (λ tx. tx.account.0 ≡ account) own.now → asset < 32 → slice_index result asset ≡ debits_by own.now account asset }
     ensures small { (asset : ℕ) → slice_index result asset ≤ length own.now * 2 ^ 62 }
 {

@@ -47,7 +47,6 @@ fn overdrawn_asset(balances: &[u64], sums: &[u128]) -> Option<AssetId>
 
 // The first overdraft of an account, whose transactions are these.
 fn overdraft_of(account: &Account, own: &[Tx]) -> Option<Overdraft>
-    requires few { length own.now ≤ 1000000 }
     requires own { All (λ tx. tx.account.0 ≡ account.now.id.0) own.now }
     requires few_assets { length account.now.balances ≤ 32 }
     ensures first { IfSome result (IsFirstOf account.now own.now) }

@@ -41,7 +41,6 @@ overdraft_of-requires c =
     let mine : own ≡ own_of account.id.0 c.args.txs.now = c.split_own.ensures.own ∙ takes_own parts.accounts keeps.by_id k account lt is c.args.txs.now left c.loop-account.invariant.left in
     let width = (subst (IsAccount (assets_of parts)) (sym is) (keeps.accounts k account lt)).balances in
     record {
-      few = omega (arith, few_own parts keeps c.args.txs.now c.requires.passes k account lt is own mine, c.requires.few);
       own = subst (All (λ tx. tx.account.0 ≡ account.id.0)) (sym c.split_own.ensures.own) (own_all account.id.0 left);
       few_assets = omega (arith, width, keeps.few_assets);
     }
