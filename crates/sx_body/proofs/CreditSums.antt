@@ -1,6 +1,6 @@
 -- Sums of credits, which are kept row after row: the places of the sums, and what one credit more does.
-use Rattle.std.proofs.Common.{◌≡◌, ℕ, zero, suc, ◌+◌, ◌*◌, ◌<◌, ◌≤◌, Bool, true, false, cond, ◌==◌, ◌&&◌, List, [], ◌∷◌, length, map, Option, None,  Contains, Some, Ok, inl, inr, refl, sym, ap, ◌∙◌, arith, suc-mul, mul-le-mul_right, add-zero, le_refl, eq-eqb, ne_eqb}
-use Rattle.std.specs.Prelude.{slice_get, Err, IfNone, Result, nat_le}
+use Rattle.std.proofs.Common.{◌≡◌, ℕ, zero, suc, ◌+◌, ◌*◌, ◌<◌, ◌≤◌, Bool, true, false, cond, ◌==◌, ◌&&◌, List, [], ◌∷◌, length, Option, None, Contains, Some, Ok, inl, inr, refl, sym, ap, ◌∙◌, arith, suc-mul, mul-le-mul_right, add-zero, le_refl, eq-eqb, ne_eqb}
+use Rattle.std.specs.Prelude.{slice_get, Err, IfNone, nat_le}
 use Rattle.std.specs.List.{AllByRecursion}
 use Rattle.std.specs.List.Sorted.{IsStrictlyIncreasing}
 use Rattle.std.proofs.lemmas.Bool.{and_parts, false_from_ne_true, and_right, cases_Bool, cases_eq, cases_order, leb-false, not-false, or_parts}
@@ -16,7 +16,7 @@ use Rattle.sx_ledger.specs.declared.key.Key.{Key}
 use Rattle.sx_ledger.specs.declared.offer.Offer.{Offer}
 use Rattle.sx_ledger.specs.declared.parts.Parts.{Parts}
 use Rattle.sx_ledger.specs.declared.statics.Static.{Static}
-use Rattle.sx_ledger.specs.Effects.{Posting, amount_of, credit, posted}
+use Rattle.sx_ledger.specs.Effects.{amount_of, credit, posted}
 use Rattle.sx_ledger.specs.Ledger.{assets_of, ids, keys}
 use Rattle.sx_ledger.specs.Static.{cancels_unknown, first_holding, has_account, has_offer, names_beyond, pays_unknown, static_list, static_of}
 use Rattle.sx_bytes.specs.Grammar.{in_order, may_follow}
@@ -25,7 +25,6 @@ use Rattle.sx_ledger.proofs.Insertion.{id_of}
 use Rattle.sx_ledger.proofs.KeyOrder.{before_both, before_differs, same_key_from, same_key_is}
 use Rattle.sx_ledger.proofs.PlacesOfIds.{same_place, stands}
 use Rattle.sx_ledger.proofs.PostingTotals.{passes}
-use Rattle.sx_tx.specs.declared.kind.Kind.{Kind}
 use Rattle.sx_tx.specs.declared.kind.Kind.TheVariants as kind
 use Rattle.sx_tx.specs.declared.tx.Tx.{Tx}
 

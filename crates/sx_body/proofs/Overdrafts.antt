@@ -1,5 +1,5 @@
 -- The first overdraft of accounts that are looked at one after the other.
-use Rattle.std.proofs.Common.{◌≡◌, ℕ, ◌+◌, ◌<◌, ◌≤◌, true, false, ◌==◌, List, [], ◌∷◌, length, get_or, All, Some, None, Ok, inl, inr, refl, sym, ap, subst, ◌∙◌, arith}
+use Rattle.std.proofs.Common.{◌≡◌, ℕ, ◌+◌, ◌<◌, ◌≤◌, true, ◌==◌, List, [], ◌∷◌, length, get_or, All, Some, None, Ok, inl, inr, refl, sym, ap, subst, ◌∙◌, arith}
 use Rattle.std.specs.Prelude.{slice_get}
 use Rattle.std.proofs.lemmas.Bool.{cases_Bool, cases_lt, cases_order}
 use Rattle.std.proofs.lemmas.List.{get_or-map, get_or_default, length-map}
@@ -22,7 +22,6 @@ use Rattle.sx_ledger.proofs.Lookup.{entry_at}
 use Rattle.sx_ledger.proofs.PlacesOfIds.{holding_at, stands}
 use Rattle.sx_ledger.proofs.PostingTotals.{Passes, passes}
 use Rattle.sx_tx.specs.declared.tx.Tx.{Tx}
-
 
 -- the debits of the accounts below a place are covered
 abbrev pub AllCovered : List Account → List Tx → ℕ → Type 0

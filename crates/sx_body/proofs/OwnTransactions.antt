@@ -1,7 +1,6 @@
 -- The transactions of one account stand together where all stand by account.
-use Rattle.std.proofs.Common.{◌≡◌, ◌≢◌, ℕ, zero, suc, ◌+◌, ◌-◌, ◌<◌, ◌≤◌, true, false, ◌==◌, ◌&&◌, List, [], ◌∷◌, ◌++◌, length, get_or, take, drop, All, Contains, Option, Some, None, inl, inr, refl, sym, ap, ◌∙◌, subst, arith}
+use Rattle.std.proofs.Common.{◌≡◌, ◌≢◌, ℕ, zero, suc, ◌+◌, ◌-◌, ◌<◌, ◌≤◌, true, ◌==◌, ◌&&◌, List, [], ◌∷◌, ◌++◌, length, get_or, take, drop, All, Contains, Option, Some, None, inl, inr, refl, sym, ap, ◌∙◌, subst, arith}
 use Rattle.std.specs.Prelude.{nat_lt}
-use Rattle.std.specs.List.{filter}
 use Rattle.std.specs.List.Sorted.{IsStrictlyIncreasing}
 use Rattle.std.proofs.lemmas.Bool.{and_parts, cases_Bool, eq-eqb, eqb-true, ltb-true, ne_eqb, or_cases}
 use Rattle.std.proofs.lemmas.List.{drop_more, get_or-drop, get_or-map, length-drop, length-map}
@@ -21,10 +20,10 @@ before-le one other e =
     ((one.account.0 == other.account.0) && nat_lt one.seq other.seq) e) [
       | inl lt ↦ omega (arith, ltb-true one.account.0 other.account.0 lt)
       | inr both ↦ omega (
-          arith,
-          eqb-true one.account.0 other.account.0
-              (and_parts (one.account.0 == other.account.0) (nat_lt one.seq other.seq) both).0,
-        )
+        arith,
+        eqb-true one.account.0 other.account.0
+            (and_parts (one.account.0 == other.account.0) (nat_lt one.seq other.seq) both).0,
+      )
     ]
 
 -- no account of those in order after a transaction has a smaller id

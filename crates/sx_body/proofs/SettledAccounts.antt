@@ -1,11 +1,11 @@
 -- The accounts that the walk and the sums of credits leave are those after the body.
-use Rattle.std.proofs.Common.{◌≡◌, ℕ, zero, suc, ◌+◌, ◌-◌, ◌^◌, ◌<◌, ◌≤◌, true, false, ◌==◌, List, [], ◌∷◌, ◌++◌, length, get_or, map, replicate, All, Some, None, inl, inr, refl, sym, ap, ap₂, subst, ◌∙◌, arith}
-use Rattle.std.specs.Prelude.{nat_eq, nat_lt, slice_index, slice_get}
+use Rattle.std.proofs.Common.{◌≡◌, ℕ, zero, suc, ◌+◌, ◌-◌, ◌^◌, ◌<◌, ◌≤◌, false, ◌==◌, List, [], ◌∷◌, ◌++◌, length, get_or, map, replicate, All, Some, refl, sym, ap, ap₂, subst, ◌∙◌, arith}
+use Rattle.std.specs.Prelude.{nat_eq, nat_lt, slice_index}
 use Rattle.std.specs.List.{AllByRecursion}
 use Rattle.std.specs.List.Sorted.{IsNonDecreasingBy, IsPermutation}
 use Rattle.std.proofs.lemmas.Bool.{eq-eqb, eqb-true, le-ltb, leb-false, lt-ltb, ltb-false, ltb-true}
 use Rattle.std.proofs.lemmas.List.{get_or-map, get_or_default, length-map, same_lists}
-use Rattle.std.proofs.lemmas.List.Elements.{All-filter, All-tail}
+use Rattle.std.proofs.lemmas.List.Elements.{All-filter}
 use Rattle.std.proofs.lemmas.List.Sorted.{All-permutation, IsPermutation-append_comm, IsPermutation-sym, IsPermutation-trans}
 use Rattle.std.proofs.lemmas.Option.{slice_get-get_or}
 use Rattle.sx_base.specs.declared.account_id.AccountId.{AccountId}
@@ -24,7 +24,7 @@ use Rattle.sx_ledger.specs.Ledger.{IsAccount, IsLedger, assets_of, balance_at, i
 use Rattle.sx_ledger.specs.Static.{has_account, last_of}
 use Rattle.sx_ledger.proofs.AccountLaws.{order_from_increasing}
 use Rattle.sx_ledger.proofs.BodyKeepsLedger.{body_keeps_ledger}
-use Rattle.sx_ledger.proofs.Insertion.{id_of, put_accounts_are, put_all}
+use Rattle.sx_ledger.proofs.Insertion.{id_of, put_accounts_are}
 use Rattle.sx_ledger.proofs.Lookup.{last_is}
 use Rattle.sx_ledger.proofs.PlacesOfIds.{holding_at}
 use Rattle.sx_ledger.proofs.PostingTotals.{Passes, created_absent, credits_elsewhere, credits_there, passes}

@@ -1,11 +1,10 @@
 -- Offers that are kept and made, in order, are those after the body.
-use Rattle.std.proofs.Common.{◌≡◌, ℕ, ◌+◌, ◌<◌, ◌≤◌, Bool, true, false, not, List, [], ◌∷◌, ◌++◌, length, get_or, All, None, Result, Ok, Err, IfOk, inl, inr, refl, sym, ap, subst, ◌∙◌, arith}
+use Rattle.std.proofs.Common.{◌≡◌, ℕ, ◌<◌, ◌≤◌, false, List, ◌++◌, length, get_or, All, Result, Ok, Err, inl, inr, refl, sym, subst, ◌∙◌, arith}
 use Rattle.std.specs.Prelude.{is_ok}
-use Rattle.std.specs.List.{HoldsAt, list_any}
+use Rattle.std.specs.List.{list_any}
 use Rattle.std.specs.List.Sorted.{IsBinarySearchResult, IsPermutation, IsSearchInRange, IsSorted, IsSortedByKey}
 use Rattle.std.specs.declared.cmp.Ordering.{Ordering}
 use Rattle.std.specs.declared.cmp.Ordering.TheVariants.{Less, Equal, Greater}
-use Rattle.std.specs.Ordering.{is_lt}
 use Rattle.std.proofs.lemmas.Bool.{cases_lt, false_from_ne_true}
 use Rattle.std.proofs.lemmas.List.Folds.{list_any_at, list_any_none}
 use Rattle.std.proofs.lemmas.List.Sorted.{IsPermutation-append_comm, IsPermutation-sym, IsPermutation-trans, ranks_by, searchable_from_sorted, sorted_far}
@@ -14,11 +13,11 @@ use Rattle.sx_ledger.specs.contracts.key.KeyOrd.TheImpl as derived
 use Rattle.sx_ledger.specs.declared.key.Key.{Key}
 use Rattle.sx_ledger.specs.declared.offer.Offer.{Offer}
 use Rattle.sx_ledger.specs.declared.parts.Parts.{Parts}
-use Rattle.sx_ledger.specs.Body.{IsAdmissible, body_after, kept_offers, made, offers_after}
+use Rattle.sx_ledger.specs.Body.{IsAdmissible, kept_offers, made, offers_after}
 use Rattle.sx_ledger.specs.Ledger.{IsLedger}
 use Rattle.sx_ledger.specs.Order.{key_before, key_cmp, key_of, same_key}
 use Rattle.sx_ledger.proofs.BodyKeepsLedger.{body_keeps_ledger}
-use Rattle.sx_ledger.proofs.Insertion.{put_all, put_offers_are}
+use Rattle.sx_ledger.proofs.Insertion.{put_offers_are}
 use Rattle.sx_ledger.proofs.KeyOrder.{before_both, before_differs, equal_from, equal_is, key_cmp_derived, key_cmp_total, same_key_from, same_key_is}
 use Rattle.sx_tx.specs.declared.tx.Tx.{Tx}
 use Rattle.sx_tx.specs.Transactions.{IsTx}

@@ -1,5 +1,5 @@
 -- The transactions of one account.
-use Rattle.std.specs.Prelude.{◌≡◌, ℕ, Bool, true, List, None, Contains, ◌==◌}
+use Rattle.std.specs.Prelude.{◌≡◌, ℕ, true, List, None, Contains, ◌==◌}
 use Rattle.std.specs.List.{All, filter}
 use Rattle.sx_bytes.specs.Grammar.{in_order}
 use Rattle.sx_ledger.specs.Body.{tx_before}

@@ -25,10 +25,7 @@ fn created_id(tx: &Tx) -> Option<u64>
 fn created_ids(alloc: Global, txs: &[Tx]) -> Result<Vec<u64>, NoMemory>
     ensures { IfOk result (λ ids. ids.items ≡ created txs.now) }
 {
-    let ids = txs
-        .iter()
-        .filter_map(|tx| created_id(tx))
-        .collect(alloc)?;
+    let ids = txs.iter().filter_map(|tx| created_id(tx)).collect(alloc)?;
     Ok(ids)
 }
 

@@ -112,10 +112,7 @@ fn kept(alloc: Global, offers: &[Offer], txs: &[Tx]) -> Result<Vec<Offer>, NoMem
 fn new_offers(alloc: Global, txs: &[Tx]) -> Result<Vec<Offer>, NoMemory>
     ensures { IfOk result (λ offers. offers.items ≡ made txs.now) }
 {
-    let offers = txs
-        .iter()
-        .filter_map(|tx| made_offer(tx))
-        .collect(alloc)?;
+    let offers = txs.iter().filter_map(|tx| made_offer(tx)).collect(alloc)?;
     Ok(offers)
 }
 

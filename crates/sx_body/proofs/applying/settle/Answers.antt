@@ -1,9 +1,8 @@
-use Rattle.std.proofs.Common.{◌≡◌, List, ap, subst, sym, ◌∙◌}
+use Rattle.std.proofs.Common.{List, ap, subst, sym, ◌∙◌}
 use Rattle.sx_body.specs.Settled.{with_all_accounts}
 use Rattle.sx_body.proofs.applying.settle.Goals as goal
 use Rattle.sx_ledger.specs.declared.offer.Offer.{Offer}
 use Rattle.sx_ledger.specs.declared.parts.Parts.{Parts}
-use Rattle.sx_ledger.specs.Body.{body_after}
 use Rattle.sx_ledger.specs.Ledger.{IsLedger}
 use Rattle.sx_ledger.proofs.BodyKeepsLedger.{body_keeps_ledger}
 

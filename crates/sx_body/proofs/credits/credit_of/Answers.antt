@@ -1,9 +1,7 @@
-use Rattle.std.proofs.Common.{◌≡◌, ℕ, Contains, Some, ap, sym, ◌∙◌}
-use Rattle.std.specs.Prelude.{slice_get}
+use Rattle.std.proofs.Common.{ℕ, Some, ap, sym, ◌∙◌}
 use Rattle.sx_body.proofs.CreditSums.{cancellation, payment}
 use Rattle.sx_body.proofs.credits.credit_of.Goals as goal
 use Rattle.sx_ledger.specs.Effects.{Posting}
-use Rattle.sx_ledger.specs.Ledger.{ids}
 
 pub returns-in_err-place-in-Pay-clause-none : goal.returns-in_err-place-in-Pay-clause-none
 returns-in_err-place-in-Pay-clause-none c =

@@ -1,4 +1,4 @@
-use Rattle.std.proofs.Common.{List, ap, length, sym, take_all, ◌∙◌, arith}
+use Rattle.std.proofs.Common.{List, ap, take_all, ◌∙◌, arith}
 use Rattle.sx_body.proofs.Postings.{credits_more}
 use Rattle.sx_body.proofs.credits.credits_of.Goals as goal
 use Rattle.sx_ledger.specs.Effects.{credits}

@@ -1,4 +1,4 @@
-use Rattle.std.proofs.Common.{◌≡◌, ◌+◌, ◌<◌, ◌≤◌, ◌∙◌, List, All, ap, length, get_or, slice_index, sym, take_all, arith}
+use Rattle.std.proofs.Common.{◌≡◌, ◌∙◌, List, ap, take_all, arith}
 use Rattle.sx_ledger.specs.Effects.{debit, debits, posted}
 use Rattle.sx_tx.specs.declared.tx.Tx.{Tx}
 use Rattle.sx_body.proofs.Postings.{debits_more, zeros_at}

@@ -1,12 +1,11 @@
-use Rattle.std.proofs.Common.{◌≡◌, ◌<◌, ◌≤◌, ◌*◌, ◌^◌, List, length, get_or, All, sym, ap, subst, ◌∙◌, arith}
+use Rattle.std.proofs.Common.{◌≡◌, ◌<◌, ◌≤◌, List, length, get_or, All, sym, ap, subst, ◌∙◌, arith}
 use Rattle.sx_body.specs.Own.{own_of}
 use Rattle.sx_body.proofs.OwnTransactions.{leaves_others, none_before, own_all, takes_own}
-use Rattle.sx_body.proofs.Overdrafts.{AllCovered, covered_more, few_own, is_first, none_overdrawn, starts}
+use Rattle.sx_body.proofs.Overdrafts.{covered_more, few_own, is_first, none_overdrawn, starts}
 use Rattle.sx_body.proofs.overdraft.first_overdraft.Goals as goal
 use Rattle.sx_ledger.specs.declared.account.Account.{Account}
 use Rattle.sx_ledger.specs.declared.parts.Parts.{Parts}
 use Rattle.sx_ledger.specs.Ledger.{IsAccount, assets_of}
-use Rattle.sx_tx.specs.declared.tx.Tx.{Tx}
 
 pub loop-account-init : goal.loop-account-init
 loop-account-init c = record {

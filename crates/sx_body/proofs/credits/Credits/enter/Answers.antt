@@ -1,5 +1,5 @@
 use Rattle.std.proofs.Common.{◌<◌, arith}
-use Rattle.sx_body.proofs.CreditSums.{credited, grows_little, row_fits}
+use Rattle.sx_body.proofs.CreditSums.{credited}
 use Rattle.sx_body.proofs.credits.Credits.enter.Goals as goal
 
 pub returns-clause-added : goal.returns-clause-added
