@@ -1,0 +1,5 @@
+pub mod Own
+pub mod Debits
+pub mod Overdraft
+pub mod Credits
+pub mod Settled
