@@ -11,7 +11,7 @@ use Rattle.sx_tx.specs.declared.tx.Tx.{Tx}
 abbrev pub sum_at : Credits → ℕ → ℕ → ℕ
 sum_at sums place asset = slice_index sums.sums.items (place * sums.assets + asset)
 
--- sums of so many places and assets
+-- sums for this many places and assets
 pub record HasShape (sums : Credits) (places width : ℕ) : Type 0 where
   pub assets : sums.assets ≡ width
   pub cells : length sums.sums.items ≡ places * width

@@ -40,7 +40,7 @@ fn new_account(alloc: Global, id: u64, assets: usize) -> Result<Account, NoMemor
     })
 }
 
-// Puts new accounts of these ids behind the others.
+// Puts new accounts of these ids after the others.
 fn push_new(
     alloc: Global,
     accounts: &mut Vec<Account>,

@@ -84,7 +84,7 @@ fn is_among(keys: &[Key], key: &Key) -> bool
     keys.binary_search(key).is_ok()
 }
 
-// Puts an offer behind the others, where its key is not among these.
+// Puts an offer after the others, where its key is not among these.
 fn push_kept(kept: &mut Vec<Offer>, keys: &[Key], offer: &Offer) -> Result<(), NoMemory>
     requires { IsSorted key_cmp keys.now }
     ensures { OnOk result (kept.new.items ≡ kept.old.items ++ (if not (list_any (same_key (key_of offer.now)) keys.now) then offer.now ∷ [] else [])) }
