@@ -49,6 +49,10 @@ impl Benchmark for Candidates {
         write_candidates(&mut again, txs.items())?;
         Ok(again)
     }
+
+    fn is_right(&self, written: &[u8]) -> bool {
+        written == self.bytes()
+    }
 }
 
 fn draw_kind(generator: &mut Xoshiro256PlusPlus) -> Result<Kind> {

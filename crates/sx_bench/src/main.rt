@@ -10,6 +10,7 @@
 
 mod benchmark;
 mod candidates;
+mod digest;
 mod drawing;
 mod report;
 mod state;
@@ -17,6 +18,7 @@ mod state;
 use anyhow::{Context, Result, bail};
 use benchmark::{Benchmark, time};
 use candidates::Candidates;
+use digest::Hashed;
 use state::State;
 use std::env;
 use std::io::Write;
@@ -69,6 +71,7 @@ fn main(rt: HostRuntime) -> Result<()> {
         [] => {
             println!(rt; "{} SIZE: {}", candidates::NAME, candidates::WHAT)?;
             println!(rt; "{} SIZE: {}", state::NAME, state::WHAT)?;
+            println!(rt; "{} SIZE: {}", digest::NAME, digest::WHAT)?;
             Ok(())
         }
         [name, size, rest @ ..] if name.as_str() == candidates::NAME => {
@@ -80,6 +83,11 @@ fn main(rt: HostRuntime) -> Result<()> {
             let request = request_of(size, rest)?;
             let state = State::new(rt.alloc(), request.size)?;
             serve(&rt, state::NAME, request, &state)
+        }
+        [name, size, rest @ ..] if name.as_str() == digest::NAME => {
+            let request = request_of(size, rest)?;
+            let hashed = Hashed::new(rt.alloc(), request.size)?;
+            serve(&rt, digest::NAME, request, &hashed)
         }
         _ => bail!("usage: sx_bench, or sx_bench NAME SIZE, or sx_bench NAME SIZE input"),
     }

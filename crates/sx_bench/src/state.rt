@@ -55,6 +55,10 @@ impl Benchmark for State {
         ledger.write_state(&mut again)?;
         Ok(again)
     }
+
+    fn is_right(&self, written: &[u8]) -> bool {
+        written == self.bytes()
+    }
 }
 
 // So many ids, each above the one before it.
