@@ -12,7 +12,7 @@ use Rattle.sx_links.specs.declared.pool.Pool.{Pool}
 use Rattle.sx_links.specs.Lists.{list_at, node_at, node_count, StandsAt, AreDisjoint}
 use Rattle.sx_links.specs.Pool.{end_of, Run, walk, next_of, before_of, slot_of, value_of, vacant_of, Mutual, IsLoose, Inserts, Removes, Refills, Appends, lists_of, Chains, Holds, IsSound}
 use Rattle.sx_links.proofs.Linking.{one_before, before_within, loose_past, Mutual-append, Mutual-refill}
-use Rattle.sx_links.proofs.Runs.{Beyond, Simple, IsFront, Beyond-front, Beyond-at, Simple-place, end_of-take, split_at, walk-run, Run-value, Run-before, Beyond-next, Simple-run, apart, Run-keeps_removed, Run-removed, Run-keeps_inserted, Run-inserted, Run-same}
+use Rattle.sx_links.proofs.Runs.{Beyond, Simple, IsFront, Beyond-front, Beyond-at, Simple-place, end_of-take, split_at, walk-run, Run-value, Run-before, Beyond-next, Simple-run, apart, Run-keeps_removed, Run-removed, Run-keeps_inserted, Run-inserted, Run-same, Run-keeps_revalued, Run-revalued}
 
 front_is : (l : ℕ) → IsFront (Front l)
 front_is l k e = absurd cc
@@ -147,6 +147,24 @@ module _ {T : Type 0} where
   pub Chains-refill : (p r : Pool T) (lists : List (List (ℕ × T))) (n : ℕ) (free : List (ℕ × Unit {0})) (slot : Option T) → Chains p lists free → IsLoose p n → Refills p r n slot → Chains r lists free
   Chains-refill p r lists n free slot chains loose fill =
       Chains-same p r lists n free chains loose (Mutual-refill p r n slot chains.agrees fill) fill.next fill.others fill.fronts
+
+  -- a node of a list has another value
+  pub Chains-revalue : (p r : Pool T) (lists : List (List (ℕ × T))) (n : ℕ) (free : List (ℕ × Unit {0})) (l i : ℕ) (v : T) → Chains p lists free → StandsAt lists l i n → Refills p r n (Some v) → Chains r (set lists l (set (list_at lists l) i (n, v))) free
+  Chains-revalue p r lists n free l i v chains stands fill =
+      let within = within_at lists l i n stands in
+      let xs = list_at lists l in
+      let has : value_of r n ≡ Some v = ap option_flatten fill.here in
+      let values : (k : ℕ) → k ≢ n → value_of r k ≡ value_of p k = λ k other. ap option_flatten (fill.others k other) in
+      record {
+        agrees = Mutual-refill p r n (Some v) chains.agrees fill;
+        listed = listed-set lists l (set xs i (n, v)) (λ k ys. Run (next_of r) (value_of r) (Front k) ys) within
+            (Run-revalued (next_of p) (next_of r) (value_of p) (value_of r) n fill.next values (Front l) xs i v has (Simple-list p lists free chains l within) stands (chains.listed l within))
+            (λ k below other. Run-keeps_revalued (next_of p) (next_of r) (value_of p) (value_of r) n fill.next values (Front k) (list_at lists k)
+            (stranger p lists free chains (value_of p) l i n (Front k) (list_at lists k) within stands (front_is k) (Front-other l k other) (chains.listed k below)) (chains.listed k below));
+        freed = Run-keeps_revalued (next_of p) (next_of r) (vacant_of p) (vacant_of r) n fill.next (λ k other. rw (fill.others k other) refl) Free free
+            (stranger p lists free chains (vacant_of p) l i n Free free within stands free_is (Front-free l) chains.freed) chains.freed;
+        fronts = length-set lists l (set xs i (n, v)) ∙ chains.fronts ∙ sym fill.fronts;
+      }
 
   pub Chains-append : (p r : Pool T) (lists : List (List (ℕ × T))) (free : List (ℕ × Unit {0})) → Chains p lists free → Appends p r → Chains r lists free
   Chains-append p r lists free chains more =

@@ -1,6 +1,6 @@
 -- Runs of nodes, each of which follows the one before: no node comes twice, and what taking out or
 -- putting in a node makes of them.
-use Rattle.std.proofs.Common.{◌≡◌, ◌≢◌, ◌⊎◌, ℕ, zero, suc, ◌+◌, ◌<◌, ◌≤◌, List, [], ◌∷◌, ◌++◌, length, take, drop, Option, Some, None, slice_get, cond, eq-eqb, refl, sym, ap, subst, ◌∙◌, arith}
+use Rattle.std.proofs.Common.{◌≡◌, ◌≢◌, ◌⊎◌, ℕ, zero, suc, ◌+◌, ◌<◌, ◌≤◌, List, [], ◌∷◌, ◌++◌, length, take, drop, set, Option, Some, None, slice_get, cond, eq-eqb, refl, sym, ap, subst, ◌∙◌, arith}
 use Rattle.std.proofs.lemmas.Bool.{ne_eqb}
 use Rattle.sx_links.specs.declared.pool.Place.{Place}
 use Rattle.sx_links.specs.declared.pool.Place.TheVariants.{Free, Front, After}
@@ -179,3 +179,19 @@ pub Run-same : {V : Type 0} (next next' : Place → Option ℕ) (value value' : 
 Run-same next next' value value' n loose nexts values at [] r = nexts at ∙ r
 Run-same next next' value value' n loose nexts values at (y ∷ ys) r =
     (nexts at ∙ r.0, values y.0 (λ e. loose at (r.0 ∙ ap Some e)) ∙ r.1, Run-same next next' value value' n loose nexts values (After y.0) ys r.2)
+
+-- what becomes of a run where one node has another value
+module _ {V : Type 0} (next next' : Place → Option ℕ) (value value' : ℕ → Option V) (n : ℕ) (nexts : (q : Place) → next' q ≡ next q) (values : (k : ℕ) → k ≢ n → value' k ≡ value k) where
+  pub Run-keeps_revalued : (at : Place) (ys : List (ℕ × V)) → Beyond (After n) ys → Run next value at ys → Run next' value' at ys
+  Run-keeps_revalued at [] beyond r = nexts at ∙ r
+  Run-keeps_revalued at (y ∷ ys) beyond r =
+      (nexts at ∙ r.0, values y.0 (λ e. beyond.0 (ap After (sym e))) ∙ r.1, Run-keeps_revalued (After y.0) ys beyond.1 r.2)
+
+  pub Run-revalued : (at : Place) (ys : List (ℕ × V)) (i : ℕ) (v : V) → value' n ≡ Some v → Simple ys → node_at ys i ≡ Some n → Run next value at ys → Run next' value' at (set ys i (n, v))
+  Run-revalued at [] i v has simple e r = absurd cc
+  Run-revalued at (y ∷ ys) zero v has simple e r =
+      let same : y.0 ≡ n = cc in
+      (nexts at ∙ r.0 ∙ e, has, subst (λ k. Run next' value' (After k) ys) same
+      (Run-keeps_revalued (After y.0) ys (subst (λ k. Beyond (After k) ys) same simple.0) r.2))
+  Run-revalued at (y ∷ ys) (suc i) v has simple e r =
+      (nexts at ∙ r.0, values y.0 (λ f. Beyond-at y.0 ys i simple.0 (e ∙ ap Some (sym f))) ∙ r.1, Run-revalued (After y.0) ys i v has simple.1 e r.2)

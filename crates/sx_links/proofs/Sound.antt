@@ -3,7 +3,7 @@ use Rattle.std.proofs.Common.{◌≡◌, ◌≢◌, ℕ, zero, suc, ◌+◌, ◌
 use Rattle.std.specs.List.{insert, remove, sum_by}
 use Rattle.std.specs.Option.{ForSome}
 use Rattle.std.proofs.lemmas.Grind.{common_steps}
-use Rattle.std.proofs.lemmas.List.{get_or-replicate, get_or_past, length-replicate}
+use Rattle.std.proofs.lemmas.List.{get_or-replicate, get_or_past, length-replicate, length-set}
 use Rattle.std.proofs.lemmas.List.Folds.{sum_by-replicate}
 use Rattle.std.proofs.lemmas.List.Edits.{length-insert, length-remove}
 use Rattle.std.proofs.lemmas.List.Sums.{sum_by-set}
@@ -15,7 +15,7 @@ use Rattle.sx_links.specs.Lists.{Lists, list_at, node_at, rest_from, node_count,
 use Rattle.sx_links.specs.Pool.{Run, end_of, place_of, next_of, before_of, slot_of, value_of, vacant_of, IsLoose, IsLinked, HasPlace, Inserts, Removes, Refills, lists_of, Chains, Holds, IsSound}
 use Rattle.sx_links.proofs.Linking.{before_within, value_within}
 use Rattle.sx_links.proofs.Runs.{Beyond-front, Beyond-at, Simple-place, rest_from-at, end_of-take, Run-first, Run-after, Run-value, Run-before, Beyond-next}
-use Rattle.sx_links.proofs.Chains.{within_at, free_is, Front-free, Simple-list, lists_of-sound, AreDisjoint-chains, Chains-detach, Chains-detach_free, Chains-attach, Chains-attach_free, Chains-refill, Chains-moved}
+use Rattle.sx_links.proofs.Chains.{within_at, free_is, Front-free, Simple-list, lists_of-sound, AreDisjoint-chains, Chains-detach, Chains-detach_free, Chains-attach, Chains-attach_free, Chains-refill, Chains-revalue, Chains-moved}
 
 module _ {T : Type 0} where
   -- a place of a node is within the list
@@ -142,6 +142,24 @@ module _ {T : Type 0} where
           };
           total = omega (arith, sound.total, cut.nodes, fill.nodes, put.nodes);
           few = omega (arith, sound.few, cut.nodes, fill.nodes, put.nodes);
+        }
+
+    -- what `set_value` leaves
+    pub IsSound-set : (r : Pool T) (l i : ℕ) (v : T) → StandsAt lists l i n → Refills p r n (Some v) → IsSound r (set lists l (set (list_at lists l) i (n, v))) spare
+    IsSound-set r l i v stands fill =
+        let within = within_at lists l i n stands in
+        let xs = list_at lists l in
+        let ys = set xs i (n, v) in
+        let same = length-set xs i (n, v) in
+        let counted = sum_by-set length lists l ys [] within in
+        record {
+          holds = record {
+            free = sound.holds.free;
+            chains = Chains-revalue p r lists n sound.holds.free l i v sound.holds.chains stands fill;
+            counted = sound.holds.counted;
+          };
+          total = omega (arith, sound.total, fill.nodes);
+          few = omega (arith, sound.few, fill.nodes);
         }
 
     -- what `push_after` leaves

@@ -62,6 +62,14 @@ module _ {T : Type 0} where
         spare = all.spare + 1;
       }
 
+  -- a node with its value stands at a place of a list, in place of what stood there
+  abbrev pub with_value : Lists T → ℕ → ℕ → ℕ × T → Lists T
+  with_value all list place x =
+      record {
+        lists = slice_set all.lists list (slice_set (list_at all.lists list) place x);
+        spare = all.spare;
+      }
+
   -- how many nodes the lists have together
   abbrev pub node_count : List (List (ℕ × T)) → ℕ
   node_count lists = sum_by length lists

@@ -6,8 +6,9 @@
 //! room. A node is a number that stays the same as long as the node stands in its list, and no node
 //! stands at two places.
 //!
-//! [`Links::reserve`] makes room and may answer that memory ran out. [`Links::push_after`] and
-//! [`Links::unlink`] take no memory, and change one list at one place. [`Links::first`] and
+//! [`Links::reserve`] makes room and may answer that memory ran out. [`Links::push_after`],
+//! [`Links::set_value`] and [`Links::unlink`] take no memory, and change one list at one place.
+//! [`Links::first`] and
 //! [`Links::next`] lead through a list: `rest_from` says what is left of it from a node on, so a loop
 //! over a list has its length as a measure.
 //!

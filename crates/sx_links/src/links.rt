@@ -24,7 +24,7 @@
 
 ghost use Rattle.std.specs.Prelude.{◌≡◌, ◌≢◌, ℕ, ◌+◌, ◌-◌, ◌^◌, ◌<◌, [], length, drop, replicate, Some, None, slice_get, max, IfOk, OnOk, OnErr};
 ghost use Rattle.std.specs.Option.{ForSome};
-ghost use Rattle.sx_links.specs.Lists.{list_at, node_at, node_count, rest_from, StandsAt, StandsIn, Stands, AreDisjoint, with_node, without_node};
+ghost use Rattle.sx_links.specs.Lists.{list_at, node_at, node_count, rest_from, StandsAt, StandsIn, Stands, AreDisjoint, with_node, with_value, without_node};
 
 use crate::pool::{Place, Pool};
 use std::alloc::Global;
@@ -123,6 +123,19 @@ impl<T> Links<T> {
         self.pool.attach(node, Place::Free);
         self.spare += 1;
         value
+    }
+
+    /// Gives a node of a list another value, in place of the one that it has. It takes a constant number of
+    /// steps and no memory.
+    pub fn set_value(&mut self, node: u32, value: T)
+    where
+        T: Drop,
+        requires { Stands self.old.lists node }
+        ensures set { (list place : ℕ) → StandsAt self.old.lists list place node
+            → self.new ≡ with_value self.old list place (node, value) }
+        ensures disjoint { AreDisjoint self.new.lists }
+    {
+        self.pool.put(node, value);
     }
 
     /// The first node of a list, or `None` where the list is empty.
