@@ -7,7 +7,7 @@
 It is written apart from the program, from docs/FORMATS.md and docs/RULES.md, and nothing of it is proved.
 
 The text has one entry a line. Words are parted by spaces, numbers are decimal, and `#` starts a comment.
-A line `state` or `block` begins a record, and the lines after it, up to the next such line, belong to it.
+A line `state`, `block` or `outcomes` begins a record, and the lines after it, up to the next such line, belong to it.
 
     state version 1 height H assets N                        a ledger at height H, with N assets
     asset A price P rounding R                               for each asset; a price of 1 is 16777216
@@ -27,6 +27,11 @@ A line `state` or `block` begins a record, and the lines after it, up to the nex
     tx ACCOUNT SEQ offer SELL BUY limit M amount E
     tx ACCOUNT SEQ cancel SELL BUY limit M seq S
 
+    outcomes COUNT                                           what became of candidates; the number is not looked at
+    I accepted                                               or `seq-taken`, `offer-taken`, `name-taken`
+    I static NUMBER
+    I overdraft seen S need D
+
 Lines of one kind stand in the order in which they are to be written: accounts by id, offers and transactions
 as docs/FORMATS.md says. `write` tests neither order nor ranges, so it can make wrong records on purpose.
 
@@ -40,8 +45,16 @@ import hashlib
 import struct
 import sys
 
-STATE, BLOCK = 1, 3
+STATE, BLOCK, OUTCOMES = 1, 3, 4
 KINDS = {"pay": (1, "QBQ"), "create": (2, "Q"), "offer": (3, "BBQQ"), "cancel": (4, "BBQQ")}
+RESULTS = {
+    "accepted": (0, ""),
+    "static": (1, "B"),
+    "seq-taken": (2, ""),
+    "offer-taken": (3, ""),
+    "name-taken": (4, ""),
+    "overdraft": (5, "QQ"),
+}
 NAMES = {
     "pay": ("", "", ""),
     "create": ("",),
@@ -83,6 +96,14 @@ def block_record(block):
     out += b"\0" if block["cut"] is None else struct.pack(">BI", 1, block["cut"])
     out += numbers("I", block["potentials"]) + numbers("Q", block["roundings"])
     return record(BLOCK, out + block["after"] + body_bytes(block["txs"]))
+
+
+def outcomes_record(outcomes):
+    out = struct.pack(">I", len(outcomes))
+    for name, fields in outcomes:
+        tag, widths = RESULTS[name]
+        out += struct.pack(">B" + widths, tag, *fields)
+    return record(OUTCOMES, out)
 
 
 def numbers(width, items):
@@ -138,6 +159,18 @@ def read_block(at):
     block["after"] = at.take(32)
     block["txs"] = [read_tx(at) for _ in range(at.one("I"))]
     return block
+
+
+def read_outcome(at):
+    tag = at.one("B")
+    name = next((it for it in RESULTS if RESULTS[it][0] == tag), None)
+    if name is None:
+        sys.exit(f"records: no outcome has the tag {tag}")
+    return name, at.fields(RESULTS[name][1])
+
+
+def read_outcomes(at):
+    return [read_outcome(at) for _ in range(at.one("I"))]
 
 
 # ---- the ledger after a block
@@ -229,26 +262,34 @@ def number_after(words, name, other):
 
 def write(lines):
     """The bytes of the records that the text says."""
-    out, state, block = [], None, None
+    out, state, block, outcomes, is_new = [], None, None, None, False
 
     def close():
-        nonlocal state, block
-        if block:
+        nonlocal state, block, outcomes, is_new
+        if outcomes is not None:
+            out.append(outcomes_record(outcomes))
+        elif block:
             whole, state = completed(block, state)
             out.append(block_record(whole))
-        elif state:
+        elif is_new:
             out.append(state_record(state))
-        block = None
+        block = outcomes = None
+        is_new = False
 
     for at, line in enumerate(lines, 1):
         words = line.split("#")[0].split()
         try:
             if words[:1] == ["state"]:
                 close()
-                state = state_of(words)
+                state, is_new = state_of(words), True
             elif words[:1] == ["block"]:
                 close()
                 block = block_of(words)
+            elif words[:1] == ["outcomes"]:
+                close()
+                outcomes = []
+            elif words and outcomes is not None:
+                outcomes.append((words[1], [int(it) for it in words[2:] if it.isdigit()]))
             elif words:
                 add_line(block or state, words, block is None)
         except WRONG:
@@ -303,6 +344,8 @@ def show(data):
             print(*state_lines(read_state(at)), sep="\n")
         elif tag == BLOCK:
             print(*block_lines(read_block(at)), sep="\n")
+        elif tag == OUTCOMES:
+            print(*outcomes_lines(read_outcomes(at)), sep="\n")
         else:
             sys.exit(f"records: this script shows no record of tag {tag}")
         if at.at != end:
@@ -332,6 +375,13 @@ def block_lines(block):
     yield f"transactions {len(block['txs'])}"
     for account, seq, kind, fields in block["txs"]:
         yield f"tx {account} {seq} {kind} " + " ".join(f"{name}{it}" for name, it in zip(NAMES[kind], fields))
+
+
+def outcomes_lines(outcomes):
+    yield f"outcomes {len(outcomes)}"
+    for at, (name, fields) in enumerate(outcomes):
+        words = ["seen", str(fields[0]), "need", str(fields[1])] if name == "overdraft" else map(str, fields)
+        yield " ".join([str(at), name, *words])
 
 
 if __name__ == "__main__":
