@@ -18,3 +18,17 @@ pub record IsFirstRefused (parts : Parts) (txs : List Tx) (index : ℕ) (why : S
 abbrev pub IsScreenFault : Parts → List Tx → ScreenFault → Type 0
 IsScreenFault parts txs NoMemory = Unit {0}
 IsScreenFault parts txs (Refused index why) = IsFirstRefused parts txs index why
+
+-- ---- laws
+
+-- no two transactions of a list are the first that is refused, and none is refused for two reasons
+abbrev pub OneRefusal : Type 0
+OneRefusal =
+    (parts : Parts) (txs : List Tx) (i j : ℕ) (why other : Static) → IsFirstRefused parts txs i why
+    → IsFirstRefused parts txs j other → (i ≡ j) × (why ≡ other)
+
+-- where all pass, none is refused
+abbrev pub PassingIsNotRefused : Type 0
+PassingIsNotRefused =
+    (parts : Parts) (txs : List Tx) (i : ℕ) (why : Static) → All (λ tx. static_of parts tx ≡ Ok tt) txs
+    → IsFirstRefused parts txs i why → ⊥

@@ -7,7 +7,7 @@
 //!
 //! [`screen`] goes over transactions once. It answers the first that the ledger refuses by itself, or,
 //! where none is, what all of them credit: [`Credits`], which contracts see as sums over the list
-//! (`HasCredits`). [`first_overdraft`] answers the first account and asset whose debits are above the
+//! (`HasCredits`). [`refusal_laws`] says that the first refusal is one. [`first_overdraft`] answers the first account and asset whose debits are above the
 //! balance at the opening, or `None` exactly where there is none. [`offers_after`] answers the offers
 //! after an admissible body, and [`settle`] the ledger after it, from the credits and the offers that
 //! are known by then: exactly those of the definitions of `sx_ledger`, which are plain sums over the
@@ -24,6 +24,7 @@ mod applying;
 mod created;
 mod credits;
 mod debits;
+mod laws;
 mod offers;
 mod overdraft;
 mod own;
@@ -34,6 +35,7 @@ mod used;
 
 pub use applying::settle;
 pub use credits::Credits;
+pub use laws::refusal_laws;
 pub use offers::offers_after;
 pub use overdraft::{Overdraft, first_overdraft};
 pub use screening::{ScreenFault, screen};

@@ -97,4 +97,5 @@ fn transactions_are_screened(rt: HostRuntime) {
     ] {
         assert_eq!(rt; screened(rt.alloc(), second, third), Some(wanted));
     }
+    refusal_laws();
 }

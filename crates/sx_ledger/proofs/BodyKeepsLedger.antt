@@ -98,7 +98,8 @@ module _ (parts : Parts) (txs : List Tx) (keeps : IsLedger parts) (in_range : Al
   few_offers : length (offers_after parts txs) ≤ 262144
   few_offers =
       let is : length (offers_after parts txs) ≡ length (made txs) + length (kept_offers parts.offers txs) =
-      ap length (offers_put parts txs keeps body) ∙ length-put_all key_of key_before (made txs) (kept_offers parts.offers txs) in
+      ap length (offers_put parts txs keeps body)
+      ∙ length-put_all key_of key_before (made txs) (kept_offers parts.offers txs) in
       omega (arith, is, kept_few parts.offers txs, body.offers_fit)
 
   kept_offer : (offer : Offer) → IsOffer (assets_of parts) parts.accounts offer
@@ -132,7 +133,8 @@ module _ (parts : Parts) (txs : List Tx) (keeps : IsLedger parts) (in_range : Al
   offers : All (IsOffer (assets_of parts) (accounts_after parts txs)) (offers_after parts txs)
   offers =
       All-from_recursion (IsOffer (assets_of parts) (accounts_after parts txs)) (offers_after parts txs)
-      (subst (AllByRecursion (IsOffer (assets_of parts) (accounts_after parts txs))) (sym (offers_put parts txs keeps body))
+      (subst (AllByRecursion (IsOffer (assets_of parts) (accounts_after parts txs)))
+      (sym (offers_put parts txs keeps body))
       (all_put_all key_of key_before (IsOffer (assets_of parts) (accounts_after parts txs)) (made txs)
       (kept_offers parts.offers txs)
       (made_offers (made txs) (all_made parts txs txs in_range all_pass all_used))
