@@ -6,3 +6,4 @@ pub mod UsedNumbers
 pub mod CreditSums
 pub mod SettledAccounts
 pub mod SettledOffers
+pub mod Refusals

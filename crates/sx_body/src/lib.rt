@@ -5,27 +5,40 @@
 //! the limits on accounts and offers hold, and no account is overdrawn (`IsAdmissible` of
 //! `sx_ledger`).
 //!
-//! [`first_overdraft`] answers the first account and asset whose debits are above the balance at the
-//! opening, or `None` exactly where there is none. [`settle`] answers the ledger after an admissible
-//! body, [`accounts_after`] its accounts and [`offers_after`] its offers: exactly those of the
-//! definitions of `sx_ledger`, which are plain sums over the list of transactions. The code goes
-//! over the transactions a fixed number of times, sorts what is created, made and cancelled, and
-//! looks payees and cancelled offers up by binary search.
+//! [`screen`] goes over transactions once. It answers the first that the ledger refuses by itself, or,
+//! where none is, what all of them credit: [`Credits`], which contracts see as sums over the list
+//! (`HasCredits`). [`refusal_laws`] says that the first refusal is one. [`first_overdraft`] answers the first account and asset whose debits are above the
+//! balance at the opening, or `None` exactly where there is none. [`offers_after`] answers the offers
+//! after an admissible body, and [`settle`] the ledger after it, from the credits and the offers that
+//! are known by then: exactly those of the definitions of `sx_ledger`, which are plain sums over the
+//! list of transactions.
 //!
-//! Not here: whether a body is admissible but for overdrafts, and what trades afterwards.
+//! The code goes over the transactions a fixed number of times, looks each account, payee and
+//! cancelled offer up once, and sorts what is created, made and cancelled.
+//!
+//! Not here: whether a body is admissible but for refused transactions and overdrafts, and what
+//! trades afterwards.
 #![tactic(auto)]
 
 mod applying;
 mod created;
 mod credits;
 mod debits;
+mod laws;
 mod offers;
 mod overdraft;
 mod own;
 mod ranges;
+mod screening;
 mod settled;
 mod used;
 
-pub use applying::{accounts_after, settle};
+pub use applying::settle;
+pub use credits::Credits;
+pub use laws::refusal_laws;
 pub use offers::offers_after;
 pub use overdraft::{Overdraft, first_overdraft};
+pub use screening::{ScreenFault, screen};
+
+#[cfg(test)]
+mod tests;

@@ -1,7 +1,11 @@
 -- What a ledger says of one transaction, computed at small cases.
-use Rattle.std.proofs.Common.{◌≡◌, ◌-◌, ◌^◌, [], ◌∷◌, Ok, Err, refl}
+use Rattle.std.proofs.Common.{◌≡◌, ℕ, ◌-◌, ◌^◌, [], ◌∷◌, Ok, Err, refl}
 use Rattle.sx_ledger.specs.declared.parts.Parts.{Parts}
 use Rattle.sx_ledger.specs.declared.statics.Static.TheVariants as static
+use Rattle.sx_ledger.specs.declared.places.Places.{Places}
+use Rattle.sx_ledger.specs.declared.places.Target.{Target}
+use Rattle.sx_ledger.specs.declared.places.Target.TheVariants as target
+use Rattle.sx_ledger.specs.Places.{ArePlaces}
 use Rattle.sx_ledger.specs.Static.{static_of}
 use Rattle.sx_ledger.proofs.CaseWords.{account, cancel, create, offer, one, pay, sell_for, state, tx}
 
@@ -53,3 +57,38 @@ first_of_two : (static_of ledger (tx 3 0 (pay 2 0 1)) ≡ Err static.UnknownAcco
     × (static_of ledger (tx 1 8 (cancel 1 1 one 7)) ≡ Err static.SamePair)
     × (static_of ledger (tx 1 8 (sell_for 1 1 1 1)) ≡ Err static.SamePair)
 first_of_two = (refl, refl, refl, refl, refl, refl, refl)
+
+abbrev places : ℕ → Target → Places
+places account named = record { account = account; target = named }
+
+-- the places that are found
+found : ArePlaces ledger (tx 2 1 (pay 1 0 1)) (places 1 (target.Payee 0))
+    × ArePlaces ledger (tx 1 8 (create 9)) (places 0 target.Nothing)
+    × ArePlaces ledger (tx 2 1 (sell_for 0 1 one 1)) (places 1 target.Nothing)
+    × ArePlaces ledger (tx 1 8 (cancel 0 1 one 7)) (places 0 (target.Offer 0))
+found = (
+  record { account = refl; target = refl },
+  record { account = refl; target = refl },
+  record { account = refl; target = refl },
+  record { account = refl; target = refl },
+)
+
+-- other places are not: of another account, of the payer in place of the payee, of what nothing names
+others : (ArePlaces ledger (tx 2 1 (create 9)) (places 0 target.Nothing) → ⊥)
+    × (ArePlaces ledger (tx 2 1 (pay 1 0 1)) (places 1 (target.Payee 1)) → ⊥)
+    × (ArePlaces ledger (tx 2 1 (pay 1 0 1)) (places 1 target.Nothing) → ⊥)
+    × (ArePlaces ledger (tx 1 8 (pay 1 0 1)) (places 0 (target.Offer 0)) → ⊥)
+    × (ArePlaces ledger (tx 1 8 (create 2)) (places 0 (target.Payee 1)) → ⊥)
+    × (ArePlaces ledger (tx 1 8 (sell_for 0 1 one 7)) (places 0 (target.Offer 0)) → ⊥)
+    × (ArePlaces ledger (tx 1 8 (cancel 0 1 one 7)) (places 0 (target.Payee 0)) → ⊥)
+    × (ArePlaces ledger (tx 1 8 (cancel 0 1 one 7)) (places 0 target.Nothing) → ⊥)
+others = (
+  λ p. let e = p.account in cc,
+  λ p. let e = p.target in cc,
+  λ p. p.target,
+  λ p. p.target,
+  λ p. let e = p.target in cc,
+  λ p. let e = p.target in cc,
+  λ p. p.target,
+  λ p. p.target,
+)

@@ -67,6 +67,6 @@ impl Ledger {
     {
         let account = index.find_near(near, tx.account);
         let named = index.find_named(&tx.kind);
-        self.test(tx, account, named)
+        self.check(tx, account, named)
     }
 }

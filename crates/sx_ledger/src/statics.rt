@@ -177,7 +177,7 @@ impl Ledger {
 
     // The static test of a transaction, once its account and the one that it pays or creates were
     // looked up, and the places of what it names.
-    pub(crate) fn test(
+    pub(crate) fn check(
         &self,
         tx: &Tx,
         account: Option<u32>,
@@ -200,7 +200,7 @@ impl Ledger {
     {
         let account = self.find(tx.account);
         let named = self.find_named(&tx.kind);
-        match self.test(tx, account, named) {
+        match self.check(tx, account, named) {
             Ok(_) => Ok(()),
             Err(why) => Err(why),
         }
