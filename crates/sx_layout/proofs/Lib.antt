@@ -1,2 +1,5 @@
 pub mod OutcomeLaws
 pub mod OutcomeListLaws
+pub mod Counts
+pub mod Turns
+pub mod ScriptLaws
