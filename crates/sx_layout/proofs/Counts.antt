@@ -1,7 +1,7 @@
 -- Counting what a function finds.
-use Rattle.std.proofs.Common.{◌≡◌, ℕ, suc, List, [], ◌∷◌, length, Option, None, Some, refl, ap}
+use Rattle.std.proofs.Common.{◌≡◌, suc, List, [], ◌∷◌, length, Option, None, Some, refl, ap}
 use Rattle.std.specs.Prelude.{is_some}
-use Rattle.std.specs.List.{filter, filter_map, cons_option}
+use Rattle.std.specs.List.{filter, filter_map}
 
 one_more : {X Y : Type 0} (f : X → Option Y) (x : X) (xs : List X) (found : Option Y) → found ≡ f x
     → length (filter (λ y. is_some (f y)) xs) ≡ length (filter_map f xs)

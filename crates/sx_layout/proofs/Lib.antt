@@ -3,3 +3,4 @@ pub mod OutcomeListLaws
 pub mod Counts
 pub mod Turns
 pub mod ScriptLaws
+pub mod Cases

@@ -1,10 +1,10 @@
 -- Decoding a script, or a payload of one, inverts encoding it.
-use Rattle.std.proofs.Common.{◌≡◌, ℕ, ◌+◌, ◌<◌, ◌≤◌, cond, eqb, ltb, List, [], ◌∷◌, ◌++◌, length, Result, Ok, Err, refl, sym, ap, subst, ◌∙◌, append_assoc, arith}
+use Rattle.std.proofs.Common.{◌≡◌, ℕ, ◌<◌, ◌≤◌, cond, eqb, ltb, List, [], ◌∷◌, ◌++◌, length, Result, Ok, Err, refl, sym, ap, subst, ◌∙◌, append_assoc, arith}
 use Rattle.std.specs.Prelude.{IfOk}
 use Rattle.std.specs.List.{flat_map}
 use Rattle.std.proofs.Math.Nat.{mod-eq_of_lt}
 use Rattle.std.proofs.lemmas.Bool.{eqb-true, eq-eqb, ltb-true, lt-ltb}
-use Rattle.std.proofs.lemmas.List.{append-nil, nil_from_length, length-append}
+use Rattle.std.proofs.lemmas.List.{append-nil, nil_from_length}
 use Rattle.std.proofs.lemmas.List.Elements.{All-from_recursion, recursion_from_All}
 use Rattle.byteorder.specs.Endian.{big_bytes}
 use Rattle.sx_bytes.specs.declared.fault.Form.TheVariants as form
@@ -68,7 +68,8 @@ script_takes c next x bytes e =
     let bytes1 = bytes_after c a.0.1 (big_bytes 1 actors) t0.0 bytes in
     let t1 = range_takes 4 0 most_turns form.TooMany a.0.1 n.0.1 n.0.0 bytes1 n.1 in
     let bytes2 = bytes_after a.0.1 n.0.1 (big_bytes 4 n.0.0) t1.0 bytes1 in
-    let t2 = many_takes (turn_at actors) one (λ turn. turn < actors) (turn_takes actors) n.0.0 n.0.1 t.0.1 turns bytes2 t.1 in
+    let t2 = many_takes (turn_at actors) one (λ turn. turn < actors) (turn_takes actors) n.0.0 n.0.1 t.0.1 turns
+    bytes2 t.1 in
     let text : Takes n.0.1 turns t.0.1 = subst (λ (s : List ℕ). Takes n.0.1 s t.0.1) (flat_map-one turns) t2.0 in
     let count : Takes a.0.1 (big_bytes 4 (length turns)) n.0.1 =
     subst (λ (m : ℕ). Takes a.0.1 (big_bytes 4 m) n.0.1) (sym t2.1) t1.0 in
@@ -93,11 +94,15 @@ script_again c x after is within e =
     let turns = x.turns in
     let count = big_bytes 4 (length turns) in
     let a =
-    range_again 1 1 most_actors form.Actor c actors ((count ++ turns) ++ after) (omega arith) is.some_actor is.few_actors within (e ∙ append_assoc (big_bytes 1 actors) (count ++ turns) after) in
+    range_again 1 1 most_actors form.Actor c actors ((count ++ turns) ++ after) (omega arith) is.some_actor
+    is.few_actors within (e ∙ append_assoc (big_bytes 1 actors) (count ++ turns) after) in
     let n =
-    range_again 4 0 most_turns form.TooMany a.next (length turns) (turns ++ after) (omega arith) (omega arith) is.few_turns a.within (a.rest_is ∙ append_assoc count turns after) in
+    range_again 4 0 most_turns form.TooMany a.next (length turns) (turns ++ after) (omega arith) (omega arith)
+    is.few_turns a.within (a.rest_is ∙ append_assoc count turns after) in
     let t =
-    many_again (turn_at actors) one (λ turn. turn < actors) (turn_again actors is.few_actors) turns n.next after (recursion_from_All (λ turn. turn < actors) turns is.each) n.within (n.rest_is ∙ ap (λ (s : List ℕ). s ++ after) (sym (flat_map-one turns))) in
+    many_again (turn_at actors) one (λ turn. turn < actors) (turn_again actors is.few_actors) turns n.next after
+    (recursion_from_All (λ turn. turn < actors) turns is.each) n.within
+    (n.rest_is ∙ ap (λ (s : List ℕ). s ++ after) (sym (flat_map-one turns))) in
     let end : Again (done {A = Script × Cursor} (x, t.next)) t.next x after =
     record { next = t.next; is = refl; rest_is = t.rest_is; same = refl; within = t.within } in
     let some = many_at (turn_at actors) (length turns) n.next in
@@ -145,7 +150,8 @@ pub only_in : (bytes : List ℕ) (r : Result Script ReadError) (x : Script)
     → Gives (λ found. found) r (script_at bytes) → IsScript x → bytes ≡ script_bytes x
     → Gives (λ found. found) r (Ok x)
 only_in bytes r x given is e =
-    subst (λ (read : Result Script FormFault). Gives (λ found. found) r read) (ap script_at e ∙ payload_again x is) given
+    subst (λ (read : Result Script FormFault). Gives (λ found. found) r read) (ap script_at e ∙ payload_again x is)
+    given
 
 -- ---- lengths
 

@@ -1,5 +1,5 @@
 -- Whether a ledger has room for all that candidates ask for.
-use Rattle.std.specs.Prelude.{ℕ, ◌+◌, List, length, Result, Ok, Err, nat_lt, ◌==◌, if◌then◌else◌}
+use Rattle.std.specs.Prelude.{◌+◌, List, length, Result, Ok, Err, nat_lt, ◌==◌, if◌then◌else◌}
 use Rattle.sx_layout.specs.declared.space.NoRoom.{NoRoom}
 use Rattle.sx_layout.specs.declared.space.NoRoom.TheVariants.{Ended, Crowded}
 use Rattle.sx_ledger.specs.declared.parts.Parts.{Parts}

@@ -2,25 +2,15 @@
 
 ghost use Rattle.std.specs.Prelude.{◌≡◌, ◌<◌, length, IfOk, IfSome, Ok, nat_le};
 ghost use Rattle.std.specs.List.{position_from};
-ghost use Rattle.sx_bytes.specs.declared.fault.ReadError.TheVariants as read_error;
 ghost use Rattle.sx_bytes.specs.Grammar.{MayDecodeOrStray, Gives, many_at};
 ghost use Rattle.sx_layout.specs.declared.script.Script.{Script};
 ghost use Rattle.sx_layout.specs.ScriptDecoding.{turn_at, script_fields_at, script_at};
 ghost use Rattle.sx_layout.specs.Scripts.{script_bytes, most_actors, IsScript};
 
+use crate::fault::fault_at;
 use crate::script::{MOST_ACTORS, MOST_TURNS, Script};
 use std::alloc::Global;
-use sx_bytes::{Bytes, Form, FormFault, ReadError, Reader};
-
-// The fault of what begins at this place.
-fn fault_at(at: usize, fault: Form) -> ReadError
-    ensures { result ≡ read_error.Form (record { at = at; fault = fault }) }
-{
-    ReadError::Form(FormFault {
-        at: at as u64,
-        fault,
-    })
-}
+use sx_bytes::{Bytes, Form, ReadError, Reader};
 
 // The place of the first turn of an actor that is not there.
 fn first_beyond(turns: &[u8], actors: u8) -> Option<usize>
@@ -30,7 +20,7 @@ fn first_beyond(turns: &[u8], actors: u8) -> Option<usize>
     turns.iter().position(|&turn| turn >= actors)
 }
 
-// So many turns. Their bytes are tested in one pass and copied at once.
+// Turns, as many as the count says. Their bytes are tested in one pass and copied at once.
 fn read_turns(alloc: Global, from: &mut Reader, actors: u8, count: u32) -> Result<Bytes, ReadError>
     ensures { MayDecodeOrStray (λ x. x) (many_at (turn_at actors) count from.old) from.new result }
 {

@@ -74,10 +74,8 @@ pub fn room(ledger: &Ledger, candidates: &[Tx]) -> Result<(), NoRoom>
     if ledger.height() == Ledger::MOST_HEIGHT {
         return Err(NoRoom::Ended);
     }
-    check_space(
-        ledger.accounts(),
-        creations(candidates),
-        Ledger::MOST_ACCOUNTS,
-    )?;
-    check_space(ledger.offers(), new_offers(candidates), Ledger::MOST_OFFERS)
+    let creations = creations(candidates);
+    check_space(ledger.accounts(), creations, Ledger::MOST_ACCOUNTS)?;
+    let offers = new_offers(candidates);
+    check_space(ledger.offers(), offers, Ledger::MOST_OFFERS)
 }

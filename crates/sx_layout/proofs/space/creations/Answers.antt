@@ -9,5 +9,7 @@ use Rattle.sx_layout.proofs.space.creations.Goals as goal
 
 pub returns-clause-number : goal.returns-clause-number
 returns-clause-number c =
-    count_from_yields_List c.filter.result c.count.result c.count.ensures.ran (YieldsList-from_filter _ (λ (tx : Tx). is_some (created_by tx.kind)) (YieldsList-from_slice c.args.candidates.now (cc)) c.filter.ensures.closure (λ x b q k. search (rules, tests)))
+    count_from_yields_List c.filter.result c.count.result c.count.ensures.ran
+    (YieldsList-from_filter _ (λ (tx : Tx). is_some (created_by tx.kind))
+    (YieldsList-from_slice c.args.candidates.now (cc)) c.filter.ensures.closure (λ x b q k. search (rules, tests)))
     ∙ length-filter_some (λ (tx : Tx). created_by tx.kind) c.args.candidates.now

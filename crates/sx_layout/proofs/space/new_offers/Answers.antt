@@ -9,5 +9,7 @@ use Rattle.sx_layout.proofs.space.new_offers.Goals as goal
 
 pub returns-clause-number : goal.returns-clause-number
 returns-clause-number c =
-    count_from_yields_List c.filter.result c.count.result c.count.ensures.ran (YieldsList-from_filter _ (λ (tx : Tx). is_some (made_by tx tx.kind)) (YieldsList-from_slice c.args.candidates.now (cc)) c.filter.ensures.closure (λ x b q k. search (rules, tests)))
+    count_from_yields_List c.filter.result c.count.result c.count.ensures.ran
+    (YieldsList-from_filter _ (λ (tx : Tx). is_some (made_by tx tx.kind))
+    (YieldsList-from_slice c.args.candidates.now (cc)) c.filter.ensures.closure (λ x b q k. search (rules, tests)))
     ∙ length-filter_some (λ (tx : Tx). made_by tx tx.kind) c.args.candidates.now
