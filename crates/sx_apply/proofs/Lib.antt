@@ -1,0 +1,3 @@
+pub mod Worth
+pub mod Pairs
+pub mod FillPlaces

@@ -1,8 +1,8 @@
 //! What rounding keeps.
 
-ghost use Rattle.std.specs.Prelude.{◌≡◌, ℕ, List, ◌<◌, ◌≤◌, length, slice_index, IfOk};
+ghost use Rattle.std.specs.Prelude.{◌≡◌, ℕ, List, ◌+◌, ◌^◌, ◌<◌, ◌≤◌, length, slice_index, All, IfOk};
+ghost use Rattle.sx_apply.specs.FillSums.{given_by, got_by};
 ghost use Rattle.sx_apply.specs.Trading.{AreFills};
-ghost use Rattle.sx_base.specs.Ranges.{most_assets};
 ghost use Rattle.sx_fill.specs.AllFills.{all_fills};
 ghost use Rattle.sx_ledger.specs.Fills.{Flow, IsRounding};
 
@@ -15,12 +15,34 @@ use sx_ledger::{Fill, Offer};
 const MOST_ASSETS: usize = AssetId::LIMIT as usize;
 
 // Adds what each fill gives and gets to the sums of its two assets.
-fn add_fills(given: &mut [u64], got: &mut [u64], offers: &[Offer], fills: &[Fill]) {
+fn add_fills(given: &mut [u64], got: &mut [u64], offers: &[Offer], fills: &[Fill])
+    requires places { All (λ fill. fill.place < length offers.now) fills.now }
+    requires sold { All (λ offer. offer.sell < length given.old) offers.now }
+    requires bought { All (λ offer. offer.buy < length got.old) offers.now }
+    requires given_fits { (asset : ℕ) → slice_index given.old asset + given_by offers.now fills.now asset < 2 ^ 64 }
+    requires got_fits { (asset : ℕ) → slice_index got.old asset + got_by offers.now fills.now asset < 2 ^ 64 }
+    ensures given { (asset : ℕ) → asset < length given.old → slice_index given.new asset ≡ slice_index given.old asset + given_by offers.now fills.now asset }
+    ensures got { (asset : ℕ) → asset < length got.old → slice_index got.new asset ≡ slice_index got.old asset + got_by offers.now fills.now asset }
+{
     for fill in fills {
         let offer = &offers[fill.place as usize];
         given[usize::from(offer.sell.get())] += fill.gives;
         got[usize::from(offer.buy.get())] += fill.gets;
     }
+}
+
+// The first numbers less the second ones, one by one.
+fn differences(alloc: Global, numbers: &[u64], less: &[u64]) -> Result<Vec<u64>, NoMemory>
+    requires enough { length numbers.now ≤ length less.now }
+    requires never_negative { (k : ℕ) → k < length numbers.now → slice_index less.now k ≤ slice_index numbers.now k }
+    ensures as_many { IfOk result (λ v. length v.items ≡ length numbers.now) }
+    ensures each { IfOk result (λ v. (k : ℕ) → k < length numbers.now → slice_index numbers.now k ≡ slice_index less.now k + slice_index v.items k) }
+{
+    let mut left = Vec::with_capacity(alloc, numbers.len())?;
+    for (place, number) in numbers.iter().enumerate() {
+        left.push(number - less[place])?;
+    }
+    Ok(left)
 }
 
 /// What a block keeps of each of `assets` assets by rounding, in whole units: what the fills of its
@@ -40,10 +62,6 @@ pub fn rounding_of(
     let mut given = [0; MOST_ASSETS];
     let mut got = [0; MOST_ASSETS];
     add_fills(&mut given, &mut got, offers, fills);
-    let kept = given[..assets as usize]
-        .iter()
-        .zip(&got)
-        .map(|(given, got)| given - got)
-        .collect(alloc)?;
+    let kept = differences(alloc, &given[..assets as usize], &got)?;
     Ok(Balances::of(kept))
 }

@@ -1,12 +1,12 @@
 //! Trading at the prices of a header.
 
-ghost use Rattle.std.specs.Prelude.{◌≡◌, ℕ, ◌+◌, ◌<◌, IfOk, slice_index};
+ghost use Rattle.std.specs.Prelude.{◌≡◌, ℕ, ◌+◌, ◌^◌, ◌<◌, IfOk, length, slice_index};
 ghost use Rattle.sx_apply.specs.Trading.{Clears, GetsItsValue, GivesItsValue, TradesInFull, TradesWithinLimits, held};
 ghost use Rattle.sx_block.specs.EffectLaws.{IsRounded, IsTradable};
 ghost use Rattle.sx_dual.specs.Tables.{value_of};
 ghost use Rattle.sx_fill.specs.AllFills.{all_fills};
 ghost use Rattle.sx_ledger.specs.Ledger.{assets_of, most_height};
-ghost use Rattle.sx_ledger.specs.Trade.{traded};
+ghost use Rattle.sx_ledger.specs.Trade.{added, traded};
 
 use crate::fills::fills_of;
 use crate::lessening::lessened;
@@ -19,7 +19,11 @@ use sx_ledger::{Accounts, Fill, Ledger, Offers, Parts};
 use sx_price::Prices;
 
 // Adds numbers one by one.
-fn add_each(numbers: &mut [u64], more: &[u64]) {
+fn add_each(numbers: &mut [u64], more: &[u64])
+    requires as_many { length more.now ≡ length numbers.old }
+    requires fits { (k : ℕ) → k < length numbers.old → slice_index numbers.old k + slice_index more.now k < 2 ^ 64 }
+    ensures { numbers.new ≡ added numbers.old more.now }
+{
     for place in 0..numbers.len() {
         numbers[place] += more[place];
     }
