@@ -59,9 +59,9 @@ module _ (f : ℕ → Offer → Fill) (whole : List Offer) where
           | inl trades ↦
               rw trades
               (sum_by-cons part fill (trading f (suc (length front)) back) ∙ ap₂ ◌+◌ here rest ∙ sym (sum_by-cons units o back))
-          | inr no ↦
-              let nothing : units o ≡ 0 = none (length front) o (omega (arith, ltb-false 0 fill.value no)) in
-              rw no (rest ∙ (let e : sum_by units back ≡ units o + sum_by units back = omega arith in e) ∙ sym (sum_by-cons units o back))
+          | inr stays ↦
+              let nothing : units o ≡ 0 = none (length front) o (omega (arith, ltb-false 0 fill.value stays)) in
+              rw stays (rest ∙ (let e : sum_by units back ≡ units o + sum_by units back = omega arith in e) ∙ sym (sum_by-cons units o back))
         ]
 
 -- ---- what all fills give and get
@@ -74,16 +74,16 @@ down_of_none : (price : ℕ) → rounded_down 0 price ≡ 0
 down_of_none price = zero-div price
 
 nothing_if : (test : Bool) (n : ℕ) → n ≡ 0 → cond test n 0 ≡ 0
-nothing_if test n e = elim (cases_Bool test) [ inl yes ↦ rw yes e | inr no ↦ rw no refl ]
+nothing_if test n e = elim (cases_Bool test) [ inl holds ↦ rw holds e | inr fails ↦ rw fails refl ]
 
 module _ (prices : List ℕ) (flow : Flow) (offers : List Offer) where
   abbrev fills : List Fill
   fills = all_fills prices flow offers
 
-  no_gives : (o : Offer) → value_of prices flow offers o ≡ 0 → gives prices flow offers o ≡ 0
+  pub no_gives : (o : Offer) → value_of prices flow offers o ≡ 0 → gives prices flow offers o ≡ 0
   no_gives o e = ap (λ (v : ℕ). rounded_up v (price_of prices o.sell)) e ∙ up_of_none (price_of prices o.sell)
 
-  no_gets : (o : Offer) → value_of prices flow offers o ≡ 0 → gets prices flow offers o ≡ 0
+  pub no_gets : (o : Offer) → value_of prices flow offers o ≡ 0 → gets prices flow offers o ≡ 0
   no_gets o e = ap (λ (v : ℕ). rounded_down v (price_of prices o.buy)) e ∙ down_of_none (price_of prices o.buy)
 
   pub given_is : (asset : ℕ) → given_by offers fills asset ≡ given prices flow offers asset

@@ -1,3 +1,7 @@
 pub mod Worth
 pub mod Pairs
 pub mod FillPlaces
+pub mod FillAdding
+pub mod Runs
+pub mod OffersLeft
+pub mod PaidAccounts
