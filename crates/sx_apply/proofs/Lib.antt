@@ -5,3 +5,4 @@ pub mod FillAdding
 pub mod Runs
 pub mod OffersLeft
 pub mod PaidAccounts
+pub mod FillTotals

@@ -1,4 +1,4 @@
-use Rattle.std.proofs.Common.{◌≡◌, ℕ, ◌+◌, ◌-◌, ◌<◌, ◌≤◌, ltb, List, [], ◌∷◌, ◌++◌, drop, get_or, length, take, Some, refl, sym, ap, subst, ◌∙◌, arith, rules}
+use Rattle.std.proofs.Common.{◌≡◌, ℕ, ◌+◌, ◌-◌, ◌<◌, ◌≤◌, ltb, List, [], ◌∷◌, ◌++◌, drop, get_or, length, set, take, Some, Vec, Global, refl, sym, ap, ap₂, subst, ◌∙◌, arith, rules}
 use Rattle.std.specs.Prelude.{All, slice_get}
 use Rattle.std.proofs.lemmas.List.{append-nil, length-set}
 use Rattle.sx_apply.proofs.OffersLeft.{AllWithin, after_within, fills_next, front_put, left_over, left_over_more, next_within, none_left, rest_put, rest_too, some_left, there_too, when_none, when_some}
@@ -30,14 +30,43 @@ loop-place-preserved c =
     let there = there_too whole current kept place o inv.long inv.rest lt c.index.ensures in
     let within : AllWithin whole c.next_given-gives.result.1.now =
     subst (AllWithin whole) (sym next.after) (after_within whole c.loop-place.left.now place inv.gives) in
+    let left = c.loop-place.left.now in
     elim c.match-left_of.branch [
       | in-Some w ↦
           let y = w.in-Some.offer in
-          let items : c.match-left_of.offers.items ≡ set current kept y = ap (λ (v : _). v.items) w.offers-is in
+          let items : c.match-left_of.offers.items ≡ set current kept y = ap (λ (v : Vec Offer Global). v.items) w.offers-is in
           let made = when_some (ltb 0 (o.amount - units)) (record o { amount = o.amount - units }) y (sym c.left_of.ensures ∙ w.in-Some.is) in
-          ?
+          record {
+            behind = omega (arith, w.kept-is, inv.behind);
+            long = ap length items ∙ length-set current kept y ∙ inv.long;
+            rest = ap (drop (place + 1)) items ∙ rest_put whole current kept place o inv.long inv.rest lt c.index.ensures y inv.behind;
+            gives = within;
+            traded =
+                λ prices flow is. let t = inv.traded prices flow is in (
+                  ap₂ (λ (n : ℕ) (xs : List Offer). take n xs) w.kept-is items
+                      ∙ front_put whole current kept place o inv.long inv.rest lt c.index.ensures y inv.behind
+                      ∙ ap₂ (λ (xs ys : List Offer). xs ++ ys) t.0
+                      (sym (some_left prices flow whole place o there left t.1 units next.gives made.0 ∙ ap (λ (z : Offer). z ∷ []) made.1))
+                      ∙ sym (left_over_more prices flow whole place o there),
+                  next.after ∙ fills_next prices flow whole place o there left t.1,
+                );
+          }
       | in_default w ↦
-          let items : c.match-left_of.offers.items ≡ current = ap (λ (v : _). v.items) w.offers-is in
+          let items : c.match-left_of.offers.items ≡ current = ap (λ (v : Vec Offer Global). v.items) w.offers-is in
           let none = when_none (ltb 0 (o.amount - units)) (record o { amount = o.amount - units }) (sym c.left_of.ensures ∙ w.in_default.is) in
-          ?
+          record {
+            behind = omega (arith, w.kept-is, inv.behind);
+            long = ap length items ∙ inv.long;
+            rest = ap (drop (place + 1)) items ∙ rest_too whole current kept place o inv.long inv.rest lt c.index.ensures;
+            gives = within;
+            traded =
+                λ prices flow is. let t = inv.traded prices flow is in (
+                  ap₂ (λ (n : ℕ) (xs : List Offer). take n xs) w.kept-is items ∙ t.0
+                      ∙ sym (left_over_more prices flow whole place o there
+                      ∙ ap (λ (xs : List Offer). left_over prices flow whole (take place whole) ++ xs)
+                      (none_left prices flow whole place o there left t.1 units next.gives none)
+                      ∙ append-nil (left_over prices flow whole (take place whole))),
+                  next.after ∙ fills_next prices flow whole place o there left t.1,
+                );
+          }
     ]

@@ -84,6 +84,17 @@ loop-fill-preserved c =
     let lt = c.requires.places k none c.loop-fill-test.true in
     let there = slice_get_read offers (length offers) at o refl lt c.index-offers-fill.is in
     elim c.match-find.branch [
-      | in-Some w ↦ let h = w.credit.ensures in let f = w.in-Some in let g = w.accounts-is in ?
-      | in_default w ↦ let h = w.in_default.ensures in let g = w.accounts-is in let f = c.find.ensures.absent in ?
+      | in-Some w ↦
+          let here : slice_get (ids accounts) w.in-Some.place ≡ Some o.account.0 =
+          ap (λ (xs : List ℕ). slice_get xs w.in-Some.place) (sym c.requires.index) ∙ w.in-Some.ensures.found in
+          let up : IsStrictlyIncreasing (ids accounts) = subst IsStrictlyIncreasing c.requires.index w.in-Some.ensures.by_id in
+          w.accounts-is
+          ∙ step_paid offers c.args.fills.now accounts c.loop-fill.accounts k none o c.loop-fill.invariant c.loop-fill-test.true there
+          w.in-Some.place w.index-accounts-place.result up here (buys_of offers accounts at o lt c.requires.assets c.index-offers-fill.is)
+          w.credit.new.account w.credit.ensures
+      | in_default w ↦
+          let absent : Contains (ids accounts) o.account.0 → ⊥ =
+          λ h. w.in_default.ensures.absent (subst (λ (xs : List ℕ). Contains xs o.account.0) (sym c.requires.index) h) in
+          w.accounts-is
+          ∙ step_none offers c.args.fills.now accounts c.loop-fill.accounts k none o c.loop-fill.invariant c.loop-fill-test.true there absent
     ]
