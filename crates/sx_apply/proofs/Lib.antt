@@ -6,3 +6,5 @@ pub mod Runs
 pub mod OffersLeft
 pub mod PaidAccounts
 pub mod FillTotals
+pub mod WrittenBack
+pub mod Trades

@@ -7,7 +7,7 @@ ghost use Rattle.sx_ledger.specs.Ledger.{balance_at, ids};
 use std::alloc::Global;
 use std::mem;
 use sx_base::{AssetId, Balances};
-use sx_ledger::{Account, AccountIndex, Fill, Offer};
+use sx_ledger::{Account, AccountIndex, Accounts, Fill, Offer};
 
 // Adds units of an asset to what an account holds.
 fn credit(alloc: Global, account: &mut Account, asset: AssetId, units: u64)
@@ -22,7 +22,7 @@ fn credit(alloc: Global, account: &mut Account, asset: AssetId, units: u64)
 }
 
 // Credits each seller with what the fills of his offers get.
-pub fn credit_sellers(
+fn credit_sellers(
     alloc: Global,
     accounts: &mut [Account],
     index: &AccountIndex,
@@ -32,7 +32,7 @@ pub fn credit_sellers(
     requires index { index.now ≡ ids accounts.old }
     requires places { All (λ fill. fill.place < length offers.now) fills.now }
     requires assets { All (λ offer. All (λ account. offer.buy < length account.balances) accounts.old) offers.now }
-    requires fits { All (λ account. (asset : ℕ) → balance_at asset account + proceeds_by offers.now fills.now account.id.0 asset < 2 ^ 64) accounts.old }
+    requires fits { All (λ account. (asset : ℕ) → asset < length account.balances → balance_at asset account + proceeds_by offers.now fills.now account.id.0 asset < 2 ^ 64) accounts.old }
     ensures { accounts.new ≡ map (paid_by offers.now fills.now) accounts.old }
 {
     for fill in fills {
@@ -41,4 +41,23 @@ pub fn credit_sellers(
             credit(alloc, &mut accounts[place as usize], offer.buy, fill.gets);
         }
     }
+}
+
+// The accounts, each with what the fills of its offers get.
+pub fn with_proceeds(
+    alloc: Global,
+    accounts: Accounts,
+    index: &AccountIndex,
+    offers: &[Offer],
+    fills: &[Fill],
+) -> Accounts
+    requires index { index.now ≡ ids accounts }
+    requires places { All (λ fill. fill.place < length offers.now) fills.now }
+    requires assets { All (λ offer. All (λ account. offer.buy < length account.balances) accounts) offers.now }
+    requires fits { All (λ account. (asset : ℕ) → asset < length account.balances → balance_at asset account + proceeds_by offers.now fills.now account.id.0 asset < 2 ^ 64) accounts }
+    ensures { result ≡ map (paid_by offers.now fills.now) accounts }
+{
+    let mut entries = accounts.into_items();
+    credit_sellers(alloc, &mut entries, index, offers, fills);
+    Accounts::of(entries)
 }

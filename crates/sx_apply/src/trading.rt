@@ -10,12 +10,12 @@ ghost use Rattle.sx_ledger.specs.Trade.{added, traded};
 
 use crate::fills::fills_of;
 use crate::lessening::lessened;
-use crate::proceeds::credit_sellers;
+use crate::proceeds::with_proceeds;
 use std::alloc::Global;
 use sx_base::Balances;
 use sx_block::Header;
 use sx_bytes::NoMemory;
-use sx_ledger::{Accounts, Fill, Ledger, Offers, Parts};
+use sx_ledger::{Fill, Ledger, Offers, Parts};
 use sx_price::Prices;
 
 // Adds numbers one by one.
@@ -27,6 +27,17 @@ fn add_each(numbers: &mut [u64], more: &[u64])
     for place in 0..numbers.len() {
         numbers[place] += more[place];
     }
+}
+
+// What a ledger keeps by rounding, with what a block keeps.
+fn with_rounding(rounding: Balances, more: &[u64]) -> Balances
+    requires as_many { length more.now ≡ length rounding }
+    requires fits { (k : ℕ) → k < length rounding → slice_index rounding k + slice_index more.now k < 2 ^ 64 }
+    ensures { result ≡ added rounding more.now }
+{
+    let mut numbers = rounding.into_items();
+    add_each(&mut numbers, more);
+    Balances::of(numbers)
 }
 
 // The ledger after these fills of its offers, at the prices of the header and with its rounding.
@@ -52,16 +63,12 @@ pub fn execute(
         accounts,
         offers,
     } = ledger.into_parts();
-    let mut rounding = rounding.into_items();
-    add_each(&mut rounding, header.rounding.items());
-    let mut accounts = accounts.into_items();
-    credit_sellers(alloc, &mut accounts, &index, offers.items(), fills);
     Ok(Ledger::of(Parts {
         version,
         height: height + 1,
         prices: Prices::of(prices),
-        rounding: Balances::of(rounding),
-        accounts: Accounts::of(accounts),
+        rounding: with_rounding(rounding, header.rounding.items()),
+        accounts: with_proceeds(alloc, accounts, &index, offers.items(), fills),
         offers: Offers::of(lessened(offers.into_items(), fills)),
     }))
 }

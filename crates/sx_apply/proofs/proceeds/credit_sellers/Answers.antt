@@ -71,7 +71,8 @@ credit-requires-clause-fits c =
     let up : IsStrictlyIncreasing (ids accounts) = subst IsStrictlyIncreasing c.requires.index c.in-Some.ensures.by_id in
     step_fits offers c.args.fills.now accounts c.loop-fill.accounts k none o c.loop-fill.invariant c.loop-fill-test.true there
     c.in-Some.place e up here (buys_of offers accounts at o lt c.requires.assets c.index-offers-fill.is)
-    (c.requires.fits c.in-Some.place e (slice_get_within_ids accounts c.in-Some.place o.account.0 here) o.buy)
+    (let within = slice_get_within_ids accounts c.in-Some.place o.account.0 here in
+    c.requires.fits c.in-Some.place e within o.buy (buys_of offers accounts at o lt c.requires.assets c.index-offers-fill.is c.in-Some.place e within))
 
 pub loop-fill-preserved : goal.loop-fill-preserved
 unfolding none

@@ -1,7 +1,14 @@
 use Rattle.std.proofs.Common.{◌≡◌, ℕ, ◌+◌, ◌<◌, ◌≤◌, List, get_or, length, replicate, sym, ap, ◌∙◌, arith, rules}
 use Rattle.std.proofs.lemmas.List.{get_or-replicate, length-replicate}
 use Rattle.sx_apply.proofs.FillTotals.{given_of, got_of, places_of, totals_of}
+use Rattle.sx_apply.proofs.WrittenBack.{written_back}
 use Rattle.sx_apply.proofs.rounding.rounding_of.Goals as goal
+
+zeros_long : (n : ℕ) (xs : List ℕ) → xs ≡ replicate n 0 → length xs ≡ n
+zeros_long n xs e = ap length e ∙ length-replicate n 0
+
+zero_at : (n : ℕ) (xs : List ℕ) (k : ℕ) → xs ≡ replicate n 0 → k < n → get_or xs k 0 ≡ 0
+zero_at n xs k e lt = ap (λ (ys : List ℕ). get_or ys k 0) e ∙ get_or-replicate n k 0 0 lt
 
 pub add_fills-requires-clause-places : goal.add_fills-requires-clause-places
 add_fills-requires-clause-places c =
@@ -12,10 +19,9 @@ add_fills-requires-clause-given_fits c =
     let f = c.requires.fills in
     let zeros : c.deref_mut.result.now ≡ replicate c.args.assets 0 =
     c.deref_mut.ensures.value ∙ c.in_ok-kept.ensures.items_if_clones_equal (λ y e. e) in
+    let long = zeros_long c.args.assets c.deref_mut.result.now zeros in
     λ asset lt.
-    let below : asset < c.args.assets = omega (arith, ap length zeros, length-replicate c.args.assets 0) in
-    let none : get_or c.deref_mut.result.now asset 0 ≡ 0 =
-    ap (λ (xs : List ℕ). get_or xs asset 0) zeros ∙ get_or-replicate c.args.assets asset 0 0 below in
+    let none = zero_at c.args.assets c.deref_mut.result.now asset zeros (omega arith) in
     let t = totals_of c.args.offers.now f.prices f.flow f.can_trade c.args.fills.now asset f.are
     (omega (arith, f.same_assets, f.can_trade.tradable.same_assets)) in
     omega (arith, t.0)
@@ -25,16 +31,28 @@ add_fills-requires-clause-got_fits c =
     let f = c.requires.fills in
     let zeros : c.deref_mut-2.result.now ≡ replicate c.args.assets 0 =
     c.deref_mut-2.ensures.value ∙ c.in_ok-got.ensures.items_if_clones_equal (λ y e. e) in
+    let long = zeros_long c.args.assets c.deref_mut-2.result.now zeros in
     λ asset lt.
-    let below : asset < c.args.assets = omega (arith, ap length zeros, length-replicate c.args.assets 0) in
-    let none : get_or c.deref_mut-2.result.now asset 0 ≡ 0 =
-    ap (λ (xs : List ℕ). get_or xs asset 0) zeros ∙ get_or-replicate c.args.assets asset 0 0 below in
+    let none = zero_at c.args.assets c.deref_mut-2.result.now asset zeros (omega arith) in
     let t = totals_of c.args.offers.now f.prices f.flow f.can_trade c.args.fills.now asset f.are
     (omega (arith, f.same_assets, f.can_trade.tradable.same_assets)) in
     omega (arith, t.0, t.1)
 
 pub subtract_each-requires-clause-never_negative : goal.subtract_each-requires-clause-never_negative
-subtract_each-requires-clause-never_negative c = let a = c.deref_mut-3.ensures.value in let b = c.deref.ensures.value in let d = c.add_fills.ensures in ?
+subtract_each-requires-clause-never_negative c =
+    let f = c.requires.fills in
+    let n = c.args.assets in
+    let zeros : c.deref_mut.result.now ≡ replicate n 0 =
+    c.deref_mut.ensures.value ∙ c.in_ok-kept.ensures.items_if_clones_equal (λ y e. e) in
+    let zeros2 : c.deref_mut-2.result.now ≡ replicate n 0 =
+    c.deref_mut-2.ensures.value ∙ c.in_ok-got.ensures.items_if_clones_equal (λ y e. e) in
+    let long = zeros_long n c.deref_mut.result.now zeros in
+    let long2 = zeros_long n c.deref_mut-2.result.now zeros2 in
+    let given : c.deref_mut-3.result.now ≡ c.add_fills.new.given = c.deref_mut-3.ensures.value ∙ written_back _ c.add_fills.new.given _ ? ? in
+    let got : c.deref.result.now ≡ c.add_fills.new.got = c.deref.ensures.value ∙ written_back _ c.add_fills.new.got _ ? ? in
+    λ k lt.
+    let none = zero_at n c.deref_mut.result.now k zeros (omega arith) in
+    ?
 
 pub returns-clause-kept : goal.returns-clause-kept
-returns-clause-kept c = let e = c.subtract_each.ensures in let a = c.of.ensures in ?
+returns-clause-kept c = ?
