@@ -1,5 +1,5 @@
 -- Offers that lose what their fills give, in place.
-use Rattle.std.proofs.Common.{◌≡◌, ℕ, zero, suc, ◌+◌, ◌-◌, ◌<◌, ◌≤◌, Bool, true, false, cond, eqb, ltb, List, [], ◌∷◌, ◌++◌, length, get_or, take, drop, set, map, None, Some, refl, sym, ap, ap₂, subst, ◌∙◌, inl, inr, arith}
+use Rattle.std.proofs.Common.{◌≡◌, ℕ, suc, ◌+◌, ◌-◌, ◌<◌, ◌≤◌, Bool, true, false, cond, eqb, ltb, List, [], ◌∷◌, ◌++◌, length, get_or, take, drop, set, map, None, Some, refl, sym, ap, ◌∙◌, inl, inr, arith}
 use Rattle.std.specs.Prelude.{All, IfSome, slice_get}
 use Rattle.std.specs.List.{filter}
 use Rattle.std.proofs.Math.Seq.{drop-cons}
@@ -8,11 +8,11 @@ use Rattle.std.proofs.lemmas.List.{drop-drop, drop-set-lt, map-append, take_more
 use Rattle.std.proofs.lemmas.List.Elements.{All-head, All-tail, filter-append}
 use Rattle.std.proofs.lemmas.Option.{get_or_from_slice_get, none-some, same_Some, slice_get_read, slice_get_within}
 use Rattle.sx_apply.specs.NextFill.{after_next, next_gives}
-use Rattle.sx_fill.specs.AllFills.{all_fills, fill_of}
+use Rattle.sx_fill.specs.AllFills.{fill_of}
 use Rattle.sx_fill.specs.PairFills.{trading}
 use Rattle.sx_ledger.specs.declared.fill.Fill.{Fill}
 use Rattle.sx_ledger.specs.declared.offer.Offer.{Offer}
-use Rattle.sx_ledger.specs.Fills.{Flow, gives, value_of}
+use Rattle.sx_ledger.specs.Fills.{Flow, gives}
 use Rattle.sx_ledger.specs.Trade.{offer_traded}
 use Rattle.sx_apply.proofs.FillPlaces.{no_gives}
 
@@ -77,7 +77,6 @@ module _ (f : ℕ → Offer → Fill) (placed : (place : ℕ) (o : Offer) → (f
 module _ (prices : List ℕ) (flow : Flow) (whole : List Offer) where
   abbrev pub left_over : List Offer → List Offer
   left_over os = filter (λ o. ltb 0 o.amount) (map (offer_traded prices flow whole) os)
-
 
   pub left_over_more : (place : ℕ) (o : Offer) → slice_get whole place ≡ Some o
       → left_over (take (place + 1) whole) ≡ left_over (take place whole) ++ left_over (o ∷ [])

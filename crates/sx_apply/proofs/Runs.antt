@@ -1,7 +1,7 @@
 -- The fills of all pairs, pair by pair.
-use Rattle.std.proofs.Common.{◌≡◌, ℕ, suc, ◌+◌, ◌<◌, ◌≤◌, true, false, eqb, ◌&&◌, List, [], ◌∷◌, ◌++◌, length, Some, refl, sym, ap, ap₂, subst, ◌∙◌, append_assoc, inl, inr, arith}
+use Rattle.std.proofs.Common.{◌≡◌, ℕ, ◌+◌, true, false, eqb, List, [], ◌∷◌, ◌++◌, length, Some, refl, sym, ap, ap₂, subst, ◌∙◌, append_assoc, inl, inr, arith}
 use Rattle.std.specs.Prelude.{slice_get}
-use Rattle.std.specs.List.{AllByRecursion, filter}
+use Rattle.std.specs.List.{AllByRecursion}
 use Rattle.std.proofs.lemmas.Bool.{cases_Bool, and_parts, eqb-true}
 use Rattle.std.proofs.lemmas.Option.{none-some, same_Some}
 use Rattle.sx_block.proofs.PairFills.{in_pair}
@@ -36,7 +36,8 @@ module _ (sell buy : ℕ) where
   none_of : (own : List Offer) (o : Offer) → of_pair sell buy o ≡ false → AllByRecursion (λ x. of_pair sell buy x ≡ true) own
       → AllByRecursion (λ x. of_pair o.sell o.buy x ≡ false) own
   none_of [] o other mine = tt
-  none_of (x ∷ own) o other mine = (elim (cases_Bool (of_pair o.sell o.buy x)) [
+  none_of (x ∷ own) o other mine = (
+    elim (cases_Bool (of_pair o.sell o.buy x)) [
       | inl same ↦
           let p = and_parts (eqb x.sell o.sell) (eqb x.buy o.buy) same in
           let q = and_parts (eqb x.sell sell) (eqb x.buy buy) mine.0 in
@@ -44,7 +45,9 @@ module _ (sell buy : ℕ) where
           let b : o.buy ≡ buy = sym (eqb-true x.buy o.buy p.1) ∙ eqb-true x.buy buy q.1 in
           let again = of_itself sell buy o s b in absurd cc
       | inr none ↦ none
-    ], none_of own o other mine.1)
+    ],
+    none_of own o other mine.1,
+  )
 
   others_same : (offers own others os : List Offer) → AllByRecursion (λ x. of_pair sell buy x ≡ true) own
       → AllByRecursion (λ o. of_pair sell buy o ≡ false) os

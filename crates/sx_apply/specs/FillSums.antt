@@ -29,8 +29,8 @@ abbrev pub proceeds_by : List Offer → List Fill → ℕ → ℕ → ℕ
 proceeds_by offers fills account asset =
     sum_by
     (λ fill.
-      of_offer (λ offer. if (offer.account.0 == account) && (offer.buy == asset) then fill.gets else 0)
-      (slice_get offers fill.place))
+    of_offer (λ offer. if (offer.account.0 == account) && (offer.buy == asset) then fill.gets else 0)
+    (slice_get offers fill.place))
     fills
 
 -- the balances from an asset on, each with what is got of its asset

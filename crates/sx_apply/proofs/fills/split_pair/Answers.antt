@@ -1,11 +1,9 @@
-use Rattle.std.proofs.Common.{◌≡◌, Bool, false, true, eqb, ◌&&◌, List, drop, take, refl, sym, ap, subst, ◌∙◌}
-use Rattle.std.specs.Prelude.{All}
+use Rattle.std.proofs.Common.{◌≡◌, false, true, drop, take, refl, sym, ap, subst, ◌∙◌}
 use Rattle.std.specs.List.{AllByRecursion}
 use Rattle.std.proofs.lemmas.List.{take-append-drop}
 use Rattle.std.proofs.lemmas.List.Elements.{All-from_recursion, recursion_from_All}
 use Rattle.sx_apply.proofs.Pairs.{none_after, of_pair, own_kept}
 use Rattle.sx_apply.proofs.fills.split_pair.Goals as goal
-use Rattle.sx_ledger.specs.declared.offer.Offer.{Offer}
 use Rattle.sx_ledger.specs.Bounds.{pair_of}
 use Rattle.sx_ledger.proofs.OfferOrder.{rising_is}
 

@@ -1,11 +1,9 @@
-use Rattle.std.proofs.Common.{◌≡◌, ℕ, ◌+◌, ◌-◌, ◌<◌, ◌≤◌, ltb, List, [], ◌∷◌, ◌++◌, drop, get_or, length, set, take, Some, Vec, Global, refl, sym, ap, ap₂, subst, ◌∙◌, arith, rules}
-use Rattle.std.specs.Prelude.{All, slice_get}
+use Rattle.std.proofs.Common.{◌≡◌, ℕ, ◌+◌, ◌-◌, ◌<◌, ltb, List, [], ◌∷◌, ◌++◌, drop, length, set, take, Vec, Global, sym, ap, ap₂, subst, ◌∙◌, arith, rules}
 use Rattle.std.proofs.lemmas.List.{append-nil, length-set}
 use Rattle.sx_apply.proofs.OffersLeft.{AllWithin, after_within, fills_next, front_put, left_over, left_over_more, next_within, none_left, rest_put, rest_too, some_left, there_too, when_none, when_some}
 use Rattle.sx_apply.proofs.lessening.lessened.Goals as goal
 use Rattle.sx_apply.proofs.lessening.lessened.Goals.{in-Some, in_default}
 use Rattle.sx_ledger.specs.declared.offer.Offer.{Offer}
-use Rattle.sx_ledger.specs.declared.fill.Fill.{Fill}
 
 pub left_of-requires : goal.left_of-requires
 left_of-requires c =

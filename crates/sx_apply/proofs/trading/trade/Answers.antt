@@ -2,7 +2,7 @@ use Rattle.std.proofs.Common.{◌≡◌, ℕ, ◌+◌, ◌<◌, sym, ap, ◌∙�
 use Rattle.std.specs.Prelude.{slice_index}
 use Rattle.std.proofs.lemmas.Result.{IfOk-weaker}
 use Rattle.sx_apply.specs.Trading.{held}
-use Rattle.sx_apply.proofs.Trades.{gets_its_value, gives_its_value, held_is, in_full, rounding_is, tradable_of, within_limits}
+use Rattle.sx_apply.proofs.Trades.{gives_its_value, held_is, in_full, rounding_is, tradable_of, within_limits}
 use Rattle.sx_apply.proofs.trading.trade.Goals as goal
 use Rattle.sx_dual.specs.Tables.{value_of}
 use Rattle.sx_ledger.specs.declared.parts.Parts.{Parts}
