@@ -1,1 +1,5 @@
 pub mod Invalid
+pub mod Repeats
+pub mod Rules
+pub mod Refusals
+pub mod Laws
