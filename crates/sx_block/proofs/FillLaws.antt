@@ -10,7 +10,7 @@ use Rattle.std.proofs.lemmas.List.Elements.{recursion_from_All}
 use Rattle.std.proofs.lemmas.List.Sums.{sum_by-cons}
 use Rattle.sx_block.specs.EffectLaws.{GivesWhatItHas, GivesLessThanOneMore, GetsLessThanOneLess, RoundingIsNeverNegative, IsTradable}
 use Rattle.sx_block.proofs.ListSums.{grouped, sum_by-filter}
-use Rattle.sx_block.proofs.OfferOrder.{Rising, rising_is}
+use Rattle.sx_ledger.proofs.OfferOrder.{Rising, rising_is}
 use Rattle.sx_block.proofs.PairFills.{pair_trades}
 use Rattle.sx_dual.specs.Circulation.{bought, sold}
 use Rattle.sx_dual.specs.Sums.{between}

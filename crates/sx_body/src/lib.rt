@@ -27,5 +27,6 @@ mod settled;
 mod used;
 
 pub use applying::{accounts_after, settle};
+pub use credits::Credits;
 pub use offers::offers_after;
 pub use overdraft::{Overdraft, first_overdraft};

@@ -1,0 +1,2 @@
+pub mod Trading
+pub mod Effects
