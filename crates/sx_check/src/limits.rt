@@ -1,6 +1,6 @@
 //! How many accounts and offers come: reason 9.
 
-ghost use Rattle.std.specs.Prelude.{◌≡◌, ◌≤◌, length, OnOk, IfErr};
+ghost use Rattle.std.specs.Prelude.{◌≡◌, ◌+◌, ◌<◌, ◌≤◌, ◌∷◌, [], length, OnOk, IfErr};
 ghost use Rattle.sx_block.specs.Block.{IsBlock};
 ghost use Rattle.sx_check.specs.Refusals.{RefusesEarly};
 ghost use Rattle.sx_check.specs.Rules.{CreatesOnce, HasRoom};
@@ -19,22 +19,38 @@ struct Growth {
     offers: u32,
 }
 
+impl Growth {
+    // Counts what one transaction adds.
+    fn count(&mut self, tx: &Tx)
+        requires accounts { self.old.accounts < most_transactions }
+        requires offers { self.old.offers < most_transactions }
+        ensures accounts { self.new.accounts ≡ self.old.accounts + length (created (tx.now ∷ [])) }
+        ensures offers { self.new.offers ≡ self.old.offers + length (made (tx.now ∷ [])) }
+        ensures at_most { self.new.accounts + self.new.offers ≤ self.old.accounts + self.old.offers + 1 }
+    {
+        match tx.kind {
+            Kind::Create { .. } => self.accounts += 1,
+            Kind::Offer { .. } => self.offers += 1,
+            Kind::Pay { .. } | Kind::Cancel { .. } => {}
+        }
+    }
+}
+
 // How many accounts some transactions create, and how many offers they make.
 fn growth_of(txs: &[Tx]) -> Growth
     requires few { length txs.now ≤ most_transactions }
     ensures accounts { result.accounts ≡ length (created txs.now) }
     ensures offers { result.offers ≡ length (made txs.now) }
+    ensures few { result.accounts + result.offers ≤ most_transactions }
 {
-    let mut accounts = 0;
-    let mut offers = 0;
+    let mut growth = Growth {
+        accounts: 0,
+        offers: 0,
+    };
     for tx in txs {
-        match tx.kind {
-            Kind::Create { .. } => accounts += 1,
-            Kind::Offer { .. } => offers += 1,
-            Kind::Pay { .. } | Kind::Cancel { .. } => {}
-        }
+        growth.count(tx);
     }
-    Growth { accounts, offers }
+    growth
 }
 
 // There are no more accounts and offers, with those that come, than there may be.

@@ -1,6 +1,6 @@
 //! Transactions that cancel or create again what one before them does: reasons 7 and 8.
 
-ghost use Rattle.std.specs.Prelude.{◌≡◌, ℕ, ◌<◌, None, length, slice_get, Some, IsTrue, IfNone, IfOk, IfSome, nat_eq, ◌+◌};
+ghost use Rattle.std.specs.Prelude.{◌≡◌, ◌≢◌, ℕ, ◌<◌, None, length, slice_get, Some, IsTrue, IfNone, IfOk, IfSome, nat_eq, ◌+◌};
 ghost use Rattle.std.specs.Bool.{OnFalse, OnTrue};
 ghost use Rattle.std.specs.List.{IsDistinct};
 ghost use Rattle.sx_bytes.specs.Grammar.{in_order};
@@ -39,6 +39,17 @@ fn cancelled_key(tx: &Tx) -> Option<Key>
     }
 }
 
+// Whether a transaction cancels the offer of this key.
+fn is_cancellation(tx: &Tx, key: &Key) -> bool
+    ensures yes { OnTrue result (cancels tx.now ≡ Some key.now) }
+    ensures no { OnFalse result (cancels tx.now ≢ Some key.now) }
+{
+    match cancelled_key(tx) {
+        Some(own) => own == *key,
+        None => false,
+    }
+}
+
 // Whether a transaction before the place cancels the offer of this key, which is one of the account
 // that stands there. The transactions of one account stand together, so it looks back over those alone.
 fn is_cancelled_before(txs: &[Tx], place: usize, key: &Key) -> bool
@@ -52,10 +63,10 @@ fn is_cancelled_before(txs: &[Tx], place: usize, key: &Key) -> bool
     while at > 0 {
         at -= 1;
         let tx = txs[at];
-        if tx.account != key.account {
+        if tx.account.0 != key.account.0 {
             return false;
         }
-        if cancelled_key(&tx) == Some(*key) {
+        if is_cancellation(&tx, key) {
             return true;
         }
     }
