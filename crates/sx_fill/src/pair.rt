@@ -10,7 +10,7 @@ ghost use Rattle.sx_ledger.specs.Order.{key_before};
 use std::alloc::Global;
 use sx_bytes::NoMemory;
 use sx_ledger::{Fill, Fills, Offer};
-use sx_price::{Price, units_down, units_up, value};
+use sx_price::{Price, units_down, units_up};
 
 /// Appends the fills of the offers of one pair, which stand in book order, where the sold asset has
 /// the price `sell`, the bought asset the price `buy`, and the pair trades the value `y`, in units of
@@ -29,12 +29,13 @@ pub fn push_fills(
     requires worth_an_amount { y ≤ buy * most_amount }
     ensures { OnOk result (fills.new.items ≡ fills.old.items ++ trading (pair_fill sell buy y offers.now) first offers.now) }
 {
+    let price = u128::from(sell.get());
     let mut left = y;
     for (place, offer) in offers.iter().enumerate() {
         if left == 0 {
             return Ok(());
         }
-        let traded = left.min(value(sell, offer.amount.get()));
+        let traded = left.min(price * u128::from(offer.amount.get()));
         fills.push(Fill {
             place: first + place as u32,
             value: traded,
