@@ -4,7 +4,7 @@ use Rattle.sha2.specs.Sha256.{sha256}
 use Rattle.sx_block.specs.declared.header.Block.{Block}
 use Rattle.sx_block.specs.Validity.{digest_of_ledger, flow_of_block, high_in, ledger_after, low_in, undropped_low_in}
 use Rattle.sx_body.specs.Overdraft.{IsFirstOverdrawn}
-use Rattle.sx_body.specs.Screen.{IsFirstRefused}
+use Rattle.sx_body.specs.Refusal.{IsFirstRefused}
 use Rattle.sx_check.specs.declared.fault.CheckFault.{CheckFault}
 use Rattle.sx_check.specs.declared.fault.CheckFault.TheVariants as check_fault
 use Rattle.sx_check.specs.declared.invalid.Invalid.{Invalid}
