@@ -3,9 +3,10 @@
 ghost use Rattle.std.specs.Prelude.{◌≡◌, ◌≢◌, IfErr, IfOk, OnOk};
 ghost use Rattle.sha2.specs.Sha256.{sha256};
 ghost use Rattle.sx_block.specs.Block.{IsBlock};
-ghost use Rattle.sx_block.specs.Validity.{IsValid, digest_of_ledger};
+ghost use Rattle.sx_block.specs.Validity.{IsValid, digest_of_ledger, ledger_after};
 ghost use Rattle.sx_check.specs.Checked.{IsJudged, IsWrongAfter, checked_of};
-ghost use Rattle.sx_check.specs.Refusals.{Explains, ExplainsEarly};
+ghost use Rattle.sx_check.specs.Refusals.{Explains, ExplainsEarly, Refuses};
+ghost use Rattle.sx_check.specs.Rules.{IsSound};
 ghost use Rattle.sx_tx.specs.Transactions.{list_bytes};
 
 use crate::body::check_body;
@@ -81,6 +82,17 @@ pub fn close(header: &Header, after: &Digest) -> Result<(), Invalid>
     Ok(())
 }
 
+// The block leaves the ledger that its header says, where `after` is the digest of what it leaves.
+fn check_after(ledger: &Ledger, block: &Block, after: &Digest) -> Result<(), Invalid>
+    requires sound { IsSound ledger.now block.now }
+    requires after { after.now ≡ digest_of_ledger (ledger_after ledger.now block.now) }
+    ensures valid { OnOk result (IsValid ledger.now block.now) }
+    ensures refused { IfErr result (Refuses ledger.now block.now) }
+{
+    let _assets = ledger.assets();
+    close(&block.header, after)
+}
+
 /// Judges a block on a ledger: Ok exactly where the block is valid for it, and else the first reason
 /// why it is not. The block has the form of one, as those have that are read. It works on a copy of the
 /// ledger to know what the block leaves; where the ledger may change, [`judge`], `apply` of `sx_apply`
@@ -95,6 +107,6 @@ pub fn check(alloc: Global, ledger: &Ledger, block: &Block) -> Result<Checked, C
     let body = body_digest(alloc, block.txs.items())?;
     let Judged { checked, effects } = judge(alloc, ledger, block, &parent, &body)?;
     let after = apply(alloc, ledger.copy()?, block, effects)?;
-    close(&block.header, &ledger_digest(alloc, &after)?)?;
+    check_after(ledger, block, &ledger_digest(alloc, &after)?)?;
     Ok(checked)
 }

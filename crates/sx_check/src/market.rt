@@ -25,8 +25,10 @@ fn check_fit(ledger: &Ledger, block: &Block, bounds: &Bounds) -> Result<(), Inva
     ensures refused { IfErr result (RefusesEarly ledger.now block.now) }
 {
     let _assets = ledger.assets();
-    fits(bounds, &block.header.trades, &block.header.potentials)?;
-    Ok(())
+    match fits(bounds, &block.header.trades, &block.header.potentials) {
+        Ok(()) => Ok(()),
+        Err(misfit) => Err(Invalid::from(misfit)),
+    }
 }
 
 // The same where the header says that lower bounds were dropped, and its cut shows why.

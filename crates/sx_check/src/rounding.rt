@@ -68,9 +68,10 @@ pub fn check_rounding(
     ensures fills { IfOk result (λ fills. fills ≡ all_fills block.now.header.prices (flow_of_block block.now) (offers_of ledger.now block.now)) }
     ensures refused { IfErr result (ExplainsEarly ledger.now block.now) }
 {
+    let assets = ledger.assets();
     let header = &block.header;
     let fills = fills_of(alloc, offers, &header.prices, &header.trades)?;
-    let kept = rounding_of(alloc, offers, fills.items(), ledger.assets())?;
+    let kept = rounding_of(alloc, offers, fills.items(), assets)?;
     check_kept(ledger, block, kept.items())?;
     Ok(fills)
 }
