@@ -1,15 +1,13 @@
 -- Tables of what offers are worth: one offer more, and what makes them bounds.
-use Rattle.std.proofs.Common.{◌≡◌, ◌≢◌, ℕ, zero, suc, ◌+◌, ◌-◌, ◌*◌, ◌/◌, ◌%◌, ◌^◌, ◌<◌, ◌≤◌, Bool, true, false, List, [], ◌∷◌, ◌++◌, length, get_or, take, drop, sum_by, inl, inr, refl, sym, ap, ap₂, subst, ◌∙◌, length-append, add-one, arith}
+use Rattle.std.proofs.Common.{◌≡◌, ◌≢◌, ℕ, suc, ◌+◌, ◌*◌, ◌/◌, ◌%◌, ◌^◌, ◌<◌, ◌≤◌, Bool, false, List, [], ◌∷◌, ◌++◌, length, get_or, take, drop, sum_by, inl, inr, refl, sym, ap, ap₂, subst, ◌∙◌, length-append, add-one, arith}
 use Rattle.std.specs.Prelude.{All, ◌==◌, ◌&&◌, if◌then◌else◌, slice_index}
 use Rattle.std.specs.List.{filter}
-use Rattle.std.proofs.lemmas.Bool.{and_parts, cases_Bool, cases_eq, cases_lt, eq-eqb, eqb-true, ne_eqb}
+use Rattle.std.proofs.lemmas.Bool.{and_parts, cases_Bool, cases_eq, cases_lt, eq-eqb, eqb-true}
 use Rattle.std.proofs.lemmas.List.{get_or_default}
 use Rattle.std.proofs.lemmas.List.Elements.{All-head, All-tail, filter-append}
 use Rattle.std.proofs.lemmas.List.Sums.{sum_by-append, sum_by-cons}
-use Rattle.std.proofs.lemmas.Nat.{mul-add-lt}
-use Rattle.std.proofs.Math.Nat.{div-lt_iff_lt-mul, mul-add, mul-le-mul_left, mul-le-mul_right}
+use Rattle.std.proofs.Math.Nat.{div-lt_iff_lt-mul, mul-add, mul-le-mul_right}
 use Rattle.std.proofs.Math.Seq.{drop-length, take-append_seam, take-suc}
-use Rattle.sx_base.specs.Ranges.{most_amount}
 use Rattle.sx_check.specs.Bounds.{AreOffers, AreValues, HasBounds, IsOfPair}
 use Rattle.sx_dual.specs.Tables.{AreBounds, BoundsTable, IsAssetCount, IsTable, entry_at}
 use Rattle.sx_ledger.specs.declared.offer.Offer.{Offer}
@@ -17,7 +15,6 @@ use Rattle.sx_ledger.specs.Bounds.{amounts, high_of as high_at, low_of as low_at
 use Rattle.sx_ledger.specs.Ledger.{offered}
 use Rattle.sx_ledger.proofs.MustWithinMay.{low_within_high}
 use Rattle.sx_price.specs.Limits.{IsPrice}
-use Rattle.sx_tx.specs.Transactions.{IsAmount}
 
 -- ---- amounts of a pair
 
@@ -37,7 +34,11 @@ amounts_le test sell buy (offer ∷ offers) =
           let here : offered sell offer ≡ offer.amount = rw sold refl in
           elim (cases_Bool (test offer)) [
             | inl keeps ↦ rw (pair, keeps)
-                (omega (arith, sum_by-cons (λ (offer : Offer). offer.amount) offer (filter test (pair_of sell buy offers))))
+                (omega (
+                  arith,
+                  sum_by-cons (λ (offer : Offer). offer.amount) offer
+                      (filter test (pair_of sell buy offers)),
+                ))
             | inr drops ↦ rw (pair, drops) (omega arith)
           ]
       | inr other ↦ rw other (omega arith)
@@ -53,7 +54,7 @@ none_for_itself n asset (offer ∷ offers) pairs =
       | inl pair ↦ absurd (
           let both = and_parts (offer.sell == asset) (offer.buy == asset) pair in
           first.differ (eqb-true offer.buy asset both.1 ∙ sym (eqb-true offer.sell asset both.0))
-        )
+          )
       | inr other ↦ rw other rest
     ]
 
@@ -83,7 +84,7 @@ module _ (n : ℕ) (prices : List ℕ) (test : Offer → Bool) (before : List Of
     (pair : IsOfPair n offer) (values : AreValues n prices test before old) (full : length new ≡ length old)
     (small : (place : ℕ) → slice_index new place ≤ slice_index old place + 2 ^ 102)
     (here : entry_at n new offer.sell offer.buy ≡ entry_at n old offer.sell offer.buy
-        + (if test offer then price_of prices offer.sell * offer.amount else 0))
+    + (if test offer then price_of prices offer.sell * offer.amount else 0))
     (elsewhere : (place : ℕ) → place ≢ offer.sell * n + offer.buy → slice_index new place ≡ slice_index old place) where
   abbrev worth : ℕ → ℕ → List Offer → ℕ
   worth sell buy offers = price_of prices sell * amounts (filter test (pair_of sell buy offers))
@@ -92,18 +93,20 @@ module _ (n : ℕ) (prices : List ℕ) (test : Offer → Bool) (before : List Of
   split : (sell buy : ℕ) → amounts (filter test (pair_of sell buy (before ++ (offer ∷ []))))
       ≡ amounts (filter test (pair_of sell buy before)) + amounts (filter test (pair_of sell buy (offer ∷ [])))
   split sell buy =
-      ap (λ (xs : List Offer). amounts (filter test xs)) (filter-append (λ offer. (offer.sell == sell) && (offer.buy == buy)) before (offer ∷ []))
+      ap (λ (xs : List Offer). amounts (filter test xs))
+      (filter-append (λ offer. (offer.sell == sell) && (offer.buy == buy)) before (offer ∷ []))
       ∙ ap amounts (filter-append test (pair_of sell buy before) (pair_of sell buy (offer ∷ [])))
-      ∙ sum_by-append (λ (offer : Offer). offer.amount) (filter test (pair_of sell buy before)) (filter test (pair_of sell buy (offer ∷ [])))
+      ∙ sum_by-append (λ (offer : Offer). offer.amount) (filter test (pair_of sell buy before))
+      (filter test (pair_of sell buy (offer ∷ [])))
 
   own : amounts (filter test (pair_of offer.sell offer.buy (offer ∷ []))) ≡ (if test offer then offer.amount else 0)
   own =
       rw (eq-eqb offer.sell offer.sell refl, eq-eqb offer.buy offer.buy refl)
-      (elim (cases_Bool (test offer)) [ | inl keeps ↦ rw keeps (omega arith) | inr drops ↦ rw drops refl ])
+      (elim (cases_Bool (test offer)) [ inl keeps ↦ rw keeps (omega arith) | inr drops ↦ rw drops refl ])
 
   added : price_of prices offer.sell * (if test offer then offer.amount else 0)
       ≡ (if test offer then price_of prices offer.sell * offer.amount else 0)
-  added = elim (cases_Bool (test offer)) [ | inl keeps ↦ rw keeps refl | inr drops ↦ rw drops (omega arith) ]
+  added = elim (cases_Bool (test offer)) [ inl keeps ↦ rw keeps refl | inr drops ↦ rw drops (omega arith) ]
 
   own_value : entry_at n new offer.sell offer.buy ≡ worth offer.sell offer.buy (before ++ (offer ∷ []))
   own_value =
@@ -111,8 +114,10 @@ module _ (n : ℕ) (prices : List ℕ) (test : Offer → Bool) (before : List Of
       let sum : worth offer.sell offer.buy (before ++ (offer ∷ [])) ≡ price_of prices offer.sell
       * (amounts (filter test (pair_of offer.sell offer.buy before)) + (if test offer then offer.amount else 0)) =
       ap (λ (x : ℕ). price_of prices offer.sell * x)
-      (split offer.sell offer.buy ∙ ap (λ (x : ℕ). amounts (filter test (pair_of offer.sell offer.buy before)) + x) own) in
-      let parts = mul-add (price_of prices offer.sell) (amounts (filter test (pair_of offer.sell offer.buy before))) (if test offer then offer.amount else 0) in
+      (split offer.sell offer.buy ∙ ap (λ (x : ℕ). amounts (filter test (pair_of offer.sell offer.buy before)) + x)
+      own) in
+      let parts = mul-add (price_of prices offer.sell) (amounts (filter test (pair_of offer.sell offer.buy before)))
+      (if test offer then offer.amount else 0) in
       here ∙ omega (arith, was, sum, parts, added)
 
   other_none : (sell buy : ℕ) → ((sell ≡ offer.sell) × (buy ≡ offer.buy) → ⊥) → pair_of sell buy (offer ∷ []) ≡ []
@@ -121,7 +126,7 @@ module _ (n : ℕ) (prices : List ℕ) (test : Offer → Bool) (before : List Of
         | inl same ↦ absurd (
             let both = and_parts (offer.sell == sell) (offer.buy == buy) same in
             other (sym (eqb-true offer.sell sell both.0), sym (eqb-true offer.buy buy both.1))
-          )
+            )
         | inr differs ↦ rw differs refl
       ]
 
@@ -132,7 +137,8 @@ module _ (n : ℕ) (prices : List ℕ) (test : Offer → Bool) (before : List Of
       λ e. other (one_place n sell buy offer.sell offer.buy b pair.buy e) in
       let none : amounts (filter test (pair_of sell buy (offer ∷ []))) ≡ 0 =
       ap (λ (xs : List Offer). amounts (filter test xs)) (other_none sell buy other) in
-      let sum : amounts (filter test (pair_of sell buy (before ++ (offer ∷ [])))) ≡ amounts (filter test (pair_of sell buy before)) =
+      let sum : amounts (filter test (pair_of sell buy (before ++ (offer ∷ [])))) ≡ amounts
+      (filter test (pair_of sell buy before)) =
       omega (arith, split sell buy, none) in
       elsewhere (sell * n + buy) apart ∙ values.values sell buy s b ∙ ap (λ (x : ℕ). price_of prices sell * x) (sym sum)
 
@@ -167,12 +173,14 @@ values_step n prices test counts offers i offer old new are lt is told values fu
     ∙ ap (λ (x : Offer). take i offers ++ (x ∷ [])) (sym is) in
     let counted : entry_at n new offer.sell offer.buy ≡ entry_at n old offer.sell offer.buy
     + (if test offer then price_of prices offer.sell * offer.amount else 0) =
-    subst (λ (b : Bool). entry_at n new offer.sell offer.buy ≡ entry_at n old offer.sell offer.buy + (if b then price_of prices offer.sell * offer.amount else 0)) told here in
+    subst (λ (b : Bool). entry_at n new offer.sell offer.buy ≡ entry_at n old offer.sell
+    offer.buy + (if b then price_of prices offer.sell * offer.amount else 0)) told here in
     subst (λ (xs : List Offer). AreValues n prices test xs new) (sym more)
     (values_more n prices test (take i offers) old new offer pair values full small counted elsewhere)
 
 -- a vector whose elements were changed as a slice
-pub put_back : (xs ys : List ℕ) (len : ℕ) → len ≡ length ys → length xs ≡ length ys → take len (xs ++ drop (length xs) ys) ≡ xs
+pub put_back : (xs ys : List ℕ) (len : ℕ) → len ≡ length ys → length xs ≡ length ys → take len
+    (xs ++ drop (length xs) ys) ≡ xs
 put_back xs ys len whole same =
     let none : drop (length xs) ys ≡ [] = ap (λ (k : ℕ). drop k ys) same ∙ drop-length ys in
     let at : len ≡ length xs = omega arith in
@@ -203,7 +211,8 @@ module _ (n : ℕ) (prices : List ℕ) (offers : List Offer) (count : IsAssetCou
         omega (arith, read, is, by_price, few);
     diagonal = λ asset lt.
         values.values asset asset lt lt
-        ∙ ap (λ (xs : List Offer). price_of prices asset * amounts (filter test xs)) (none_for_itself n asset offers are.pairs)
+        ∙ ap (λ (xs : List Offer). price_of prices asset * amounts (filter test xs))
+        (none_for_itself n asset offers are.pairs)
         ∙ omega arith;
   }
 
@@ -215,11 +224,18 @@ module _ (n : ℕ) (prices : List ℕ) (offers : List Offer) (count : IsAssetCou
     low = table (must_trade_at prices j) low lows;
     high = table (may_trade_at prices) high highs;
     ordered = λ sell buy s b.
-        omega (arith, lows.values sell buy s b, highs.values sell buy s b, low_within_high prices j false offers sell buy);
+        omega (
+          arith,
+          lows.values sell buy s b,
+          highs.values sell buy s b,
+          low_within_high prices j false offers
+              sell buy,
+        );
   }
 
 pub bounds_as : (n n' : ℕ) (low low' high high' : List ℕ) → n' ≡ n → low' ≡ low → high' ≡ high
-    → AreBounds (record { assets = n; low = low; high = high }) → AreBounds (record { assets = n'; low = low'; high = high' })
+    → AreBounds (record { assets = n; low = low; high = high }) → AreBounds
+    (record { assets = n'; low = low'; high = high' })
 bounds_as n n' low low' high high' counts lows highs are =
     subst (λ (n : ℕ). AreBounds (record { assets = n; low = low'; high = high' })) (sym counts)
     (subst (λ (low : List ℕ). AreBounds (record { assets = n; low = low; high = high' })) (sym lows)

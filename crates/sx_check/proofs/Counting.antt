@@ -12,7 +12,8 @@ take_more txs i tx lt is =
 
 pub count_more : {X : Type 0} (does : Tx → Option X) (txs : List Tx) (i : ℕ) (tx : Tx) → i < length txs
     → tx ≡ get_or txs i tx
-    → length (filter_map does (take (i + 1) txs)) ≡ length (filter_map does (take i txs)) + length (filter_map does (tx ∷ []))
+    → length (filter_map does (take (i + 1) txs)) ≡ length (filter_map does (take i txs)) + length
+    (filter_map does (tx ∷ []))
 count_more does txs i tx lt is =
     ap (λ (xs : List Tx). length (filter_map does xs)) (take_more txs i tx lt is)
     ∙ ap length (filter_map-append does (take i txs) (tx ∷ []))

@@ -1,16 +1,14 @@
 -- Fits, misfits and cuts look at the bounds of pairs alone, so tables with the same bounds tell the same.
-use Rattle.std.proofs.Common.{◌≡◌, ℕ, ◌<◌, ◌≤◌, Bool, true, false, Option, Some, None, inl, inr, refl, sym, ap, subst, ◌∙◌, arith}
+use Rattle.std.proofs.Common.{◌≡◌, ℕ, Option, Some, None, sym, ap, subst, ◌∙◌, arith}
 use Rattle.std.specs.Prelude.{if◌then◌else◌, is_some}
-use Rattle.std.proofs.lemmas.Bool.{cases_Bool}
 use Rattle.sx_block.specs.declared.header.Block.{Block}
 use Rattle.sx_block.specs.Block.{IsBlock}
 use Rattle.sx_block.specs.EffectLaws.{IsTradable}
 use Rattle.sx_block.specs.Validity.{CutHolds, flow_of_block, high_in, low_in, offers_of, undropped_low_in}
-use Rattle.sx_check.specs.declared.invalid.Invalid.{Invalid}
 use Rattle.sx_check.specs.Bounds.{HasBounds}
 use Rattle.sx_check.specs.Invalid.{reason_of}
 use Rattle.sx_check.specs.Refusals.{IsBlockMisfit, RefusesEarly}
-use Rattle.sx_check.specs.Rules.{HasBody, HasCut, HasFit}
+use Rattle.sx_check.specs.Rules.{HasBody, HasFit}
 use Rattle.sx_dual.specs.declared.cut.Cut.{Cut}
 use Rattle.sx_dual.specs.declared.misfit.Misfit.{Misfit}
 use Rattle.sx_dual.specs.declared.misfit.Misfit.TheVariants.{Outside, Unbalanced, Slack}
@@ -19,7 +17,7 @@ use Rattle.sx_dual.specs.Cuts.{IsCut, goes_in, goes_out, sum_in, sum_out}
 use Rattle.sx_dual.specs.Fit.{Fits, IsTight}
 use Rattle.sx_dual.specs.Misfit.{IsFirstPair, IsMisfit}
 use Rattle.sx_dual.specs.Sums.{EachPair}
-use Rattle.sx_dual.specs.Tables.{BoundsTable, high_of, low_of, potential_of}
+use Rattle.sx_dual.specs.Tables.{BoundsTable, high_of, low_of}
 use Rattle.sx_dual.proofs.SumLaws.{pair_sum-same}
 use Rattle.sx_ledger.specs.declared.parts.Parts.{Parts}
 use Rattle.sx_ledger.specs.Body.{body_after}
@@ -80,16 +78,20 @@ module _ (n : ℕ) (low high low' high' y : ℕ → ℕ → ℕ) (potential : �
 
   misfit_along : (misfit : Misfit) → IsMisfit n low high y potential misfit → IsMisfit n low' high' y potential misfit
   misfit_along (Outside sell buy least most value) m =
-      let first = m.0 in
-      (first_along (IsWithin low high y) (IsWithin low' high' y) within_along within_back sell buy first,
-      m.1 ∙ lows sell buy first.sell_below first.buy_below first.different,
-      m.2 ∙ highs sell buy first.sell_below first.buy_below first.different, m.3)
+      let first = m.0 in (
+        first_along (IsWithin low high y) (IsWithin low' high' y) within_along within_back sell buy first,
+        m.1 ∙ lows sell buy first.sell_below first.buy_below first.different,
+        m.2 ∙ highs sell buy first.sell_below first.buy_below first.different,
+        m.3,
+      )
   misfit_along (Unbalanced asset out into) m =
       (λ sell buy s b differ. within_along sell buy s b differ (m.0 sell buy s b differ), m.1, m.2, m.3)
-  misfit_along (Slack sell buy gain value) m =
-      (circulation_along m.0,
-      first_along (IsTight low high y potential) (IsTight low' high' y potential) tight_along tight_back sell buy m.1,
-      m.2, m.3)
+  misfit_along (Slack sell buy gain value) m = (
+    circulation_along m.0,
+    first_along (IsTight low high y potential) (IsTight low' high' y potential) tight_along tight_back sell buy m.1,
+    m.2,
+    m.3,
+  )
 
   cut_along : (set : ℕ) → IsCut n low high set → IsCut n low' high' set
   cut_along set is =
@@ -97,7 +99,8 @@ module _ (n : ℕ) (low high low' high' y : ℕ → ℕ → ℕ) (potential : �
       pair_sum-same n (λ s b. if goes_in set s b then low s b else 0) (λ s b. if goes_in set s b then low' s b else 0)
       (λ s b s_lt b_lt differ. ap (λ (x : ℕ). if goes_in set s b then x else 0) (lows s b s_lt b_lt differ)) in
       let out : sum_out n high set ≡ sum_out n high' set =
-      pair_sum-same n (λ s b. if goes_out set s b then high s b else 0) (λ s b. if goes_out set s b then high' s b else 0)
+      pair_sum-same n (λ s b. if goes_out set s b then high s b else 0)
+      (λ s b. if goes_out set s b then high' s b else 0)
       (λ s b s_lt b_lt differ. ap (λ (x : ℕ). if goes_out set s b then x else 0) (highs s b s_lt b_lt differ)) in
       omega (arith, is)
 
@@ -138,11 +141,13 @@ misfit_refuses parts block (Unbalanced asset out into) body m = record { refuses
 misfit_refuses parts block (Slack sell buy gain y) body m = record { refuses = (body, m); early = omega arith }
 
 -- where lower bounds are dropped they are all 0
-pub dropped_bounds : (parts : Parts) (block : Block) (cut : Cut) (bounds : BoundsTable) → block.header.dropped ≡ Some cut
+pub dropped_bounds : (parts : Parts) (block : Block) (cut : Cut) (bounds : BoundsTable)
+    → block.header.dropped ≡ Some cut
     → HasBounds (assets_of parts) (λ sell buy. 0) (high_in parts block) bounds
     → HasBounds (assets_of parts) (low_in parts block) (high_in parts block) bounds
 dropped_bounds parts block cut bounds dropped has =
-    subst (λ (o : Option Cut). HasBounds (assets_of parts) (low_at block.header.prices block.header.mu (is_some o) (offers_of parts block)) (high_in parts block) bounds)
+    subst (λ (o : Option Cut). HasBounds (assets_of parts)
+    (low_at block.header.prices block.header.mu (is_some o) (offers_of parts block)) (high_in parts block) bounds)
     (sym dropped) has
 
 -- and else they stay
@@ -150,7 +155,8 @@ pub kept_bounds : (parts : Parts) (block : Block) (bounds : BoundsTable) → blo
     → HasBounds (assets_of parts) (undropped_low_in parts block) (high_in parts block) bounds
     → HasBounds (assets_of parts) (low_in parts block) (high_in parts block) bounds
 kept_bounds parts block bounds kept has =
-    subst (λ (o : Option Cut). HasBounds (assets_of parts) (low_at block.header.prices block.header.mu (is_some o) (offers_of parts block)) (high_in parts block) bounds)
+    subst (λ (o : Option Cut). HasBounds (assets_of parts)
+    (low_at block.header.prices block.header.mu (is_some o) (offers_of parts block)) (high_in parts block) bounds)
     (sym kept) has
 
 pub cut_holds : (parts : Parts) (block : Block) (cut : Cut) → block.header.dropped ≡ Some cut

@@ -1,13 +1,11 @@
 -- The offers after the transactions of a block are those of a ledger, in which its flow can trade.
-use Rattle.std.proofs.Common.{◌≡◌, ◌≢◌, ℕ, ◌+◌, ◌<◌, ◌≤◌, List, length, sum_by, refl, sym, ap, subst, ◌∙◌, arith}
-use Rattle.std.specs.Prelude.{All, slice_index}
-use Rattle.std.proofs.lemmas.List.Elements.{All-weaker}
+use Rattle.std.proofs.Common.{◌≡◌, ◌≢◌, ℕ, ◌<◌, List, length, sym, ap, subst, ◌∙◌, arith}
+use Rattle.std.specs.Prelude.{slice_index}
 use Rattle.sx_apply.specs.Trading.{AreFills, CanTrade}
-use Rattle.sx_base.specs.Ranges.{most_amount}
 use Rattle.sx_block.specs.declared.header.Block.{Block}
 use Rattle.sx_block.specs.Block.{IsBlock}
 use Rattle.sx_block.specs.Validity.{flow_of_block, offers_of}
-use Rattle.sx_check.specs.Bounds.{AreOffers, IsOfPair}
+use Rattle.sx_check.specs.Bounds.{AreOffers}
 use Rattle.sx_check.specs.Refusals.{IsMisrounded}
 use Rattle.sx_check.specs.Rules.{HasBody, HasFit, Rounds}
 use Rattle.sx_check.proofs.MarketLaws.{fit_is_tradable}
@@ -16,7 +14,7 @@ use Rattle.sx_ledger.specs.declared.fill.Fill.{Fill}
 use Rattle.sx_ledger.specs.declared.offer.Offer.{Offer}
 use Rattle.sx_ledger.specs.declared.parts.Parts.{Parts}
 use Rattle.sx_ledger.specs.Body.{body_after}
-use Rattle.sx_ledger.specs.Ledger.{IsLedger, IsOffer, assets_of, offered, total_of}
+use Rattle.sx_ledger.specs.Ledger.{IsLedger, assets_of}
 use Rattle.sx_ledger.proofs.BodyKeepsLedger.{body_keeps_ledger}
 
 module _ (parts : Parts) (block : Block) (is : IsLedger parts) (form : IsBlock block) where

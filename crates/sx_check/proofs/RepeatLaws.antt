@@ -11,7 +11,7 @@ use Rattle.std.proofs.lemmas.Bool.{and_parts, cases_Bool, cases_lt, cases_order,
 use Rattle.std.proofs.lemmas.Map.Keys.{IsDistinct-cons, IsDistinct-head, IsDistinct-tail}
 use Rattle.std.proofs.lemmas.Option.{none-some, same_Some}
 use Rattle.sx_bytes.specs.Grammar.{in_order, may_follow}
-use Rattle.sx_check.specs.Repeats.{HoldsCreated, IsDoneBefore, IsFirstRepeat, Repeats, cancels, creates, done_at}
+use Rattle.sx_check.specs.Repeats.{HoldsCreated, IsFirstRepeat, Repeats, cancels, creates, done_at}
 use Rattle.sx_ledger.specs.declared.key.Key.{Key}
 use Rattle.sx_ledger.specs.Body.{cancelled, cancelled_by, created, tx_before}
 use Rattle.sx_ledger.specs.Order.{same_key}
@@ -46,7 +46,8 @@ module _ {X : Type 0} (P : X → Type 0) (rest : List X) where
   all-rest None all = all
   all-rest (Some y) all = all.1
 
-  all-cons : (o : Option X) → ((y : X) → o ≡ Some y → P y) → AllByRecursion P rest → AllByRecursion P (cons_option o rest)
+  all-cons : (o : Option X) → ((y : X) → o ≡ Some y → P y) → AllByRecursion P rest → AllByRecursion P
+      (cons_option o rest)
   all-cons None first all = all
   all-cons (Some y) first all = (first y refl, all)
 
@@ -55,7 +56,8 @@ module _ {X : Type 0} (same : X → X → Bool) (rest : List X) where
       → AllByRecursion (λ y. same x y ≡ false) rest
   distinct-first None x distinct is = absurd (none-some x is)
   distinct-first (Some y) x distinct is =
-      subst (λ (x : X). AllByRecursion (λ y. same x y ≡ false) rest) (same_Some y x is) (IsDistinct-head same y rest distinct)
+      subst (λ (x : X). AllByRecursion (λ y. same x y ≡ false) rest) (same_Some y x is)
+      (IsDistinct-head same y rest distinct)
 
   distinct-rest : (o : Option X) → IsDistinct same (cons_option o rest) → IsDistinct same rest
   distinct-rest None distinct = distinct
@@ -104,19 +106,23 @@ module _ {X : Type 0} (does : Tx → Option X) (same : X → X → Bool) where
   among P (tx ∷ txs) (suc place) x all done =
       among P txs place x (all-rest P (filter_map does txs) (does tx) all) done
 
-  twice : ((x : X) → same x x ≡ true) → (txs : List Tx) (first place : ℕ) (x : X) → IsDistinct same (filter_map does txs)
+  twice : ((x : X) → same x x ≡ true) → (txs : List Tx) (first place : ℕ) (x : X) → IsDistinct same
+      (filter_map does txs)
       → first < place → done_at does txs first ≡ Some x → done_at does txs place ≡ Some x → ⊥
   twice itself [] first place x distinct lt once again = none-some x once
   twice itself (tx ∷ txs) first zero x distinct lt once again = omega arith
   twice itself (tx ∷ txs) zero (suc place) x distinct lt once again =
       let differs : same x x ≡ false =
-      among (λ y. same x y ≡ false) txs place x (distinct-first same (filter_map does txs) (does tx) x distinct once) again in
+      among (λ y. same x y ≡ false) txs place x (distinct-first same (filter_map does txs) (does tx) x distinct
+      once) again in
       let equal = itself x in
       absurd cc
   twice itself (tx ∷ txs) (suc first) (suc place) x distinct lt once again =
-      twice itself txs first place x (distinct-rest same (filter_map does txs) (does tx) distinct) (omega arith) once again
+      twice itself txs first place x (distinct-rest same (filter_map does txs) (does tx) distinct) (omega arith)
+      once again
 
-  pub distinct_refutes : ((x : X) → same x x ≡ true) → (txs : List Tx) (place : ℕ) → IsDistinct same (filter_map does txs)
+  pub distinct_refutes : ((x : X) → same x x ≡ true) → (txs : List Tx) (place : ℕ) → IsDistinct same
+      (filter_map does txs)
       → Repeats does txs place → ⊥
   distinct_refutes itself txs place distinct r =
       twice itself txs r.before.first place r.what distinct r.before.earlier r.before.done r.again
@@ -162,7 +168,8 @@ before-le one other e =
       )
     ]
 
-from_first : (first : Tx) (txs : List Tx) → in_order tx_before (Some first) txs ≡ true → (j : ℕ) (d : Tx) → j < length txs
+from_first : (first : Tx) (txs : List Tx) → in_order tx_before (Some first) txs ≡ true → (j : ℕ) (d : Tx) → j <
+    length txs
     → first.account.0 ≤ (get_or txs j d).account.0
 from_first first [] ordered j d lt = absurd (omega arith)
 from_first first (tx ∷ txs) ordered zero d lt =
@@ -235,7 +242,7 @@ holds_more old new txs place id holds here added = record {
         | inl tied ↦ rw tied at (added q)
         | inr other ↦ elim (cases_lt before.first place) [
           | inl earlier ↦ rw other at (added q)
-            ∙ holds.all q (record { first = before.first; earlier = earlier; done = before.done })
+              ∙ holds.all q (record { first = before.first; earlier = earlier; done = before.done })
           | inr last ↦
               let at : before.first ≡ place = omega (arith, before.earlier) in
               let same : Some id ≡ Some q = sym here ∙ ap (done_at creates txs) (sym at) ∙ before.done in

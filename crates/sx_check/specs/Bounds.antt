@@ -21,7 +21,8 @@ pub record AreOffers (n : ℕ) (offers : List Offer) : Type 0 where
   pub in_range : (asset : ℕ) → asset < n → sum_by (offered asset) offers ≤ most_amount
 
 -- the entry of each pair is what those of its offers are worth that pass the test
-pub record AreValues (n : ℕ) (prices : List ℕ) (test : Offer → Bool) (offers : List Offer) (entries : List ℕ) : Type 0 where
+pub record AreValues (n : ℕ) (prices : List ℕ) (test : Offer → Bool) (offers : List Offer)
+    (entries : List ℕ) : Type 0 where
   pub full : length entries ≡ n * n
   pub small : (place : ℕ) → slice_index entries place ≤ length offers * 2 ^ 102
   pub values : (sell buy : ℕ) → sell < n → buy < n

@@ -12,7 +12,8 @@ use Rattle.sx_ledger.specs.Body.{body_after}
 -- a block is refused for one first reason at most
 abbrev pub OneReason : Type 0
 OneReason =
-    (parts : Parts) (block : Block) (one other : Invalid) → Refuses parts block one → Refuses parts block other → one ≡ other
+    (parts : Parts) (block : Block) (one other : Invalid) → Refuses parts block one → Refuses parts block other
+    → one ≡ other
 
 -- a valid block is refused for no reason
 abbrev pub ValidIsNotRefused : Type 0

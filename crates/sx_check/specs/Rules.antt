@@ -1,6 +1,6 @@
 -- What a block keeps of the rules for a ledger, rule after rule, in the order in which a checker looks for the first
 -- that is broken. Each record holds all rules up to its own.
-use Rattle.std.specs.Prelude.{◌≡◌, ℕ, ◌+◌, ◌<◌, ◌≤◌, List, length, All, Ok, nat_eq, slice_index}
+use Rattle.std.specs.Prelude.{◌≡◌, ℕ, ◌+◌, ◌<◌, ◌≤◌, length, All, Ok, nat_eq, slice_index}
 use Rattle.std.specs.List.{IsDistinct}
 use Rattle.sha2.specs.Sha256.{sha256}
 use Rattle.sx_block.specs.declared.header.Block.{Block}

@@ -39,7 +39,6 @@ fn check_cancellations(ledger: &Ledger, block: &Block) -> Result<(), Invalid>
     ensures once { OnOk result (CancelsOnce ledger.now block.now) }
     ensures refused { IfErr result (RefusesEarly ledger.now block.now) }
 {
-    let _assets = ledger.assets();
     if let Some(place) = first_cancelled_again(block.txs.items()) {
         return Err(Invalid::TwoCancels {
             index: place as u32,
@@ -55,7 +54,6 @@ fn check_creations(alloc: Global, ledger: &Ledger, block: &Block) -> Result<(), 
     ensures once { OnOk result (CreatesOnce ledger.now block.now) }
     ensures refused { IfErr result (ExplainsEarly ledger.now block.now) }
 {
-    let _assets = ledger.assets();
     if let Some(place) = first_created_again(alloc, block.txs.items())? {
         return Err(CheckFault::Invalid(Invalid::TwoNames {
             index: place as u32,

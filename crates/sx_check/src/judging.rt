@@ -89,7 +89,6 @@ fn check_after(ledger: &Ledger, block: &Block, after: &Digest) -> Result<(), Inv
     ensures valid { OnOk result (IsValid ledger.now block.now) }
     ensures refused { IfErr result (Refuses ledger.now block.now) }
 {
-    let _assets = ledger.assets();
     close(&block.header, after)
 }
 

@@ -24,7 +24,6 @@ fn check_fit(ledger: &Ledger, block: &Block, bounds: &Bounds) -> Result<(), Inva
     ensures fits { OnOk result (HasFit ledger.now block.now) }
     ensures refused { IfErr result (RefusesEarly ledger.now block.now) }
 {
-    let _assets = ledger.assets();
     match fits(bounds, &block.header.trades, &block.header.potentials) {
         Ok(()) => Ok(()),
         Err(misfit) => Err(Invalid::from(misfit)),
@@ -32,12 +31,7 @@ fn check_fit(ledger: &Ledger, block: &Block, bounds: &Bounds) -> Result<(), Inva
 }
 
 // The same where the header says that lower bounds were dropped, and its cut shows why.
-fn check_dropped(
-    ledger: &Ledger,
-    block: &Block,
-    bounds: Bounds,
-    cut: Cut,
-) -> Result<(), Invalid>
+fn check_dropped(ledger: &Ledger, block: &Block, bounds: Bounds, cut: Cut) -> Result<(), Invalid>
     requires form { IsBlock block.now }
     requires body { HasBody ledger.now block.now }
     requires dropped { block.now.header.dropped ≡ Some cut }
@@ -79,6 +73,7 @@ pub fn check_market(
     ensures cut { OnOk result (HasCut ledger.now block.now) }
     ensures refused { IfErr result (ExplainsEarly ledger.now block.now) }
 {
+    // The ledger keeps what a ledger keeps.
     let _assets = ledger.assets();
     let bounds = bounds_of(alloc, &block.header, offers)?;
     match block.header.dropped {

@@ -41,7 +41,6 @@ fn check_kept(ledger: &Ledger, block: &Block, kept: &[u64]) -> Result<(), Invali
     ensures sound { OnOk result (IsSound ledger.now block.now) }
     ensures refused { IfErr result (RefusesEarly ledger.now block.now) }
 {
-    let _assets = ledger.assets();
     let said = block.header.rounding.items();
     if let Some(place) = first_difference(said, kept) {
         return Err(Invalid::Rounding {

@@ -1,4 +1,4 @@
-use Rattle.std.proofs.Common.{◌≡◌, ℕ, ◌*◌, ◌++◌, length, take, drop, refl, sym, ap, ◌∙◌, arith}
+use Rattle.std.proofs.Common.{◌≡◌, ℕ, ◌*◌, ◌++◌, length, take, drop, refl, ap, ◌∙◌, arith}
 use Rattle.sx_check.proofs.BoundLaws.{are_bounds, bounds_as, has_bounds, put_back}
 use Rattle.sx_check.proofs.bounds.bounds_of.Goals as goal
 
@@ -15,8 +15,10 @@ of-requires c =
     let highs = put_back c.add_offers.new.high c.in_ok-high.high.items c.in_ok-high.high.len c.in_ok-high.high.ok.0
     (omega (arith, adds.high.full, size, c.in_ok-high.ensures.len, c.in_ok-high.high.ok.0)) in
     bounds_as n (length c.items-assets.result.now) c.add_offers.new.low
-    (take c.in_ok-low.low.len (c.add_offers.new.low ++ drop (length c.add_offers.new.low) c.in_ok-low.low.items)) c.add_offers.new.high
-    (take c.in_ok-high.high.len (c.add_offers.new.high ++ drop (length c.add_offers.new.high) c.in_ok-high.high.items)) counts lows highs
+    (take c.in_ok-low.low.len (c.add_offers.new.low ++ drop (length c.add_offers.new.low) c.in_ok-low.low.items))
+    c.add_offers.new.high
+    (take c.in_ok-high.high.len (c.add_offers.new.high ++ drop (length c.add_offers.new.high)
+    c.in_ok-high.high.items)) counts lows highs
     (are_bounds n prices c.args.offers.now c.requires.assets refl c.requires.prices c.requires.offers header.mu
     c.add_offers.new.low c.add_offers.new.high adds.low adds.high)
 

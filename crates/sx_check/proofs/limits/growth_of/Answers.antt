@@ -9,7 +9,19 @@ loop-tx-preserved c =
     let before = c.loop-tx.invariant in
     let adds = c.count.ensures in
     record {
-      accounts = omega (arith, count_more (λ tx. created_by tx.kind) c.args.txs.now c.loop-tx.tx-index tx c.loop-tx-test.true c.tx-item.is, before.accounts, adds.accounts);
-      offers = omega (arith, count_more (λ tx. made_by tx tx.kind) c.args.txs.now c.loop-tx.tx-index tx c.loop-tx-test.true c.tx-item.is, before.offers, adds.offers);
+      accounts = omega (
+        arith,
+        count_more (λ tx. created_by tx.kind) c.args.txs.now c.loop-tx.tx-index tx
+            c.loop-tx-test.true c.tx-item.is,
+        before.accounts,
+        adds.accounts,
+      );
+      offers = omega (
+        arith,
+        count_more (λ tx. made_by tx tx.kind) c.args.txs.now c.loop-tx.tx-index tx
+            c.loop-tx-test.true c.tx-item.is,
+        before.offers,
+        adds.offers,
+      );
       few = omega (arith, before.few, adds.at_most);
     }

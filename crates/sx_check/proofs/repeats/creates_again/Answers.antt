@@ -9,5 +9,6 @@ returns-clause-ids c =
     let tx = c.index-txs-place.result in
     on_false (not c.in_ok-added.added) (HoldsCreated c.insert.new.self txs (c.args.place + 1))
     (holds_more c.args.ids.now c.insert.new.self txs c.args.place c.in-Some.id c.requires.ids
-    (done-from creates txs c.args.place tx c.requires.within ∙ ap creates (sym c.index-txs-place.is) ∙ sym c.in-Some.ensures)
+    (done-from creates txs c.args.place tx c.requires.within ∙ ap creates (sym c.index-txs-place.is) ∙ sym
+    c.in-Some.ensures)
     c.in_ok-added.ensures.updates.0)

@@ -1,4 +1,4 @@
-use Rattle.std.proofs.Common.{◌≡◌, ◌≢◌, ℕ, ◌<◌, ◌≤◌, ◌-◌, length, get_or, inl, inr, sym, ap, ◌∙◌, arith}
+use Rattle.std.proofs.Common.{◌≡◌, ◌≢◌, ◌<◌, ◌-◌, length, get_or, inl, inr, sym, ap, ◌∙◌, arith}
 use Rattle.std.proofs.lemmas.Bool.{cases_lt}
 use Rattle.std.proofs.lemmas.Option.{slice_get-get_or}
 use Rattle.sx_base.specs.declared.account_id.AccountId.{AccountId}
@@ -16,10 +16,12 @@ returns-then-tx-key-clause-no c =
     let other : (get_or txs at tx).account.0 ≢ key.account.0 =
     λ e. c.if-tx-key.true (ap (λ (tx : Tx). tx.account.0) c.index-txs-at.is ∙ e) in
     let own : (get_or txs c.args.place tx).account.0 ≡ key.account.0 =
-    ap (λ (id : AccountId). id.0) (c.requires.own (get_or txs c.args.place tx) (slice_get-get_or txs c.args.place tx c.requires.within)) in
+    ap (λ (id : AccountId). id.0) (c.requires.own (get_or txs c.args.place tx)
+    (slice_get-get_or txs c.args.place tx c.requires.within)) in
     λ before. elim (cases_lt at before.first) [
       | inl behind ↦ c.loop-at.invariant.none before.first (omega arith) before.earlier before.done
-      | inr le ↦ none_before txs key before.first at c.args.place tx c.requires.ordered le (omega (arith, c.loop-at.invariant.within))
+      | inr le ↦ none_before txs key before.first at c.args.place tx c.requires.ordered le
+          (omega (arith, c.loop-at.invariant.within))
           c.requires.within other own before.done
     ]
 
@@ -48,7 +50,8 @@ loop-at-preserved c =
                 let same : at ≡ k = omega arith in
                 let lt : at < length txs = omega (arith, c.loop-at.invariant.within, c.requires.within) in
                 c.if-is_cancellation.ensures.no
-                (ap cancels c.index-txs-at.is ∙ sym (done-from cancels txs at tx lt) ∙ ap (done_at cancels txs) same ∙ done)
+                (ap cancels c.index-txs-at.is ∙ sym (done-from cancels txs at tx lt) ∙ ap (done_at cancels txs) same
+                ∙ done)
             | inr later ↦ c.loop-at.invariant.none k later high done
           ];
     }

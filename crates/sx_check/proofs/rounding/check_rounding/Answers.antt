@@ -1,4 +1,4 @@
-use Rattle.std.proofs.Common.{sym, ◌∙◌}
+use Rattle.std.proofs.Common.{◌∙◌}
 use Rattle.sx_check.proofs.OfferLaws.{are_fills, can_trade}
 use Rattle.sx_check.proofs.rounding.check_rounding.Goals as goal
 
