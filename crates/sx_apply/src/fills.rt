@@ -1,6 +1,6 @@
 //! What each offer trades.
 
-ghost use Rattle.std.specs.Prelude.{◌≡◌, ◌++◌, length, slice_get, All, IfOk, IfSome, IsTrue, None, OnOk, false, ◌==◌, ◌&&◌};
+ghost use Rattle.std.specs.Prelude.{◌≡◌, ◌≤◌, ◌++◌, length, slice_get, take, All, IfOk, IfSome, IsTrue, None, Some, true, false, ◌==◌, ◌&&◌};
 ghost use Rattle.sx_apply.specs.Trading.{CanTrade};
 ghost use Rattle.sx_bytes.specs.Grammar.{in_order};
 ghost use Rattle.sx_dual.specs.Tables.{value_of};
@@ -17,7 +17,11 @@ use sx_ledger::{Fills, Offer};
 use sx_price::Prices;
 
 // How many offers at the front are of the pair of this one.
-fn count_pair(offers: &[Offer], first: &Offer) -> usize {
+fn count_pair(offers: &[Offer], first: &Offer) -> usize
+    ensures within { result ≤ length offers.now }
+    ensures own { All (λ offer. ((offer.sell == first.now.sell) && (offer.buy == first.now.buy)) ≡ true) (take result offers.now) }
+    ensures next { IfSome (slice_get offers.now result) (λ offer. ((offer.sell == first.now.sell) && (offer.buy == first.now.buy)) ≡ false) }
+{
     for (place, offer) in offers.iter().enumerate() {
         if offer.sell != first.sell || offer.buy != first.buy {
             return place;

@@ -1,28 +1,43 @@
 //! Trading at the prices of a header.
 
-ghost use Rattle.std.specs.Prelude.{◌≡◌, ℕ, ◌+◌, ◌<◌, IfOk, slice_index};
+ghost use Rattle.std.specs.Prelude.{◌≡◌, ℕ, ◌+◌, ◌^◌, ◌<◌, IfOk, length, slice_index};
 ghost use Rattle.sx_apply.specs.Trading.{Clears, GetsItsValue, GivesItsValue, TradesInFull, TradesWithinLimits, held};
 ghost use Rattle.sx_block.specs.EffectLaws.{IsRounded, IsTradable};
 ghost use Rattle.sx_dual.specs.Tables.{value_of};
 ghost use Rattle.sx_fill.specs.AllFills.{all_fills};
 ghost use Rattle.sx_ledger.specs.Ledger.{assets_of, most_height};
-ghost use Rattle.sx_ledger.specs.Trade.{traded};
+ghost use Rattle.sx_ledger.specs.Trade.{added, traded};
 
 use crate::fills::fills_of;
 use crate::lessening::lessened;
-use crate::proceeds::credit_sellers;
+use crate::proceeds::with_proceeds;
 use std::alloc::Global;
 use sx_base::Balances;
 use sx_block::Header;
 use sx_bytes::NoMemory;
-use sx_ledger::{Accounts, Fill, Ledger, Offers, Parts};
+use sx_ledger::{Fill, Ledger, Offers, Parts};
 use sx_price::Prices;
 
 // Adds numbers one by one.
-fn add_each(numbers: &mut [u64], more: &[u64]) {
+fn add_each(numbers: &mut [u64], more: &[u64])
+    requires as_many { length more.now ≡ length numbers.old }
+    requires fits { (k : ℕ) → k < length numbers.old → slice_index numbers.old k + slice_index more.now k < 2 ^ 64 }
+    ensures { numbers.new ≡ added numbers.old more.now }
+{
     for place in 0..numbers.len() {
         numbers[place] += more[place];
     }
+}
+
+// What a ledger keeps by rounding, with what a block keeps.
+fn with_rounding(rounding: Balances, more: &[u64]) -> Balances
+    requires as_many { length more.now ≡ length rounding }
+    requires fits { (k : ℕ) → k < length rounding → slice_index rounding k + slice_index more.now k < 2 ^ 64 }
+    ensures { result ≡ added rounding more.now }
+{
+    let mut numbers = rounding.into_items();
+    add_each(&mut numbers, more);
+    Balances::of(numbers)
 }
 
 // The ledger after these fills of its offers, at the prices of the header and with its rounding.
@@ -48,16 +63,12 @@ pub fn execute(
         accounts,
         offers,
     } = ledger.into_parts();
-    let mut rounding = rounding.into_items();
-    add_each(&mut rounding, header.rounding.items());
-    let mut accounts = accounts.into_items();
-    credit_sellers(alloc, &mut accounts, &index, offers.items(), fills);
     Ok(Ledger::of(Parts {
         version,
         height: height + 1,
         prices: Prices::of(prices),
-        rounding: Balances::of(rounding),
-        accounts: Accounts::of(accounts),
+        rounding: with_rounding(rounding, header.rounding.items()),
+        accounts: with_proceeds(alloc, accounts, &index, offers.items(), fills),
         offers: Offers::of(lessened(offers.into_items(), fills)),
     }))
 }
