@@ -33,3 +33,6 @@ pub use fault::CheckFault;
 pub use invalid::Invalid;
 pub use judging::{check, close, judge};
 pub use laws::check_laws;
+
+#[cfg(test)]
+mod tests;
