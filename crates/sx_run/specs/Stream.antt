@@ -1,34 +1,26 @@
--- The two records that an input is made of.
-use Rattle.std.specs.Prelude.{◌≡◌, ℕ, ◌≤◌, List, [], ◌++◌, length, Option, None, Some, Result, Err}
-use Rattle.sx_record.specs.Frame.{most_bytes, record_bytes}
-use Rattle.sx_record.specs.Tags.{state_tag, block_tag}
+-- What a step of reading says of the bytes that a source had.
+use Rattle.std.specs.Prelude.{◌≡◌, ℕ, List, Option, None, Some, Result, Ok, Err}
+use Rattle.sx_bytes.specs.declared.fault.FormFault.{FormFault}
+use Rattle.sx_record.specs.Decoding.{StreamDecoding}
 use Rattle.sx_run.specs.declared.stop.Stop.{Stop}
 use Rattle.sx_run.specs.declared.stop.Stop.TheVariants as stop
+use Rattle.sx_run.specs.Inputs.{shifted}
 
--- the bytes begin with no record of this tag
-abbrev pub HasNoRecord : Option (List ℕ) → ℕ → Type 0
-HasNoRecord None tag = Unit {0}
-HasNoRecord (Some bytes) tag = (payload rest : List ℕ) → length payload ≤ most_bytes → bytes ≡ record_bytes tag payload ++ rest → ⊥
+-- A step answers what decoding makes of the bytes of a source that tells them, its value seen by view, and leaves of
+-- them what decoding leaves. Nothing is said of another source, nor where the step stopped for another reason.
+abbrev pub Reads : {X Y : Type 0} → (X → Y) → StreamDecoding Y → Option (List ℕ) → Option (List ℕ) → Result X Stop
+    → Type 0
+Reads view read None after answer = Unit {0}
+Reads view read (Some bytes) after (Ok x) = (rest : List ℕ) × (read bytes ≡ (Ok (view x), rest)) × (after ≡ Some rest)
+Reads view read (Some bytes) after (Err (stop.Malformed fault)) = (read bytes).0 ≡ Err fault
+Reads view read (Some bytes) after (Err _) = Unit {0}
 
--- bytes are left
-abbrev pub HasMore : Option (List ℕ) → Type 0
-HasMore None = Unit {0}
-HasMore (Some bytes) = bytes ≡ [] → ⊥
-
--- no bytes are left, before and after
-abbrev pub IsAtEnd : Option (List ℕ) → Option (List ℕ) → Type 0
-IsAtEnd None after = Unit {0}
-IsAtEnd (Some bytes) after = (bytes ≡ []) × (after ≡ Some [])
-
--- these two records are all that a source had, and it was read to its end
-abbrev pub TookBoth : Option (List ℕ) → Option (List ℕ) → List ℕ → List ℕ → Type 0
-TookBoth None after state block = Unit {0}
-TookBoth (Some bytes) after state block = (bytes ≡ record_bytes state_tag state ++ record_bytes block_tag block) × (after ≡ Some [])
-
--- no two records of a state and a block are all that a source had
-abbrev pub HasNotBoth : Option (List ℕ) → Type 0
-HasNotBoth None = Unit {0}
-HasNotBoth (Some bytes) = (state block : List ℕ) → length state ≤ most_bytes → length block ≤ most_bytes → bytes ≡ record_bytes state_tag state ++ record_bytes block_tag block → ⊥
+-- a step that reads no more bytes answers what decoding a payload gives, which begins at this offset, or out of memory
+abbrev pub Holds : {X Y : Type 0} → (X → Y) → ℕ → Result Y FormFault → Result X Stop → Type 0
+Holds view at read (Ok x) = read ≡ Ok (view x)
+Holds view at read (Err (stop.Malformed fault)) = shifted at read ≡ Err fault
+Holds view at read (Err stop.NoMemory) = Unit {0}
+Holds view at read (Err _) = ⊥
 
 -- a fact at each answer but ReadFault
 abbrev pub UnlessReadFault : {X : Type 0} → Result X Stop → Type 0 → Type 0
