@@ -1,8 +1,11 @@
 pub mod Words
+pub mod Command
 pub mod Stream
 pub mod Inputs
 pub mod Replays
 pub mod Status
 pub mod Texts
 pub mod Answers
+pub mod Checking
+pub mod Head
 pub mod Laws

@@ -1,7 +1,9 @@
 -- The codes of the answers, and what holds at some of them.
-use Rattle.std.specs.Prelude.{ℕ, Bool, true, false, ◌≡◌, ◌⊎◌}
+use Rattle.std.specs.Prelude.{ℕ, Bool, true, false}
 use Rattle.sx_run.specs.declared.status.Status.{Status}
 use Rattle.sx_run.specs.declared.status.Status.TheVariants.{Done, Usage, ReadFault, WriteFault, Malformed, Refused, NoMemory}
+use Rattle.sx_run.specs.declared.stop.Stop.{Stop}
+use Rattle.sx_run.specs.declared.stop.Stop.TheVariants as stop
 
 abbrev pub code_of : Status → ℕ
 code_of Done = 0
@@ -11,6 +13,13 @@ code_of WriteFault = 4
 code_of (Malformed fault) = 5
 code_of (Refused block why) = 6
 code_of NoMemory = 7
+
+-- the answer of a command that stopped
+abbrev pub status_at : Stop → Status
+status_at stop.NoMemory = NoMemory
+status_at stop.ReadFault = ReadFault
+status_at (stop.Malformed fault) = Malformed fault
+status_at (stop.Refused block why) = Refused block why
 
 -- the answers at which nothing is written
 abbrev pub is_silent : Status → Bool
@@ -31,7 +40,3 @@ UnlessReadFails _ fact = fact
 abbrev pub UnlessWriteFails : Status → Type 0 → Type 0
 UnlessWriteFails WriteFault fact = Unit {0}
 UnlessWriteFails _ fact = fact
-
--- the answer, or out of memory in its place
-abbrev pub Ends : Status → Status → Type 0
-Ends status answer = (status ≡ answer) ⊎ (status ≡ NoMemory)

@@ -1,14 +1,17 @@
-//! The line that says how a run ended.
+//! What the program prints beside records.
 
-ghost use Rattle.std.specs.Prelude.{◌≡◌, ◌++◌, IfOk, string_bytes};
-ghost use Rattle.sx_run.specs.Texts.{digests_text, reason_text, status_text};
+ghost use Rattle.std.specs.Prelude.{◌≡◌, ◌++◌, IfOk, codes, string_bytes};
+ghost use Rattle.std.specs.Fmt.{decimal, signed_decimal};
+ghost use Rattle.sx_run.specs.Texts.{bounds_text, checked_text, digests_text, fault_text, pair_text, reason_text, refusal_text, status_text};
 
-use crate::digest::Digest;
-use crate::invalid::Invalid;
 use crate::status::Status;
 use std::alloc::Global;
 use std::marker::Model;
-use sx_bytes::NoMemory;
+use sx_base::{AccountId, AssetId};
+use sx_block::Digest;
+use sx_bytes::{FormFault, NoMemory};
+use sx_check::{Checked, Invalid};
+use sx_dual::Cut;
 
 /// A line of text, with its line feed, or nothing. Contracts see its bytes.
 #[derive(Debug, Drop)]
@@ -41,40 +44,31 @@ fn digests(alloc: Global, said: &Digest, real: &Digest) -> Result<String, NoMemo
     Ok(format!(in alloc; " said {said} real {real}")?)
 }
 
+fn pair(alloc: Global, sell: AssetId, buy: AssetId) -> Result<String, NoMemory>
+    ensures { IfOk result (λ text. string_bytes text ≡ pair_text sell buy) }
+{
+    let sell = sell.get();
+    let buy = buy.get();
+    Ok(format!(in alloc; " sell {sell} buy {buy}")?)
+}
+
 fn reason(alloc: Global, why: &Invalid) -> Result<String, NoMemory>
     ensures { IfOk result (λ text. string_bytes text ≡ reason_text why.now) }
 {
-    let text = match why {
-        Invalid::WrongParent { said, real } => {
-            let digests = digests(alloc, said, real)?;
-            format!(in alloc; "3 WrongParent{digests}")?
-        }
-        Invalid::WrongBody { said, real } => {
-            let digests = digests(alloc, said, real)?;
-            format!(in alloc; "4 WrongBody{digests}")?
-        }
-        Invalid::Overdrawn {
-            account,
-            asset,
-            opening,
-            debits,
-        } => {
-            let account = account.0;
-            let asset = asset.get();
-            format!(in alloc;
-                "10 Overdrawn account {account} asset {asset} opening {opening} debits {debits}"
-            )?
-        }
-        Invalid::WrongAfter { said, real } => {
-            let digests = digests(alloc, said, real)?;
-            format!(in alloc; "16 WrongAfter{digests}")?
-        }
-    };
-    Ok(text)
+    todo
+}
+
+fn malformed(alloc: Global, fault: FormFault) -> Result<String, NoMemory>
+    ensures { IfOk result (λ text. string_bytes text ≡ fault_text fault) }
+{
+    let at = fault.at;
+    let number = fault.fault.number();
+    let name = fault.fault.name();
+    Ok(format!(in alloc; "malformed at {at}: {number} {name}\n")?)
 }
 
 fn refusal(alloc: Global, block: u32, why: &Invalid) -> Result<String, NoMemory>
-    ensures { IfOk result (λ text. string_bytes text ≡ status_text (Status.Refused block why.now)) }
+    ensures { IfOk result (λ text. string_bytes text ≡ refusal_text block why.now) }
 {
     let reason = reason(alloc, why)?;
     Ok(format!(in alloc; "refused block {block}: {reason}\n")?)
@@ -84,18 +78,28 @@ fn refusal(alloc: Global, block: u32, why: &Invalid) -> Result<String, NoMemory>
 pub fn status_line(alloc: Global, status: &Status) -> Result<Text, NoMemory>
     ensures { IfOk result (λ text. text ≡ status_text status.now) }
 {
-    let fixed = match status {
-        Status::Done => "",
-        Status::Usage => "usage: speedex seal, replay, check, show, interleave or demo N\n",
-        Status::ReadFault => "read fault\n",
-        Status::WriteFault => "write fault\n",
-        Status::NoMemory => "out of memory\n",
-        Status::NotBuilt => "not built\n",
-        Status::Refused { block, why } => {
-            let text = refusal(alloc, *block, why)?;
-            return Ok(Text { text });
+    let text = match status {
+        Status::Done => String::from_str(alloc, "")?,
+        Status::Usage => {
+            String::from_str(alloc, "usage: speedex seal, replay, check, show, interleave or demo N\n")?
         }
+        Status::ReadFault => String::from_str(alloc, "read fault\n")?,
+        Status::WriteFault => String::from_str(alloc, "write fault\n")?,
+        Status::NoMemory => String::from_str(alloc, "out of memory\n")?,
+        Status::Malformed(fault) => malformed(alloc, *fault)?,
+        Status::Refused { block, why } => refusal(alloc, *block, why)?,
     };
-    let text = String::from_str(alloc, fixed)?;
+    Ok(Text { text })
+}
+
+/// The line that says of a block that it is valid: its height, the value that it trades, in units of
+/// `2^-24`, and whether lower bounds were kept or dropped.
+pub fn check_line(alloc: Global, checked: &Checked) -> Result<Text, NoMemory>
+    ensures { IfOk result (λ text. text ≡ checked_text checked.now) }
+{
+    let height = checked.height;
+    let value = checked.value;
+    let bounds = if checked.dropped { "dropped" } else { "kept" };
+    let text = format!(in alloc; "valid height {height} value {value} bounds {bounds}\n")?;
     Ok(Text { text })
 }
