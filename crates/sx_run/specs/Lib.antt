@@ -7,5 +7,7 @@ pub mod Status
 pub mod Texts
 pub mod Answers
 pub mod Checking
+pub mod Replaying
+pub mod Running
 pub mod Head
 pub mod Laws

@@ -1,5 +1,5 @@
 -- The input of a replay: a state, and then blocks, each of which may have the outcomes of its candidates after it.
-use Rattle.std.specs.Prelude.{◌≡◌, ℕ, ◌+◌, ◌<◌, Bool, true, false, List, [], ◌∷◌, ◌++◌, length, fold, Option, None, Some, Result, Ok, Err, IsTrue, MatchBool, ◌==◌, if◌then◌else◌}
+use Rattle.std.specs.Prelude.{◌≡◌, ℕ, ◌+◌, ◌<◌, Bool, true, false, List, [], ◌∷◌, ◌++◌, length, fold, Option, None, Some, Result, Ok, Err, IsTrue, MatchBool, ◌==◌, ◌⊎◌}
 use Rattle.std.specs.List.{filter_map, flat_map}
 use Rattle.sx_block.specs.declared.header.Block.{Block}
 use Rattle.sx_block.specs.Decoding.{block_at}
@@ -14,7 +14,7 @@ use Rattle.sx_record.specs.declared.frame.Record.{Record}
 use Rattle.sx_record.specs.Decoding.{record_at}
 use Rattle.sx_record.specs.Frame.{record_bytes}
 use Rattle.sx_record.specs.Tags.{block_tag, outcomes_tag}
-use Rattle.sx_run.specs.Inputs.{block_record, fault_in, state_record}
+use Rattle.sx_run.specs.Inputs.{block_record, shifted, state_record}
 
 -- how many blocks a replay may have
 abbrev pub most_blocks : ℕ
@@ -82,14 +82,14 @@ standing_of parts items = fold stands_after (start parts) items
 
 -- ---- the first form fault
 
--- the tags of the records that may come next
-abbrev pub tags_after : Standing → List ℕ
-tags_after at = block_tag ∷ (if at.after_block then outcomes_tag ∷ [] else [])
+-- the tags of the records that may come next, after a block or not
+abbrev pub tags_after : Bool → List ℕ
+tags_after true = block_tag ∷ outcomes_tag ∷ []
+tags_after false = block_tag ∷ []
 
 -- a payload, which begins at this offset, has this fault
 abbrev pub HasFault : {X : Type 0} → ℕ → Result X FormFault → FormFault → Type 0
-HasFault at (Ok x) fault = ⊥
-HasFault at (Err inner) fault = fault ≡ fault_in at inner
+HasFault at decoded fault = shifted at decoded ≡ Err fault
 
 -- a block's record: one too many is told at its tag, before the payload is decoded
 abbrev pub IsFaultOfBlock : Standing → ℕ → Record → FormFault → Type 0
@@ -104,10 +104,11 @@ IsFaultOfRecord at offset found fault =
 
 -- what comes at this offset, where a replay stands so, is no record that may come, by this fault
 abbrev pub IsFaultOf : Standing → ℕ → Result (Option Record) FormFault → FormFault → Type 0
-IsFaultOf at offset (Err inner) fault = fault ≡ inner
+IsFaultOf at offset (Err first) fault = fault ≡ first
 IsFaultOf at offset (Ok None) fault = ⊥
 IsFaultOf at offset (Ok (Some found)) fault = IsFaultOfRecord at offset found fault
 
 -- the bytes from this offset on begin with this fault
 abbrev pub BeginsWithFault : Standing → ℕ → List ℕ → FormFault → Type 0
-BeginsWithFault at offset bytes fault = IsFaultOf at offset ((record_at (tags_after at) offset bytes).0) fault
+BeginsWithFault at offset bytes fault =
+    IsFaultOf at offset ((record_at (tags_after at.after_block) offset bytes).0) fault

@@ -38,8 +38,8 @@ reason_text (WrongBody said real) = codes "4 WrongBody" ++ digests_text said rea
 reason_text (WrongAssets have said) = codes "5 WrongAssets" ++ have_said have said
 reason_text (Tx index why) =
     codes "6 Tx index " ++ (decimal index ++ (codes " static " ++ decimal (number_of_static why)))
-reason_text (TwoCancels index) = codes "7 TwoCancels index " ++ decimal index
-reason_text (TwoNames index) = codes "8 TwoNames index " ++ decimal index
+reason_text (TwoCancels index) = codes "7 TwoCancels" ++ (codes " index " ++ decimal index)
+reason_text (TwoNames index) = codes "8 TwoNames" ++ (codes " index " ++ decimal index)
 reason_text (Crowded have more limit) =
     codes "9 Crowded have " ++ (decimal have ++ (codes " more " ++ (decimal more ++ (codes " limit " ++ decimal limit))))
 reason_text (Overdrawn account asset opening debits) =

@@ -12,7 +12,7 @@ ghost use Rattle.sx_run.specs.Stream.{Reads, UnlessReadFault};
 ghost use Rattle.sx_tx.specs.Transactions.{list_bytes};
 
 use crate::head::{Head, advance};
-use crate::opening::opening;
+use crate::opening::read_opening;
 use crate::payloads::{Incoming, block_of};
 use crate::stop::Stop;
 use crate::stream::{end, required};
@@ -44,7 +44,7 @@ fn read_input<S: Source>(alloc: Global, source: &mut S) -> Result<Input, Stop>
     ensures falls_never { S.faults source.old ≤ S.faults source.new }
     ensures kept { S.strict source.new ≡ S.strict source.old }
 {
-    let opening = opening(alloc, source)?;
+    let opening = read_opening(alloc, source)?;
     let found = required(alloc, source, opening.end, tag::BLOCK)?;
     let at_end = found.at + found.payload.items().len() as u64;
     let incoming = block_of(alloc, found)?;

@@ -24,7 +24,7 @@ pub struct Opening {
 }
 
 // The state, which has to be the first record.
-pub fn opening<S: Source>(alloc: Global, source: &mut S) -> Result<Opening, Stop>
+pub fn read_opening<S: Source>(alloc: Global, source: &mut S) -> Result<Opening, Stop>
     ensures exact { Reads (λ o. (o.head.ledger, o.end)) opening_at (S.left source.old) (S.left source.new) result }
     ensures took { IfOk result (λ o. Took (S.left source.old) (S.left source.new) (state_record o.head.ledger)) }
     ensures head { IfOk result (λ o. IsHead o.head) }

@@ -2,7 +2,7 @@
 
 ghost use Rattle.std.specs.Prelude.{◌≡◌, ◌++◌, IfOk, codes, string_bytes};
 ghost use Rattle.std.specs.Fmt.{decimal, signed_decimal};
-ghost use Rattle.sx_run.specs.Texts.{bounds_text, checked_text, digests_text, fault_text, pair_text, reason_text, refusal_text, status_text};
+ghost use Rattle.sx_run.specs.Texts.{bounds_text, checked_text, digests_text, fault_text, have_said, pair_text, reason_text, refusal_text, status_text};
 
 use crate::status::Status;
 use std::alloc::Global;
@@ -12,6 +12,7 @@ use sx_block::Digest;
 use sx_bytes::{FormFault, NoMemory};
 use sx_check::{Checked, Invalid};
 use sx_dual::Cut;
+use sx_ledger::Static;
 
 /// A line of text, with its line feed, or nothing. Contracts see its bytes.
 #[derive(Debug, Drop)]
@@ -36,14 +37,6 @@ impl Text {
     }
 }
 
-fn digests(alloc: Global, said: &Digest, real: &Digest) -> Result<String, NoMemory>
-    ensures { IfOk result (λ text. string_bytes text ≡ digests_text said.now real.now) }
-{
-    let said = hex::encode(alloc, said.bytes())?;
-    let real = hex::encode(alloc, real.bytes())?;
-    Ok(format!(in alloc; " said {said} real {real}")?)
-}
-
 fn pair(alloc: Global, sell: AssetId, buy: AssetId) -> Result<String, NoMemory>
     ensures { IfOk result (λ text. string_bytes text ≡ pair_text sell buy) }
 {
@@ -52,10 +45,141 @@ fn pair(alloc: Global, sell: AssetId, buy: AssetId) -> Result<String, NoMemory>
     Ok(format!(in alloc; " sell {sell} buy {buy}")?)
 }
 
+fn refused_alone(alloc: Global, index: u32, why: Static) -> Result<String, NoMemory>
+    ensures { IfOk result (λ text. string_bytes text ≡ reason_text (Invalid.Tx index why)) }
+{
+    let number = why.number();
+    Ok(format!(in alloc; "6 Tx index {index} static {number}")?)
+}
+
+fn crowded(alloc: Global, have: u32, more: u32, limit: u32) -> Result<String, NoMemory>
+    ensures { IfOk result (λ text. string_bytes text ≡ reason_text (Invalid.Crowded have more limit)) }
+{
+    Ok(format!(in alloc; "9 Crowded have {have} more {more} limit {limit}")?)
+}
+
+fn overdrawn(
+    alloc: Global,
+    account: AccountId,
+    asset: AssetId,
+    opening: u64,
+    debits: u128,
+) -> Result<String, NoMemory>
+    ensures { IfOk result (λ text. string_bytes text ≡ reason_text (Invalid.Overdrawn account asset opening debits)) }
+{
+    let account = account.0;
+    let asset = asset.get();
+    Ok(format!(in alloc;
+        "10 Overdrawn account {account} asset {asset} opening {opening} debits {debits}"
+    )?)
+}
+
+fn outside(
+    alloc: Global,
+    sell: AssetId,
+    buy: AssetId,
+    low: u128,
+    high: u128,
+    y: u128,
+) -> Result<String, NoMemory>
+    ensures { IfOk result (λ text. string_bytes text ≡ reason_text (Invalid.Outside sell buy low high y)) }
+{
+    let pair = pair(alloc, sell, buy)?;
+    Ok(format!(in alloc; "11 Outside{pair} low {low} high {high} y {y}")?)
+}
+
+fn unbalanced(alloc: Global, asset: AssetId, out: u128, into: u128) -> Result<String, NoMemory>
+    ensures { IfOk result (λ text. string_bytes text ≡ reason_text (Invalid.Unbalanced asset out into)) }
+{
+    let asset = asset.get();
+    Ok(format!(in alloc; "12 Unbalanced asset {asset} out {out} into {into}")?)
+}
+
+fn slack(
+    alloc: Global,
+    sell: AssetId,
+    buy: AssetId,
+    gain: i64,
+    y: u128,
+) -> Result<String, NoMemory>
+    ensures { IfOk result (λ text. string_bytes text ≡ reason_text (Invalid.Slack sell buy gain y)) }
+{
+    let pair = pair(alloc, sell, buy)?;
+    Ok(format!(in alloc; "13 Slack{pair} gain {gain} y {y}")?)
+}
+
+fn no_cut(alloc: Global, cut: Cut) -> Result<String, NoMemory>
+    ensures { IfOk result (λ text. string_bytes text ≡ reason_text (Invalid.NoCut cut)) }
+{
+    let digits = hex::encode(alloc, cut.0.to_be_bytes().as_slice())?;
+    Ok(format!(in alloc; "14 NoCut cut {digits}")?)
+}
+
+fn rounding(alloc: Global, asset: AssetId, said: u64, real: u64) -> Result<String, NoMemory>
+    ensures { IfOk result (λ text. string_bytes text ≡ reason_text (Invalid.Rounding asset said real)) }
+{
+    let asset = asset.get();
+    Ok(format!(in alloc; "15 Rounding asset {asset} said {said} real {real}")?)
+}
+
+// The name of a reason that has two digests, and the digests.
+fn digests(alloc: Global, name: &str, said: &Digest, real: &Digest) -> Result<String, NoMemory>
+    ensures { IfOk result (λ text. string_bytes text ≡ name.now ++ digests_text said.now real.now) }
+{
+    let said = hex::encode(alloc, said.bytes())?;
+    let real = hex::encode(alloc, real.bytes())?;
+    Ok(format!(in alloc; "{name} said {said} real {real}")?)
+}
+
+// The name of a reason that has two numbers, and the numbers.
+fn numbers(alloc: Global, name: &str, have: u64, said: u64) -> Result<String, NoMemory>
+    ensures { IfOk result (λ text. string_bytes text ≡ name.now ++ have_said have said) }
+{
+    Ok(format!(in alloc; "{name} have {have} said {said}")?)
+}
+
+// The name of a reason that has the index of a transaction, and the index.
+fn at_index(alloc: Global, name: &str, index: u32) -> Result<String, NoMemory>
+    ensures { IfOk result (λ text. string_bytes text ≡ name.now ++ (codes " index " ++ decimal index)) }
+{
+    Ok(format!(in alloc; "{name} index {index}")?)
+}
+
+// The number and the name of a reason, and its fields.
 fn reason(alloc: Global, why: &Invalid) -> Result<String, NoMemory>
     ensures { IfOk result (λ text. string_bytes text ≡ reason_text why.now) }
 {
-    todo
+    match *why {
+        Invalid::Ended => Ok(String::from_str(alloc, "1 Ended")?),
+        Invalid::WrongHeight { have, said } => numbers(alloc, "2 WrongHeight", have, said),
+        Invalid::WrongParent { said, real } => digests(alloc, "3 WrongParent", &said, &real),
+        Invalid::WrongBody { said, real } => digests(alloc, "4 WrongBody", &said, &real),
+        Invalid::WrongAssets { have, said } => {
+            numbers(alloc, "5 WrongAssets", u64::from(have), u64::from(said))
+        }
+        Invalid::Tx { index, why } => refused_alone(alloc, index, why),
+        Invalid::TwoCancels { index } => at_index(alloc, "7 TwoCancels", index),
+        Invalid::TwoNames { index } => at_index(alloc, "8 TwoNames", index),
+        Invalid::Crowded { have, more, limit } => crowded(alloc, have, more, limit),
+        Invalid::Overdrawn {
+            account,
+            asset,
+            opening,
+            debits,
+        } => overdrawn(alloc, account, asset, opening, debits),
+        Invalid::Outside {
+            sell,
+            buy,
+            low,
+            high,
+            y,
+        } => outside(alloc, sell, buy, low, high, y),
+        Invalid::Unbalanced { asset, out, into } => unbalanced(alloc, asset, out, into),
+        Invalid::Slack { sell, buy, gain, y } => slack(alloc, sell, buy, gain, y),
+        Invalid::NoCut { cut } => no_cut(alloc, cut),
+        Invalid::Rounding { asset, said, real } => rounding(alloc, asset, said, real),
+        Invalid::WrongAfter { said, real } => digests(alloc, "16 WrongAfter", &said, &real),
+    }
 }
 
 fn malformed(alloc: Global, fault: FormFault) -> Result<String, NoMemory>

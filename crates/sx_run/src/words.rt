@@ -49,7 +49,7 @@ fn workers(options: &[String]) -> Option<u32>
 }
 
 // The command that the words are in its plain form, if they are one.
-pub fn command(words: &[String]) -> Option<Command>
+pub fn command_of(words: &[String]) -> Option<Command>
     ensures some { IfSome result (Says words.now) }
     ensures none { IfNone result (AreCommand words.now → ⊥) }
 {
