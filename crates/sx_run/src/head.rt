@@ -1,12 +1,11 @@
 //! Where a chain of blocks stands: a ledger, its record, and its digest.
 
-ghost use Rattle.std.specs.Prelude.{◌≡◌, IfOk, OnOk};
+ghost use Rattle.std.specs.Prelude.{◌≡◌, IfErr, IfOk, OnOk};
 ghost use Rattle.sha2.specs.Sha256.{sha256};
 ghost use Rattle.sx_block.specs.Block.{IsBlock};
 ghost use Rattle.sx_block.specs.Validity.{IsValid, ledger_after};
 ghost use Rattle.sx_check.specs.Checked.{checked_of};
-ghost use Rattle.sx_check.specs.Fault.{IfInvalid};
-ghost use Rattle.sx_check.specs.Refusals.{Refuses};
+ghost use Rattle.sx_check.specs.Refusals.{Explains};
 ghost use Rattle.sx_ledger.specs.Encoding.{state_bytes};
 ghost use Rattle.sx_run.specs.Head.{IsHead};
 ghost use Rattle.sx_run.specs.Inputs.{state_record};
@@ -73,7 +72,7 @@ pub fn advance(alloc: Global, head: Head, incoming: &Incoming) -> Result<Advance
     ensures head { IfOk result (λ advanced. IsHead advanced.head) }
     ensures after { IfOk result (λ advanced. advanced.head.ledger ≡ ledger_after head.ledger incoming.now.block) }
     ensures checked { IfOk result (λ advanced. advanced.checked ≡ checked_of incoming.now.block) }
-    ensures refused { IfInvalid result (Refuses head.ledger incoming.now.block) }
+    ensures refused { IfErr result (Explains head.ledger incoming.now.block) }
 {
     let Head {
         ledger,

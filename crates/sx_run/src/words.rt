@@ -1,6 +1,6 @@
 //! The words of the command line.
 
-ghost use Rattle.std.specs.Prelude.{◌≡◌, List, IfSome, IfNone, String};
+ghost use Rattle.std.specs.Prelude.{◌≡◌, ℕ, IfSome, IfNone};
 ghost use Rattle.std.specs.Fmt.{decimal};
 ghost use Rattle.sx_run.specs.Words.{AreCommand, AskForWorkers, MayWork, texts};
 ghost use Rattle.sx_run.specs.Command.{Says};

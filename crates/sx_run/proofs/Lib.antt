@@ -1,0 +1,7 @@
+pub mod FaultPlaces
+pub mod StateFaults
+pub mod BlockFaults
+pub mod OutcomeFaults
+pub mod Reading
+pub mod Records
+pub mod Inputs
