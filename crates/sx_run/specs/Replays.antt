@@ -49,7 +49,7 @@ ledger_after_all parts blocks = fold ledger_after parts blocks
 -- each block is valid for the ledger that the one before it left
 abbrev pub AreValid : Parts → List Block → Type 0
 AreValid parts [] = Unit {0}
-AreValid parts (block ∷ blocks) = IsValid parts block × AreValid (ledger_after parts block) blocks
+AreValid parts (next ∷ others) = IsValid parts next × AreValid (ledger_after parts next) others
 
 -- ---- what may come next
 

@@ -60,7 +60,8 @@ fn verdict(alloc: Global, input: Input) -> Result<Text, Stop>
     requires head { IsHead input.head }
     requires form { IsBlock input.incoming.block }
     requires body { input.incoming.body ≡ sha256 (list_bytes input.incoming.block.txs) }
-    ensures { Found (FindsInBlock input.head.ledger input.incoming.block) result }
+    ensures found { Found (FindsInBlock input.head.ledger input.incoming.block) result }
+    ensures calm { IsErrOf result Stop.ReadFault → ⊥ }
 {
     match advance(alloc, input.head, &input.incoming) {
         Ok(advanced) => Ok(check_line(alloc, &advanced.checked)?),
