@@ -5,4 +5,6 @@ pub mod OutcomeFaults
 pub mod Reading
 pub mod Records
 pub mod Inputs
+pub mod Options
+pub mod Decimals
 pub mod Advancing

@@ -1,6 +1,6 @@
 //! The words of the command line.
 
-ghost use Rattle.std.specs.Prelude.{◌≡◌, ℕ, IfSome, IfNone};
+ghost use Rattle.std.specs.Prelude.{◌≡◌, ◌<◌, ◌↔◌, ℕ, IfSome, IfNone, IsTrue};
 ghost use Rattle.std.specs.Fmt.{decimal};
 ghost use Rattle.sx_run.specs.Words.{AreCommand, AskForWorkers, MayWork, texts};
 ghost use Rattle.sx_run.specs.Command.{Says};
@@ -18,19 +18,30 @@ const WORKERS: u32 = 4;
 
 const MOST_WORKERS: u32 = 64;
 
+// Whether these are the digits of a number of at most two, in plain decimal.
+fn is_decimal(digits: &[u8], number: u32) -> bool
+    requires { number < 100 }
+    ensures { IsTrue result ↔ (digits.now ≡ decimal number) }
+{
+    let ones = b'0' + (number % 10) as u8;
+    if number < 10 {
+        return digits == [ones].as_slice();
+    }
+    let tens = b'0' + (number / 10) as u8;
+    digits == [tens, ones].as_slice()
+}
+
 // A number of workers in plain decimal.
 fn number(digits: &[u8]) -> Option<u32>
     ensures some { IfSome result (λ workers. MayWork workers × (digits.now ≡ decimal workers)) }
     ensures none { IfNone result ((workers : ℕ) → MayWork workers → digits.now ≡ decimal workers → ⊥) }
 {
-    let workers = match digits {
-        [ones @ b'1'..=b'9'] => u32::from(*ones - b'0'),
-        [tens @ b'1'..=b'9', ones @ b'0'..=b'9'] => {
-            10 * u32::from(*tens - b'0') + u32::from(*ones - b'0')
+    for workers in 1..=MOST_WORKERS {
+        if is_decimal(digits, workers) {
+            return Some(workers);
         }
-        _ => return None,
-    };
-    (workers <= MOST_WORKERS).then_some(workers)
+    }
+    None
 }
 
 // How many workers the options ask for.
