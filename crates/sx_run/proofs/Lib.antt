@@ -5,6 +5,7 @@ pub mod OutcomeFaults
 pub mod Reading
 pub mod Records
 pub mod Inputs
+pub mod Steps
 pub mod Options
 pub mod Decimals
 pub mod Advancing
