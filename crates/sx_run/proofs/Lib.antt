@@ -5,6 +5,8 @@ pub mod OutcomeFaults
 pub mod Reading
 pub mod Records
 pub mod Inputs
+pub mod ReplayItems
+pub mod Replays
 pub mod Steps
 pub mod Options
 pub mod Decimals

@@ -2,6 +2,7 @@
 
 ghost use Rattle.std.specs.Prelude.{◌≡◌, ◌+◌, ◌^◌, ◌≤◌, length, IfOk, IsErrOf, IsTrue};
 ghost use Rattle.sx_base.specs.Outside.{Rose};
+ghost use Rattle.sx_ledger.specs.Ledger.{IsLedger};
 ghost use Rattle.sx_record.specs.Frame.{most_bytes};
 ghost use Rattle.sx_record.specs.Stream.{Took};
 ghost use Rattle.sx_run.specs.Head.{IsHead};
@@ -28,6 +29,7 @@ pub fn read_opening<S: Source>(alloc: Global, source: &mut S) -> Result<Opening,
     ensures exact { Reads (λ o. (o.head.ledger, o.end)) opening_at (S.left source.old) (S.left source.new) result }
     ensures took { IfOk result (λ o. Took (S.left source.old) (S.left source.new) (state_record o.head.ledger)) }
     ensures head { IfOk result (λ o. IsHead o.head) }
+    ensures ledger { IfOk result (λ o. IsLedger o.head.ledger) }
     ensures end { IfOk result (λ o. o.end ≡ length (state_record o.head.ledger)) }
     ensures near { IfOk result (λ o. o.end ≤ most_bytes + 5) }
 

@@ -11,7 +11,7 @@ ghost use Rattle.sx_run.specs.Replays.{most_blocks, tags_after};
 ghost use Rattle.sx_run.specs.Stream.{UnlessReadFault};
 
 use crate::head::{Head, advance};
-use crate::opening::{Opening, read_opening};
+use crate::opening::read_opening;
 use crate::payloads::{block_of, outcomes_of};
 use crate::stop::Stop;
 use crate::stream::next;
@@ -105,15 +105,6 @@ fn step(alloc: Global, place: Place, found: Record) -> Result<Place, Stop>
     }
 }
 
-// The records after the state, up to the end of the input.
-fn replay_from<S: Source>(alloc: Global, source: &mut S, first: Place) -> Result<Writer, Stop> {
-    let mut place = first;
-    while let Some(found) = next(alloc, source, place.at, tags(place.after_block))? {
-        place = step(alloc, place, found)?;
-    }
-    Ok(place.head.state)
-}
-
 // The record of the ledger after all blocks of the input.
 pub fn replay<S: Source>(alloc: Global, source: &mut S) -> Result<Writer, Stop>
     ensures found { Found (FindsInReplay (S.left source.old)) result }
@@ -121,12 +112,15 @@ pub fn replay<S: Source>(alloc: Global, source: &mut S) -> Result<Writer, Stop>
     ensures steady { UnlessReadFault result (IsTrue (S.strict source.old) → S.faults source.new ≡ S.faults source.old) }
     ensures read_fault { IsErrOf result Stop.ReadFault → Rose (S.faults source.old) (S.faults source.new) }
 {
-    let Opening { head, end } = read_opening(alloc, source)?;
-    let first = Place {
-        head,
-        at: end,
+    let opened = read_opening(alloc, source)?;
+    let mut place = Place {
+        head: opened.head,
+        at: opened.end,
         blocks: 0,
         after_block: false,
     };
-    replay_from(alloc, source, first)
+    while let Some(found) = next(alloc, source, place.at, tags(place.after_block))? {
+        place = step(alloc, place, found)?;
+    }
+    Ok(place.head.state)
 }
