@@ -1,21 +1,42 @@
--- The numbers of the refusals, and the codes of the answers.
-use Rattle.std.specs.Prelude.{ℕ}
-use Rattle.sx_run.specs.declared.invalid.Invalid.{Invalid}
-use Rattle.sx_run.specs.declared.invalid.Invalid.TheVariants.{WrongParent, WrongBody, Overdrawn, WrongAfter}
+-- The codes of the answers, and what holds at some of them.
+use Rattle.std.specs.Prelude.{ℕ, Bool, true, false}
 use Rattle.sx_run.specs.declared.status.Status.{Status}
-use Rattle.sx_run.specs.declared.status.Status.TheVariants.{Done, Usage, ReadFault, WriteFault, Refused, NoMemory, NotBuilt}
-
-abbrev pub number_of_invalid : Invalid → ℕ
-number_of_invalid (WrongParent said real) = 3
-number_of_invalid (WrongBody said real) = 4
-number_of_invalid (Overdrawn account asset opening debits) = 10
-number_of_invalid (WrongAfter said real) = 16
+use Rattle.sx_run.specs.declared.status.Status.TheVariants.{Done, Usage, ReadFault, WriteFault, Malformed, Refused, NoMemory}
+use Rattle.sx_run.specs.declared.stop.Stop.{Stop}
+use Rattle.sx_run.specs.declared.stop.Stop.TheVariants as stop
 
 abbrev pub code_of : Status → ℕ
 code_of Done = 0
 code_of Usage = 2
 code_of ReadFault = 3
 code_of WriteFault = 4
+code_of (Malformed fault) = 5
 code_of (Refused block why) = 6
 code_of NoMemory = 7
-code_of NotBuilt = 8
+
+-- the answer of a command that stopped
+abbrev pub status_at : Stop → Status
+status_at stop.NoMemory = NoMemory
+status_at stop.ReadFault = ReadFault
+status_at (stop.Malformed fault) = Malformed fault
+status_at (stop.Refused block why) = Refused block why
+
+-- the answers at which nothing is written
+abbrev pub is_silent : Status → Bool
+is_silent Done = false
+is_silent WriteFault = false
+is_silent Usage = true
+is_silent ReadFault = true
+is_silent (Malformed fault) = true
+is_silent (Refused block why) = true
+is_silent NoMemory = true
+
+-- a fact at each answer but ReadFault
+abbrev pub UnlessReadFails : Status → Type 0 → Type 0
+UnlessReadFails ReadFault fact = Unit {0}
+UnlessReadFails _ fact = fact
+
+-- a fact at each answer but WriteFault
+abbrev pub UnlessWriteFails : Status → Type 0 → Type 0
+UnlessWriteFails WriteFault fact = Unit {0}
+UnlessWriteFails _ fact = fact

@@ -1,15 +1,21 @@
-//! Laws of a replay, for all values.
+//! Laws of inputs, and of chains of blocks.
 
-ghost use Rattle.sx_run.specs.Conservation.{PaymentsConserve};
-ghost use Rattle.sx_run.specs.Replay.{OneReading};
+ghost use Rattle.sx_run.specs.Answers.{FindsInCheck, FindsInReplay};
+ghost use Rattle.sx_run.specs.Laws.{ChainConserves, ChainKeepsLedger, ChecksOnlyRecords, FindsOne, ReplaysChains};
 
-/// Payments move units and neither make nor lose any: a block of them that passes and overdraws no
-/// account leaves the total of each asset as it was.
-pub fn payments_conserve()
-    ensures { PaymentsConserve }
+/// An input of `check` has no form fault exactly where it is the records of a ledger and of a block.
+/// One thing is found of an input at most, for each command: no fault, and then one output, or one first
+/// fault. So the answer to an input is a function of it.
+pub fn input_laws()
+    ensures records { ChecksOnlyRecords }
+    ensures one_in_check { FindsOne FindsInCheck }
+    ensures one_in_replay { FindsOne FindsInReplay }
 {}
 
-/// An input is one ledger and one block at most, so the answer of a replay is a function of it.
-pub fn one_reading()
-    ensures { OneReading }
+/// The blocks of a replay are a chain of valid ones. What a chain of valid blocks leaves of a ledger is
+/// a ledger, and the total of each asset, of balances, offers and rounding, is that of the first ledger.
+pub fn chain_laws()
+    ensures replays { ReplaysChains }
+    ensures ledger { ChainKeepsLedger }
+    ensures conserves { ChainConserves }
 {}

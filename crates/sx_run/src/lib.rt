@@ -1,49 +1,38 @@
 //! The top call of speedex: from words and bytes to bytes and a status.
 //!
-//! [`run`] carries the theorem of the program. It says, of every source and every sink: which words
-//! are a command; that a fault of reading or writing is answered only where the source's or the
-//! sink's count of faults rose, and, where it rises at failures alone, wherever it rose; which input
-//! is a ledger and a block of payments on top of it; which reason refuses a block first; what is
-//! written for a valid one, namely the record of the ledger after the block; and that nothing is
-//! written otherwise. What the block leaves is
-//! `ledger_after`: plain sums of debits and credits over the list of transactions.
+//! [`run`] carries the theorem of the program. It says, of every source and every sink: which words are
+//! a command; what is found of an input, which is its first fault, of form or of a block that is not
+//! valid, or else the output; that the answer is what is found, and that nothing is written at a
+//! fault; and that a fault of reading or writing is answered only where the source's or the sink's count
+//! of faults rose, and, where it rises at failures alone, wherever it rose.
 //!
-//! So far there is one command, `replay`, of one block without trades, on a ledger without offers,
-//! and all its transactions are payments that pass. An input that says more is answered with
-//! [`Status::NotBuilt`].
+//! `check` tells whether a block is valid for a state, and `replay` runs a chain of blocks from a state
+//! to the state after them. What a block leaves is `ledger_after`: plain sums over the list of
+//! transactions and the list of offers. [`input_laws`] says that one thing is found of an input, and
+//! [`chain_laws`] that a chain of valid blocks makes and loses nothing of any asset.
 //!
 //! Not promised: how long a run takes, that two ledgers of one digest are the same, and what a source
 //! gave or a sink received that tells nothing of its bytes.
 //!
-//! The way of the data: `stream` (bytes to records), `block_reading` (record to block), `judging`
-//! (block and ledger to a verdict, over `payment`, `places`, `account_totals`, `overdraft`, `settling`
-//! and `apply`), `running` (verdict to bytes and status), `text` (status to a line).
+//! The way of the data: `stream` (bytes to records in their places), `payloads` and `opening` (records
+//! to a state, a block or outcomes), `head` (a block on a ledger), `checking` and `replaying` (the
+//! commands), `running` (output to bytes and status), `text` (answers to lines).
 #![tactic(auto)]
 
-mod account_totals;
-mod apply;
-mod block;
-mod block_reading;
-mod digest;
-mod hashing;
-mod invalid;
-mod judging;
+mod checking;
+mod head;
 mod laws;
-mod overdraft;
-mod payment;
-mod places;
+mod opening;
+mod payloads;
+mod replaying;
 mod running;
-mod settling;
 mod status;
 mod stop;
 mod stream;
-mod sums;
 mod text;
 mod words;
 
-pub use digest::Digest;
-pub use invalid::Invalid;
-pub use laws::{one_reading, payments_conserve};
+pub use laws::{chain_laws, input_laws};
 pub use running::run;
 pub use status::Status;
-pub use text::{Text, status_line};
+pub use text::{Text, check_line, status_line};

@@ -1,27 +1,30 @@
 //! How a run ends.
 
 ghost use Rattle.std.specs.Prelude.{◌≡◌};
-ghost use Rattle.sx_run.specs.Status.{code_of};
+ghost use Rattle.sx_run.specs.Status.{code_of, status_at};
 
-use crate::invalid::Invalid;
+use crate::stop::Stop;
+use sx_bytes::FormFault;
+use sx_check::Invalid;
 
 /// How a run ended.
 #[derive(Clone, Copy, Debug, PartialEq, Eq)]
 pub enum Status {
     /// Code 0: the output is written, and the input was read to its end.
     Done,
-    /// Code 2: the words are not a command. Nothing was read.
+    /// Code 2: the words are not a command in its plain form. Nothing was read or written.
     Usage,
     /// Code 3: the source failed. Nothing was written.
     ReadFault,
     /// Code 4: the sink failed. A prefix of the output is written.
     WriteFault,
-    /// Code 6: the block of this number, from 0, is refused. Nothing was written.
+    /// Code 5: the first fault of the input is one of form, at this offset in bytes. Nothing was written.
+    Malformed(FormFault),
+    /// Code 6: the block of this number, from 0, is the first fault of the input, and this is the
+    /// first reason why it is refused. Nothing was written.
     Refused { block: u32, why: Invalid },
-    /// Code 7: memory ran out. Nothing was written.
+    /// Code 7: memory ran out. Nothing was written. It may be answered in place of any other answer.
     NoMemory,
-    /// Code 8: the input is not of the form that is built so far. Nothing was written.
-    NotBuilt,
 }
 
 impl Status {
@@ -34,9 +37,21 @@ impl Status {
             Status::Usage => 2,
             Status::ReadFault => 3,
             Status::WriteFault => 4,
+            Status::Malformed(_) => 5,
             Status::Refused { .. } => 6,
             Status::NoMemory => 7,
-            Status::NotBuilt => 8,
         }
+    }
+}
+
+// The answer of a command that stopped.
+pub fn status_of(stop: Stop) -> Status
+    ensures { result ≡ status_at stop }
+{
+    match stop {
+        Stop::NoMemory => Status::NoMemory,
+        Stop::ReadFault => Status::ReadFault,
+        Stop::Malformed(fault) => Status::Malformed(fault),
+        Stop::Refused { block, why } => Status::Refused { block, why },
     }
 }

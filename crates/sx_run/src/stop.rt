@@ -1,16 +1,18 @@
-//! Why a replay ends before there is a verdict.
+//! Why a command stops before it has its answer.
 
 ghost use Rattle.std.specs.Prelude.{◌≡◌};
 ghost use Rattle.sx_run.specs.declared.stop.Stop.TheVariants as stop;
 
-use sx_bytes::NoMemory;
+use sx_bytes::{FormFault, NoMemory};
+use sx_check::Invalid;
 
-// Why a replay stops before it knows a state and a block.
+// Why a command stops.
 #[derive(Clone, Copy, Debug, PartialEq, Eq)]
 pub enum Stop {
     NoMemory,
     ReadFault,
-    NotBuilt,
+    Malformed(FormFault),
+    Refused { block: u32, why: Invalid },
 }
 
 impl From<NoMemory> for Stop {

@@ -1,0 +1,11 @@
+use Rattle.std.proofs.Common.{ap, arith, length}
+use Rattle.sx_ledger.specs.Decoding.{state_at}
+use Rattle.sx_run.proofs.FaultPlaces.{near}
+use Rattle.sx_run.proofs.StateFaults.{state_within}
+use Rattle.sx_run.proofs.payloads.ledger_of.Goals as goal
+
+pub stop_in-requires : goal.stop_in-requires
+stop_in-requires c =
+    let payload = c.items.result.now in
+    let long = ap length c.items.ensures in
+    near _ payload (state_at payload) c.in-Err.error (state_within payload) c.in-Err.ensures.exact (omega (arith, long))

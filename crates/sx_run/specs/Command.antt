@@ -1,0 +1,11 @@
+-- What words say.
+use Rattle.std.specs.Prelude.{List, String}
+use Rattle.std.specs.Global.{Global}
+use Rattle.sx_run.specs.declared.words.Command.{Command}
+use Rattle.sx_run.specs.declared.words.Command.TheVariants.{Check, Replay}
+use Rattle.sx_run.specs.Words.{AreCheck, AreReplayBy}
+
+-- the words are this command
+abbrev pub Says : List (String Global) → Command → Type 0
+Says words Check = AreCheck words
+Says words (Replay workers) = AreReplayBy words workers

@@ -1,0 +1,94 @@
+//! Where a chain of blocks stands: a ledger, its record, and its digest.
+
+ghost use Rattle.std.specs.Prelude.{◌≡◌, IfErr, IfOk, OnOk};
+ghost use Rattle.sha2.specs.Sha256.{sha256};
+ghost use Rattle.sx_block.specs.Block.{IsBlock};
+ghost use Rattle.sx_block.specs.Validity.{IsValid, ledger_after};
+ghost use Rattle.sx_check.specs.Checked.{checked_of};
+ghost use Rattle.sx_check.specs.Refusals.{Explains};
+ghost use Rattle.sx_ledger.specs.Encoding.{state_bytes};
+ghost use Rattle.sx_run.specs.Head.{IsHead};
+ghost use Rattle.sx_run.specs.Inputs.{state_record};
+ghost use Rattle.sx_tx.specs.Transactions.{list_bytes};
+
+use crate::payloads::Incoming;
+use std::alloc::Global;
+use sx_apply::apply;
+use sx_block::{Digest, digest_of};
+use sx_bytes::{NoMemory, Writer};
+use sx_check::{CheckFault, Checked, Judged, close, judge};
+use sx_ledger::Ledger;
+use sx_record::{tag, write_frame};
+
+// A ledger, its record, and its digest, which is that of the record.
+#[derive(Debug, Drop)]
+pub struct Head {
+    pub ledger: Ledger,
+    pub state: Writer,
+    pub digest: Digest,
+}
+
+impl Head {
+    // The head of a ledger, of which this is the payload.
+    pub fn of(alloc: Global, ledger: Ledger, payload: &[u8]) -> Result<Head, NoMemory>
+        requires { payload.now ≡ state_bytes ledger }
+        ensures head { IfOk result IsHead }
+        ensures same { IfOk result (λ head. head.ledger ≡ ledger) }
+    {
+        let mut state = Writer::new(alloc);
+        write_frame(&mut state, tag::STATE, ledger.state_length())?;
+        state.raw(payload)?;
+        let digest = digest_of(state.bytes());
+        Ok(Head {
+            ledger,
+            state,
+            digest,
+        })
+    }
+}
+
+// Writes the record of a ledger over what was written before.
+fn rewrite(state: &mut Writer, ledger: &Ledger) -> Result<(), NoMemory>
+    ensures { OnOk result (state.new ≡ state_record ledger.now) }
+{
+    state.cut(0);
+    write_frame(state, tag::STATE, ledger.state_length())?;
+    ledger.write_state(state)
+}
+
+// Where the chain stands after a block, and what is told of the block.
+#[derive(Debug, Drop)]
+pub struct Advanced {
+    pub head: Head,
+    pub checked: Checked,
+}
+
+// Judges the next block, and applies it.
+pub fn advance(alloc: Global, head: Head, incoming: &Incoming) -> Result<Advanced, CheckFault>
+    requires head { IsHead head }
+    requires form { IsBlock incoming.now.block }
+    requires body { incoming.now.body ≡ sha256 (list_bytes incoming.now.block.txs) }
+    ensures valid { IfOk result (λ _. IsValid head.ledger incoming.now.block) }
+    ensures head { IfOk result (λ advanced. IsHead advanced.head) }
+    ensures after { IfOk result (λ advanced. advanced.head.ledger ≡ ledger_after head.ledger incoming.now.block) }
+    ensures checked { IfOk result (λ advanced. advanced.checked ≡ checked_of incoming.now.block) }
+    ensures refused { IfErr result (Explains head.ledger incoming.now.block) }
+{
+    let Head {
+        ledger,
+        mut state,
+        digest,
+    } = head;
+    let Judged { checked, effects } =
+        judge(alloc, &ledger, &incoming.block, &digest, &incoming.body)?;
+    let ledger = apply(alloc, ledger, &incoming.block, effects)?;
+    rewrite(&mut state, &ledger)?;
+    let digest = digest_of(state.bytes());
+    close(&incoming.block.header, &digest)?;
+    let head = Head {
+        ledger,
+        state,
+        digest,
+    };
+    Ok(Advanced { head, checked })
+}

@@ -1,0 +1,126 @@
+//! `replay`: a state, and then blocks, each of which may have outcomes after it. Each block is judged on
+//! the ledger so far, and applied before the next record is read.
+
+ghost use Rattle.std.specs.Prelude.{◌≡◌, ◌+◌, ◌^◌, ◌≤◌, length, IfOk, OnOk, IsErrOf, IsTrue};
+ghost use Rattle.sx_base.specs.Outside.{Rose};
+ghost use Rattle.sx_record.specs.Frame.{MayStand};
+ghost use Rattle.sx_run.specs.Answers.{FindsInReplay, Found, IsRead};
+ghost use Rattle.sx_run.specs.Inputs.{end_of};
+ghost use Rattle.sx_run.specs.Replaying.{HasReplayed, IsNext, MayGoOn, Steps, stand_of};
+ghost use Rattle.sx_run.specs.Replays.{most_blocks, tags_after};
+ghost use Rattle.sx_run.specs.Stream.{UnlessReadFault};
+
+use crate::head::{Head, advance};
+use crate::opening::read_opening;
+use crate::payloads::{block_of, outcomes_of};
+use crate::stop::Stop;
+use crate::stream::next;
+use std::alloc::Global;
+use sx_base::Source;
+use sx_bytes::{Form, FormFault, Writer};
+use sx_check::CheckFault;
+use sx_record::{Record, tag};
+
+// How many blocks a replay may have.
+const MOST_BLOCKS: u32 = 1_000_000;
+
+// Where a replay stands: the head, the offset of the next record, how many blocks have come, and
+// whether the last record is a block.
+#[derive(Debug, Drop)]
+pub struct Place {
+    pub head: Head,
+    pub at: u64,
+    pub blocks: u32,
+    pub after_block: bool,
+}
+
+// The tags of the records that may come next.
+fn tags(after_block: bool) -> &'static [u8]
+    ensures { result.now ≡ tags_after after_block }
+{
+    if after_block {
+        &[tag::BLOCK, tag::OUTCOMES]
+    } else {
+        &[tag::BLOCK]
+    }
+}
+
+// A block, judged on the ledger so far and applied.
+fn step_block(alloc: Global, place: Place, found: Record) -> Result<Place, Stop>
+    requires place { MayGoOn place }
+    requires found { IsNext place found }
+    requires tag { found.tag ≡ 3 }
+    ensures { Steps place found result }
+{
+    if place.blocks >= MOST_BLOCKS {
+        return Err(Stop::Malformed(FormFault {
+            at: place.at,
+            fault: Form::TooMany,
+        }));
+    }
+    let at = found.at + found.payload.items().len() as u64;
+    let incoming = block_of(alloc, found)?;
+    match advance(alloc, place.head, &incoming) {
+        Ok(advanced) => Ok(Place {
+            head: advanced.head,
+            at,
+            blocks: place.blocks + 1,
+            after_block: true,
+        }),
+        Err(CheckFault::Invalid(why)) => Err(Stop::Refused {
+            block: place.blocks,
+            why,
+        }),
+        Err(CheckFault::NoMemory) => Err(Stop::NoMemory),
+    }
+}
+
+// Outcomes, read for their form alone.
+fn step_outcomes(alloc: Global, place: Place, found: Record) -> Result<Place, Stop>
+    requires place { MayGoOn place }
+    requires found { IsNext place found }
+    requires tag { found.tag ≡ 4 }
+    ensures { Steps place found result }
+{
+    let at = found.at + found.payload.items().len() as u64;
+    let _ = outcomes_of(alloc, found)?;
+    Ok(Place {
+        head: place.head,
+        at,
+        blocks: place.blocks,
+        after_block: false,
+    })
+}
+
+// One record after the state.
+fn step(alloc: Global, place: Place, found: Record) -> Result<Place, Stop>
+    requires place { MayGoOn place }
+    requires found { IsNext place found }
+    ensures { Steps place found result }
+{
+    if found.tag == tag::OUTCOMES {
+        step_outcomes(alloc, place, found)
+    } else {
+        step_block(alloc, place, found)
+    }
+}
+
+// The record of the ledger after all blocks of the input.
+pub fn replay<S: Source>(alloc: Global, source: &mut S) -> Result<Writer, Stop>
+    ensures found { Found (FindsInReplay (S.left source.old)) result }
+    ensures read { OnOk result (IsRead (S.left source.old) (S.left source.new)) }
+    ensures steady { UnlessReadFault result (IsTrue (S.strict source.old) → S.faults source.new ≡ S.faults source.old) }
+    ensures read_fault { IsErrOf result Stop.ReadFault → Rose (S.faults source.old) (S.faults source.new) }
+{
+    let opened = read_opening(alloc, source)?;
+    let mut place = Place {
+        head: opened.head,
+        at: opened.end,
+        blocks: 0,
+        after_block: false,
+    };
+    while let Some(found) = next(alloc, source, place.at, tags(place.after_block))? {
+        place = step(alloc, place, found)?;
+    }
+    Ok(place.head.state)
+}
