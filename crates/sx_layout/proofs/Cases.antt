@@ -23,6 +23,11 @@ the_others : outcomes_bytes (Static SeqBeyond ∷ SeqTaken ∷ OfferTaken ∷ Na
     ≡ 0 ∷ 0 ∷ 0 ∷ 4 ∷ 1 ∷ 3 ∷ 2 ∷ 3 ∷ 4 ∷ []
 the_others = refl
 
+-- the count takes four bytes
+no_count : outcomes_at (255 ∷ []) ≡ Err (record { at = 1; fault = form.Short })
+unfolding outcome_list_at outcomes_at
+no_count = refl
+
 -- one overdraft, what was seen and what was needed in eight bytes each
 abbrev overdraft : List ℕ → List ℕ → List ℕ
 overdraft seen need = 0 ∷ 0 ∷ 0 ∷ 1 ∷ 5 ∷ (seen ++ need)
@@ -53,6 +58,12 @@ ends_of_ranges = (refl, refl, refl, refl)
 -- two actors by turns
 two_actors : script_bytes (record { actors = 2; turns = 0 ∷ 1 ∷ 0 ∷ 1 ∷ [] }) ≡ 2 ∷ 0 ∷ 0 ∷ 0 ∷ 4 ∷ 0 ∷ 1 ∷ 0 ∷ 1 ∷ []
 two_actors = refl
+
+-- three actors, one of which goes on at the end
+three_actors : script_at (3 ∷ 0 ∷ 0 ∷ 0 ∷ 10 ∷ 0 ∷ 1 ∷ 2 ∷ 0 ∷ 1 ∷ 2 ∷ 0 ∷ 1 ∷ 2 ∷ 2 ∷ [])
+    ≡ Ok (record { actors = 3; turns = 0 ∷ 1 ∷ 2 ∷ 0 ∷ 1 ∷ 2 ∷ 0 ∷ 1 ∷ 2 ∷ 2 ∷ [] })
+unfolding turn_at script_fields_at script_at many_at
+three_actors = refl
 
 abbrev refused : ℕ → Result Script FormFault
 refused at = Err (record { at = at; fault = form.Actor })

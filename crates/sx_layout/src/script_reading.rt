@@ -5,7 +5,7 @@ ghost use Rattle.std.specs.List.{position_from};
 ghost use Rattle.sx_bytes.specs.Grammar.{MayDecodeOrStray, Gives, many_at};
 ghost use Rattle.sx_layout.specs.declared.script.Script.{Script};
 ghost use Rattle.sx_layout.specs.ScriptDecoding.{turn_at, script_fields_at, script_at};
-ghost use Rattle.sx_layout.specs.Scripts.{script_bytes, most_actors, IsScript};
+ghost use Rattle.sx_layout.specs.Scripts.{script_bytes, IsScript};
 
 use crate::fault::fault_at;
 use crate::script::{MOST_ACTORS, MOST_TURNS, Script};

@@ -1,6 +1,6 @@
 //! Whether a ledger has room for all that candidates ask for.
 
-ghost use Rattle.std.specs.Prelude.{◌≡◌, ◌+◌, ◌≤◌, ◌<◌, ◌↔◌, ◌^◌, length, is_some, nat_lt, Ok, Err, if◌then◌else◌};
+ghost use Rattle.std.specs.Prelude.{◌≡◌, ◌+◌, ◌≤◌, ◌<◌, ◌^◌, length, is_some, nat_lt, Ok, Err, if◌then◌else◌};
 ghost use Rattle.sx_layout.specs.Room.{room_for};
 ghost use Rattle.sx_ledger.specs.Body.{created, created_by, made, made_by};
 ghost use Rattle.sx_tx.specs.Transactions.{most_transactions};
