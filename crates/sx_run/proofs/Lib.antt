@@ -5,6 +5,8 @@ pub mod OutcomeFaults
 pub mod Reading
 pub mod Records
 pub mod Inputs
+pub mod Chains
+pub mod ReplayFindings
 pub mod Encodings
 pub mod CheckFindings
 pub mod ReplayItems

@@ -3,8 +3,10 @@
 ghost use Rattle.sx_run.specs.Answers.{FindsInCheck, FindsInReplay};
 ghost use Rattle.sx_run.specs.Laws.{ChainConserves, ChainKeepsLedger, ChecksOnlyRecords, FindsOne, ReplaysChains};
 
-use sx_block::block_effect_laws;
+use sx_block::{block_effect_laws, block_laws};
 use sx_check::check_laws;
+use sx_layout::outcome_list_laws;
+use sx_ledger::state_laws;
 
 /// An input of `check` has no form fault exactly where it is the records of a ledger and of a block.
 /// One thing is found of an input at most, for each command: no fault, and then one output, or one first
@@ -14,6 +16,9 @@ pub fn input_laws()
     ensures one_in_check { FindsOne FindsInCheck }
     ensures one_in_replay { FindsOne FindsInReplay }
 {
+    state_laws();
+    block_laws();
+    outcome_list_laws();
     check_laws();
 }
 
