@@ -10,7 +10,7 @@ use Rattle.std.proofs.lemmas.List.Elements.{recursion_from_All}
 use Rattle.std.proofs.lemmas.List.Sums.{sum_by-cons}
 use Rattle.sx_block.specs.EffectLaws.{GivesWhatItHas, GivesLessThanOneMore, GetsLessThanOneLess, RoundingIsNeverNegative, IsTradable}
 use Rattle.sx_block.proofs.ListSums.{grouped, sum_by-filter}
-use Rattle.sx_block.proofs.OfferOrder.{Rising, rising_is}
+use Rattle.sx_ledger.proofs.OfferOrder.{Rising, rising_is}
 use Rattle.sx_block.proofs.PairFills.{pair_trades}
 use Rattle.sx_dual.specs.Circulation.{bought, sold}
 use Rattle.sx_dual.specs.Sums.{between}
@@ -175,15 +175,23 @@ module _ (parts : Parts) (prices : List ℕ) (flow : ℕ → ℕ → ℕ) (is : 
     got_each os,
   )
 
-  pub never_negative : got prices flow offers asset ≤ given prices flow offers asset
-  never_negative =
+  sold_within : sold n flow asset ≤ price * given prices flow offers asset
+  sold_within =
       let out =
       within_price price (λ o. cond (eqb o.sell asset) (value o) 0) (λ o. cond (eqb o.sell asset) (gives prices flow offers o) 0) offers (given_each offers) in
+      omega (arith, sold_is)
+
+  -- the value that is bought of an asset is within that of what is given of it
+  pub bought_within : bought n flow asset ≤ price * given prices flow offers asset
+  bought_within =
+      let balance : sold n flow asset ≡ bought n flow asset = fits.balanced asset lt in omega (arith, sold_within)
+
+  pub never_negative : got prices flow offers asset ≤ given prices flow offers asset
+  never_negative =
       let into =
       reaches_price price (λ o. cond (eqb o.buy asset) (value o) 0) (λ o. cond (eqb o.buy asset) (gets prices flow offers o) 0) offers (got_each offers) in
-      let balance : sold n flow asset ≡ bought n flow asset = fits.balanced asset lt in
       let scaled : price * got prices flow offers asset ≤ price * given prices flow offers asset =
-      omega (arith, sold_is, bought_is) in
+      omega (arith, bought_is, bought_within) in
       le_of_mul-le-mul_left {k = price} scaled price_above
 
 pub rounding_never_negative : RoundingIsNeverNegative

@@ -5,7 +5,6 @@ pub mod TradeLaws
 pub mod HeaderLaws
 pub mod BlockLaws
 pub mod Lengths
-pub mod OfferOrder
 pub mod ListSums
 pub mod PairFills
 pub mod FillLaws

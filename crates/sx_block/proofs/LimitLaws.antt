@@ -11,7 +11,7 @@ use Rattle.std.proofs.lemmas.List.Elements.{filter-append}
 use Rattle.std.proofs.lemmas.List.Sums.{sum_by-append, sum_by-cons}
 use Rattle.sx_block.specs.EffectLaws.{IsTradable, MustTradeInFull, TradesOnlyWithinLimit}
 use Rattle.sx_block.proofs.FillLaws.{gives_has, price_above, up_is}
-use Rattle.sx_block.proofs.OfferOrder.{Precedes, Rising, before_all, in_front, keeps_all, rising_back, rising_is, rising_kept}
+use Rattle.sx_ledger.proofs.OfferOrder.{Precedes, Rising, before_all, in_front, keeps_all, rising_back, rising_is, rising_kept}
 use Rattle.sx_block.proofs.ListSums.{filter-le}
 use Rattle.sx_block.proofs.PairFills.{in_pair}
 use Rattle.sx_ledger.specs.declared.offer.Offer.{Offer}

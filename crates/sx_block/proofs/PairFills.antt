@@ -9,7 +9,7 @@ use Rattle.sx_ledger.specs.declared.offer.Offer.{Offer}
 use Rattle.sx_ledger.specs.Bounds.{amounts, high_of, may_trade_at, pair_of, price_of}
 use Rattle.sx_ledger.specs.Fills.{value_of}
 use Rattle.sx_ledger.specs.Order.{offer_before}
-use Rattle.sx_block.proofs.OfferOrder.{Rising, rising_kept, in_front}
+use Rattle.sx_ledger.proofs.OfferOrder.{Rising, rising_kept, in_front}
 use Rattle.sx_block.proofs.ListSums.{filter-le, sum_by-agree}
 
 -- what is left of y after q, up to r

@@ -8,7 +8,7 @@ use Rattle.std.proofs.lemmas.List.{length-map, get_or_default, get_or-map}
 use Rattle.std.proofs.lemmas.List.Elements.{All-from_recursion, All-map, recursion_from_All}
 use Rattle.std.proofs.lemmas.List.Sums.{count_by-le-length, length-filter, get_or-le-sum_by}
 use Rattle.sx_block.specs.EffectLaws.{TradeKeepsLedger}
-use Rattle.sx_block.proofs.OfferOrder.{Precedes, Rising, rising_is, rising_kept, order_is}
+use Rattle.sx_ledger.proofs.OfferOrder.{Precedes, Rising, rising_is, rising_kept, order_is}
 use Rattle.sx_block.proofs.TradeTotals.{added_length, balances_length, trade_conserves}
 use Rattle.sx_ledger.specs.declared.account.Account.{Account}
 use Rattle.sx_ledger.specs.declared.key.Key.{Key}

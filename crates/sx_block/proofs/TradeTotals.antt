@@ -6,13 +6,14 @@ use Rattle.std.specs.List.Sorted.{IsStrictlyIncreasing}
 use Rattle.std.proofs.lemmas.Bool.{cases_Bool, and_parts, eq-eqb, ne_eqb, ltb-false, or_cases}
 use Rattle.std.proofs.lemmas.List.Elements.{recursion_from_All}
 use Rattle.std.proofs.lemmas.List.Sums.{sum_by-cons}
-use Rattle.sx_block.specs.EffectLaws.{TradeConserves}
+use Rattle.sx_block.specs.EffectLaws.{IsTradable, TradeConserves}
 use Rattle.sx_block.proofs.FillLaws.{gives_has}
 use Rattle.sx_ledger.specs.declared.account.Account.{Account}
 use Rattle.sx_ledger.specs.declared.offer.Offer.{Offer}
+use Rattle.sx_ledger.specs.declared.parts.Parts.{Parts}
 use Rattle.sx_ledger.specs.Bounds.{price_of}
-use Rattle.sx_ledger.specs.Fills.{gives, gets, got}
-use Rattle.sx_ledger.specs.Ledger.{IsAccount, IsOffer, assets_of, balance_at, has_owner, ids, offered}
+use Rattle.sx_ledger.specs.Fills.{given, gives, gets, got}
+use Rattle.sx_ledger.specs.Ledger.{IsAccount, IsLedger, IsOffer, assets_of, balance_at, has_owner, ids, offered, total_of}
 use Rattle.sx_ledger.specs.Static.{has_account}
 use Rattle.sx_ledger.specs.Trade.{account_traded, added, balances_traded, offer_traded, proceeds}
 use Rattle.sx_ledger.proofs.ListSums.{sum_by-add, sum_by-none, sum_by-one, sum_by-same}
@@ -150,6 +151,19 @@ owners_stand : (n : ℕ) (accounts : List Account) (os : List Offer) → AllByRe
 owners_stand n accounts [] all = tt
 owners_stand n accounts (o ∷ os) all =
     (stands accounts o.account.0 (owner_there accounts o all.0.owner), owners_stand n accounts os all.1)
+
+-- no more is given of an asset than there is
+pub given_there : (parts : Parts) (prices : List ℕ) (flow : ℕ → ℕ → ℕ) (asset : ℕ) → IsLedger parts
+    → IsTradable parts prices flow → given prices flow parts.offers asset ≤ total_of parts asset
+given_there parts prices flow asset is fits =
+    let n = assets_of parts in
+    let offers = parts.offers in
+    let offers_are = recursion_from_All (IsOffer n parts.accounts) offers is.offers in
+    let above : (a : ℕ) → a < n → 0 < price_of prices a =
+    λ a below. let same = fits.same_assets in let p = fits.in_range a 0 (omega arith) in omega (arith, p.0) in
+    let left =
+    offers_give prices flow offers asset offers (prices_above prices n parts.accounts flow offers offers above offers_are) in
+    omega arith
 
 pub trade_conserves : TradeConserves
 trade_conserves parts prices flow rounding asset is fits rounds lt =

@@ -1,5 +1,5 @@
 -- Offers that are kept and made, in order, are those after the body.
-use Rattle.std.proofs.Common.{◌≡◌, ℕ, ◌<◌, ◌≤◌, false, List, ◌++◌, length, get_or, All, Result, Ok, Err, inl, inr, refl, sym, subst, ◌∙◌, arith}
+use Rattle.std.proofs.Common.{◌≡◌, ℕ, ◌<◌, ◌≤◌, false, List, ◌++◌, length, get_or, Result, Ok, Err, inl, inr, refl, sym, subst, ◌∙◌, arith}
 use Rattle.std.specs.Prelude.{is_ok}
 use Rattle.std.specs.List.{list_any}
 use Rattle.std.specs.List.Sorted.{IsBinarySearchResult, IsPermutation, IsSearchInRange, IsSorted, IsSortedByKey}
@@ -16,11 +16,10 @@ use Rattle.sx_ledger.specs.declared.parts.Parts.{Parts}
 use Rattle.sx_ledger.specs.Body.{IsAdmissible, kept_offers, made, offers_after}
 use Rattle.sx_ledger.specs.Ledger.{IsLedger}
 use Rattle.sx_ledger.specs.Order.{key_before, key_cmp, key_of, same_key}
-use Rattle.sx_ledger.proofs.BodyKeepsLedger.{body_keeps_ledger}
+use Rattle.sx_ledger.proofs.BodyKeepsLedger.{keys_in_order}
 use Rattle.sx_ledger.proofs.Insertion.{put_offers_are}
 use Rattle.sx_ledger.proofs.KeyOrder.{before_both, before_differs, equal_from, equal_is, key_cmp_derived, key_cmp_total, same_key_from, same_key_is}
 use Rattle.sx_tx.specs.declared.tx.Tx.{Tx}
-use Rattle.sx_tx.specs.Transactions.{IsTx}
 
 -- ---- a key among keys in order
 
@@ -65,10 +64,10 @@ rising offers sorted i j d le lt =
     let up : IsSortedByKey key_of key_cmp offers = subst (λ (R : Key → Key → Ordering). IsSortedByKey key_of R offers) same sorted in
     sorted_far (λ one other. key_before (key_of one) (key_of other)) (ranks_by key_cmp_total key_of) offers up i j d le lt
 
-pub offers_are : (parts : Parts) (txs : List Tx) → IsLedger parts → All IsTx txs → IsAdmissible parts txs
+pub offers_are : (parts : Parts) (txs : List Tx) → IsLedger parts → IsAdmissible parts txs
     → (after : List Offer) → IsPermutation (kept_offers parts.offers txs ++ made txs) after
     → IsSortedByKey key_of derived.ghosts.cmp after → after ≡ offers_after parts txs
-offers_are parts txs keeps in_range body after permuted sorted =
+offers_are parts txs keeps body after permuted sorted =
     let kept = kept_offers parts.offers txs in
     let moves : IsPermutation (made txs ++ kept) (offers_after parts txs) =
     subst (IsPermutation (made txs ++ kept)) (sym (put_offers_are (made txs) kept))
@@ -76,7 +75,7 @@ offers_are parts txs keeps in_range body after permuted sorted =
     sym (one_list key_of key_before same_key same_key_is (λ a. same_key_from a a refl) before_both
     (λ a e. let differ = before_differs a a e in let self = same_key_from a a refl in absurd cc)
     (offers_after parts txs) after
-    (body_keeps_ledger parts txs keeps in_range body).by_key
+    (keys_in_order parts txs keeps body)
     (rising after sorted)
     (IsPermutation-trans (offers_after parts txs) (made txs ++ kept) after
     (IsPermutation-sym (made txs ++ kept) (offers_after parts txs) moves)

@@ -3,3 +3,4 @@ pub mod Debits
 pub mod Overdraft
 pub mod Credits
 pub mod Settled
+pub mod Refusal

@@ -1,28 +1,31 @@
 //! The ledger after a body.
 
 ghost use Rattle.std.specs.Prelude.{◌≡◌, IfOk};
+ghost use Rattle.sx_body.specs.Credits.{HasCredits};
 ghost use Rattle.sx_body.specs.Settled.{with_all_accounts};
-ghost use Rattle.sx_ledger.specs.Body.{IsAdmissible, accounts_after as all_after, body_after};
+ghost use Rattle.sx_ledger.specs.Body.{IsAdmissible, body_after, offers_after as all_offers};
 
 use crate::created::with_created;
-use crate::credits::credits_of;
-use crate::offers::offers_after;
-use crate::ranges::all_ranges;
+use crate::credits::Credits;
 use crate::settled::settled;
 use std::alloc::Global;
 use sx_bytes::NoMemory;
-use sx_ledger::{Accounts, Ledger, Parts};
+use sx_ledger::{Accounts, Ledger, Offers, Parts};
 use sx_tx::Tx;
 
 // The parts of the ledger, with all accounts as they are after the body.
-fn with_accounts(alloc: Global, ledger: Ledger, txs: &[Tx]) -> Result<Parts, NoMemory>
-    requires { IsAdmissible ledger txs.now }
+fn with_accounts(
+    alloc: Global,
+    ledger: Ledger,
+    txs: &[Tx],
+    credits: &Credits,
+) -> Result<Parts, NoMemory>
+    requires body { IsAdmissible ledger txs.now }
+    requires credits { HasCredits ledger txs.now credits.now }
     ensures { IfOk result (λ parts. parts ≡ with_all_accounts ledger txs.now) }
 {
-    all_ranges(txs);
     let assets = ledger.assets() as usize;
-    let credits = credits_of(alloc, &ledger, txs)?;
-    let parts = settled(alloc, ledger, txs, &credits)?;
+    let parts = settled(alloc, ledger, txs, credits)?;
     let Parts {
         version,
         height,
@@ -42,27 +45,23 @@ fn with_accounts(alloc: Global, ledger: Ledger, txs: &[Tx]) -> Result<Parts, NoM
     })
 }
 
-/// The accounts after the body of a block, by id: each balance less its debits and more by its
-/// credits, each last sequence number the greatest that was used, and the accounts that are created.
-/// It works on a copy of the ledger; [`settle`] takes the ledger itself.
-pub fn accounts_after(alloc: Global, ledger: &Ledger, txs: &[Tx]) -> Result<Accounts, NoMemory>
-    requires { IsAdmissible ledger.now txs.now }
-    ensures { IfOk result (λ accounts. accounts ≡ all_after ledger.now txs.now) }
-{
-    let copy = ledger.copy()?;
-    let parts = with_accounts(alloc, copy, txs)?;
-    Ok(parts.accounts)
-}
-
-/// The ledger after the body of a block, before anything trades. Balances change in place.
-pub fn settle(alloc: Global, ledger: Ledger, txs: &[Tx]) -> Result<Ledger, NoMemory>
-    requires { IsAdmissible ledger txs.now }
+/// The ledger after the body of a block, before anything trades, where the credits of the body and the
+/// offers after it are known: those that [`screen`](crate::screen) and
+/// [`offers_after`](crate::offers_after) answer. Balances change in place.
+pub fn settle(
+    alloc: Global,
+    ledger: Ledger,
+    txs: &[Tx],
+    credits: &Credits,
+    offers: Offers,
+) -> Result<Ledger, NoMemory>
+    requires body { IsAdmissible ledger txs.now }
+    requires credits { HasCredits ledger txs.now credits.now }
+    requires offers { offers ≡ all_offers ledger txs.now }
     ensures { IfOk result (λ after. after ≡ body_after ledger txs.now) }
 {
-    all_ranges(txs);
     let height = ledger.height();
-    let offers = offers_after(alloc, &ledger, txs)?;
-    let parts = with_accounts(alloc, ledger, txs)?;
+    let parts = with_accounts(alloc, ledger, txs, credits)?;
     Ok(Ledger::of(Parts {
         version: parts.version,
         height,

@@ -1,20 +1,23 @@
 //! What a body credits to the accounts of a ledger.
 
-ghost use Rattle.std.specs.Prelude.{◌≡◌, ℕ, Ok, ◌+◌, ◌*◌, ◌<◌, ◌≤◌, ◌^◌, length, slice_index, slice_get, Some, None, IfOk, IfSome, IfNone, false};
-ghost use Rattle.std.specs.List.{All};
+ghost use Rattle.std.specs.Prelude.{◌≡◌, ℕ, Ok, ◌+◌, ◌*◌, ◌<◌, ◌≤◌, ◌^◌, length, slice_index, slice_get, Some, None, IfOk, IfSome, IfNone};
 ghost use Rattle.std.specs.List.Sorted.{IsStrictlyIncreasing};
-ghost use Rattle.sx_body.specs.Credits.{HasCredits, HasShape, IsCredit, sum_at};
-ghost use Rattle.sx_ledger.specs.Effects.{amount_of, credit as credit_by, posted};
+ghost use Rattle.sx_body.specs.Credits.{HasShape, IsCredit, sum_at};
+ghost use Rattle.sx_ledger.specs.Effects.{credit as credit_by, posted};
 ghost use Rattle.sx_ledger.specs.Ledger.{assets_of, ids};
-ghost use Rattle.sx_ledger.specs.Static.{has_offer, static_of};
+ghost use Rattle.sx_ledger.specs.Places.{ArePlaces};
+ghost use Rattle.sx_ledger.specs.Static.{static_of};
+ghost use Rattle.sx_tx.specs.Transactions.{IsTx};
 
+use crate::ranges::tx_ranges;
 use std::alloc::Global;
 use sx_base::{Amount, AssetId};
 use sx_bytes::NoMemory;
-use sx_ledger::{AccountIndex, Key, Ledger};
+use sx_ledger::{Ledger, Places, Target};
 use sx_tx::{Kind, Tx};
 
-// The sum of the credits of each asset, at each place of a list of accounts.
+/// What transactions credit to the accounts of a ledger: for the place of each account and for each
+/// asset the sum of the credits, in units of the asset.
 #[derive(Debug, Drop)]
 pub struct Credits {
     assets: usize,
@@ -31,7 +34,7 @@ struct Credit {
 
 impl Credits {
     // No credit of any asset at any place.
-    fn zero(alloc: Global, places: usize, assets: usize) -> Result<Credits, NoMemory>
+    pub(crate) fn zero(alloc: Global, places: usize, assets: usize) -> Result<Credits, NoMemory>
         requires few_places { places ≤ 65536 }
         requires few_assets { assets ≤ 32 }
         ensures shape { IfOk result (λ credits. HasShape credits places assets) }
@@ -56,25 +59,27 @@ impl Credits {
         self.sums[credit.place as usize * self.assets + asset] += u128::from(credit.amount.get());
     }
 
-    // Adds what one transaction credits.
-    fn enter(&mut self, ledger: &Ledger, index: &AccountIndex, tx: &Tx)
-        requires index { index.now ≡ ids ledger.now.accounts }
+    // Adds what one transaction credits, which stands at these places.
+    pub(crate) fn enter(&mut self, ledger: &Ledger, tx: &Tx, places: &Places)
         requires by_id { IsStrictlyIncreasing (ids ledger.now.accounts) }
         requires passes { static_of ledger.now tx.now ≡ Ok tt }
+        requires places { ArePlaces ledger.now tx.now places.now }
         requires shape { HasShape self.old (length ledger.now.accounts) (assets_of ledger.now) }
         requires room { (place asset : ℕ) → place < length ledger.now.accounts → asset < assets_of ledger.now → sum_at self.old place asset + 2 ^ 62 < 2 ^ 128 }
+        ensures in_range { IsTx tx.now }
         ensures shape { HasShape self.new (length ledger.now.accounts) (assets_of ledger.now) }
         ensures added { (place account asset : ℕ) → slice_get (ids ledger.now.accounts) place ≡ Some account → asset < assets_of ledger.now → sum_at self.new place asset ≡ sum_at self.old place asset + posted (credit_by ledger.now.offers tx.now) account asset }
         ensures small { (place asset : ℕ) → asset < assets_of ledger.now → sum_at self.new place asset ≤ sum_at self.old place asset + 2 ^ 62 }
     {
-        let Some(credit) = credit_of(ledger, index, tx) else {
+        tx_ranges(tx);
+        let Some(credit) = credit_of(ledger, tx, places) else {
             return;
         };
         self.add(&credit);
     }
 
     // The sums of all assets at a place.
-    pub fn row(&self, place: usize) -> &[u128]
+    pub(crate) fn row(&self, place: usize) -> &[u128]
         requires place { (place + 1) * self.now.assets ≤ length self.now.sums.items }
         ensures width { length result.now ≡ self.now.assets }
         ensures sums { (asset : ℕ) → asset < self.now.assets → slice_index result.now asset ≡ sum_at self.now place asset }
@@ -84,70 +89,35 @@ impl Credits {
     }
 }
 
-// The amount of the offer of this key.
-fn amount_at(ledger: &Ledger, key: &Key) -> Option<Amount>
-    ensures found { IfSome result (λ amount. amount ≡ amount_of ledger.now.offers key.now) }
-    ensures absent { IfNone result (has_offer ledger.now.offers key.now ≡ false) }
-{
-    let place = ledger.find_offer(key)?;
-    Some(ledger.offer(place).amount)
-}
-
-// What a transaction credits: a payment to the payee, and the amount of a cancelled offer to its
-// account.
-fn credit_of(ledger: &Ledger, index: &AccountIndex, tx: &Tx) -> Option<Credit>
-    requires index { index.now ≡ ids ledger.now.accounts }
+// What a transaction credits, which stands at these places: a payment to the payee, and the amount of
+// a cancelled offer to its account.
+fn credit_of(ledger: &Ledger, tx: &Tx, places: &Places) -> Option<Credit>
     requires passes { static_of ledger.now tx.now ≡ Ok tt }
+    requires places { ArePlaces ledger.now tx.now places.now }
     ensures some { IfSome result (IsCredit ledger.now tx.now) }
     ensures none { IfNone result (credit_by ledger.now.offers tx.now ≡ None) }
 {
     match tx.kind {
-        Kind::Pay { to, asset, amount } => {
-            let place = index.find(to)?;
+        Kind::Pay { asset, amount, .. } => {
+            let Target::Payee(place) = places.target else {
+                unreachable!()
+            };
             Some(Credit {
                 place,
                 asset,
                 amount,
             })
         }
-        Kind::Cancel {
-            sell,
-            buy,
-            limit,
-            seq,
-        } => {
-            let account = tx.account;
-            let amount = amount_at(
-                ledger,
-                &Key {
-                    sell,
-                    buy,
-                    limit,
-                    account,
-                    seq,
-                },
-            )?;
-            let place = index.find(account)?;
+        Kind::Cancel { sell, .. } => {
+            let Target::Offer(place) = places.target else {
+                unreachable!()
+            };
             Some(Credit {
-                place,
+                place: places.account,
                 asset: sell,
-                amount,
+                amount: ledger.offer(place).amount,
             })
         }
         Kind::Create { .. } | Kind::Offer { .. } => None,
     }
-}
-
-// The credits of these transactions, each of which passes the static checks. One pass.
-pub fn credits_of(alloc: Global, ledger: &Ledger, txs: &[Tx]) -> Result<Credits, NoMemory>
-    requires { All (λ tx. static_of ledger.now tx ≡ Ok tt) txs.now }
-    ensures { IfOk result (HasCredits ledger.now txs.now) }
-{
-    let index = ledger.index()?;
-    let assets = ledger.assets() as usize;
-    let mut credits = Credits::zero(alloc, ledger.accounts() as usize, assets)?;
-    for tx in txs {
-        credits.enter(ledger, &index, tx);
-    }
-    Ok(credits)
 }

@@ -23,9 +23,12 @@ mod offers;
 mod overdraft;
 mod own;
 mod ranges;
+mod screening;
 mod settled;
 mod used;
 
-pub use applying::{accounts_after, settle};
+pub use applying::settle;
+pub use credits::Credits;
 pub use offers::offers_after;
 pub use overdraft::{Overdraft, first_overdraft};
+pub use screening::{ScreenFault, screen};

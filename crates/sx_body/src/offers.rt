@@ -6,7 +6,6 @@ ghost use Rattle.std.specs.List.Sorted.{IsPermutation, IsSorted};
 ghost use Rattle.sx_ledger.specs.Body.{IsAdmissible, cancelled, cancelled_by, kept_offers, made, made_by, offers_after as all_after};
 ghost use Rattle.sx_ledger.specs.Order.{key_cmp, key_of, same_key};
 
-use crate::ranges::all_ranges;
 use std::alloc::Global;
 use sx_bytes::NoMemory;
 use sx_ledger::{Key, Ledger, Offer, Offers};
@@ -122,7 +121,6 @@ pub fn offers_after(alloc: Global, ledger: &Ledger, txs: &[Tx]) -> Result<Offers
     requires { IsAdmissible ledger.now txs.now }
     ensures { IfOk result (λ offers. offers ≡ all_after ledger.now txs.now) }
 {
-    all_ranges(txs);
     let mut offers = kept(alloc, ledger.parts().offers.items(), txs)?;
     offers.extend_from_slice(&new_offers(alloc, txs)?)?;
     offers.sort_by_key(|offer| offer.key())?;

@@ -1,12 +1,12 @@
 //! The ranges of the numbers of a transaction, which their types keep.
 
 ghost use Rattle.std.specs.Prelude.{◌<◌, ◌^◌};
-ghost use Rattle.std.specs.List.{All};
 ghost use Rattle.sx_tx.specs.Transactions.{IsKind, IsTx};
 
 use sx_tx::{Kind, Tx};
 
 // An id is below 2^64.
+#[inline]
 fn id_range(id: u64)
     ensures { id < 2 ^ 64 }
 {
@@ -14,6 +14,7 @@ fn id_range(id: u64)
 }
 
 // The fields of this kind are in their ranges.
+#[inline]
 fn kind_ranges(kind: &Kind)
     ensures { IsKind kind.now }
 {
@@ -47,20 +48,12 @@ fn kind_ranges(kind: &Kind)
     }
 }
 
-// All fields of a transaction are in their ranges.
-fn tx_ranges(tx: &Tx)
+// All fields of a transaction are in their ranges. It does nothing when it runs.
+#[inline]
+pub fn tx_ranges(tx: &Tx)
     ensures { IsTx tx.now }
 {
     id_range(tx.account.0);
     let _seq = tx.seq.get();
     kind_ranges(&tx.kind);
-}
-
-// All fields of transactions are in their ranges. It does nothing when it runs.
-pub fn all_ranges(txs: &[Tx])
-    ensures { All IsTx txs.now }
-{
-    for tx in txs {
-        tx_ranges(tx);
-    }
 }

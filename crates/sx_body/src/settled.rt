@@ -12,7 +12,6 @@ ghost use Rattle.sx_tx.specs.Window.{Next};
 use crate::credits::Credits;
 use crate::debits::debits_of;
 use crate::own::split_own;
-use crate::ranges::all_ranges;
 use crate::used::used_numbers;
 use std::alloc::Global;
 use sx_base::Balances;
@@ -76,7 +75,6 @@ pub fn settled(
     requires credits { HasCredits ledger txs.now credits.now }
     ensures { IfOk result (λ parts. parts ≡ settled_parts ledger txs.now) }
 {
-    all_ranges(txs);
     let Parts {
         version,
         height,

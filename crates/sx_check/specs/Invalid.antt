@@ -1,7 +1,9 @@
--- The numbers of the reasons why a block is refused.
+-- The numbers of the reasons why a block is refused, and those that misfits are.
 use Rattle.std.specs.Prelude.{ℕ}
 use Rattle.sx_check.specs.declared.invalid.Invalid.{Invalid}
 use Rattle.sx_check.specs.declared.invalid.Invalid.TheVariants.{Ended, WrongHeight, WrongParent, WrongBody, WrongAssets, Tx, TwoCancels, TwoNames, Crowded, Overdrawn, Outside, Unbalanced, Slack, NoCut, Rounding, WrongAfter}
+use Rattle.sx_dual.specs.declared.misfit.Misfit.{Misfit}
+use Rattle.sx_dual.specs.declared.misfit.Misfit.TheVariants as misfit
 
 abbrev pub number_of : Invalid → ℕ
 number_of Ended = 1
@@ -20,3 +22,9 @@ number_of (Slack sell buy gain y) = 13
 number_of (NoCut cut) = 14
 number_of (Rounding asset said real) = 15
 number_of (WrongAfter said real) = 16
+
+-- a misfit of the block's flow, as a reason
+abbrev pub reason_of : Misfit → Invalid
+reason_of (misfit.Outside sell buy low high y) = Outside sell buy low high y
+reason_of (misfit.Unbalanced asset out into) = Unbalanced asset out into
+reason_of (misfit.Slack sell buy gain y) = Slack sell buy gain y

@@ -1,11 +1,11 @@
 //! Why a block is refused.
 
 ghost use Rattle.std.specs.Prelude.{◌≡◌};
-ghost use Rattle.sx_check.specs.Invalid.{number_of};
+ghost use Rattle.sx_check.specs.Invalid.{number_of, reason_of};
 
 use sx_base::{AccountId, AssetId};
 use sx_block::Digest;
-use sx_dual::Cut;
+use sx_dual::{Cut, Misfit};
 use sx_ledger::Static;
 use thiserror::Error;
 
@@ -143,6 +143,30 @@ impl Invalid {
             Invalid::NoCut { .. } => 14,
             Invalid::Rounding { .. } => 15,
             Invalid::WrongAfter { .. } => 16,
+        }
+    }
+}
+
+impl From<Misfit> for Invalid {
+    ghost from_gives = { λ misfit why. why ≡ reason_of misfit };
+
+    fn from(misfit: Misfit) -> Invalid {
+        match misfit {
+            Misfit::Outside {
+                sell,
+                buy,
+                low,
+                high,
+                y,
+            } => Invalid::Outside {
+                sell,
+                buy,
+                low,
+                high,
+                y,
+            },
+            Misfit::Unbalanced { asset, out, into } => Invalid::Unbalanced { asset, out, into },
+            Misfit::Slack { sell, buy, gain, y } => Invalid::Slack { sell, buy, gain, y },
         }
     }
 }

@@ -32,9 +32,29 @@ kept_few (offer ∷ offers) txs =
       | inr kept ↦ rw kept (omega (arith, kept_few offers txs))
     ]
 
-module _ (parts : Parts) (txs : List Tx) (keeps : IsLedger parts) (in_range : All IsTx txs) (body : IsAdmissible parts txs) where
+module _ (parts : Parts) (txs : List Tx) (keeps : IsLedger parts) (body : IsAdmissible parts txs) where
   passing : All (Passes parts) txs
   passing = λ k d below. passes parts (get_or txs k d) (body.passes k d below)
+
+  offers_put : offers_after parts txs ≡ put_all key_of key_before (made txs) (kept_offers parts.offers txs)
+  offers_put = put_offers_are (made txs) (kept_offers parts.offers txs)
+
+  kept_are : All (IsOffer (assets_of parts) parts.accounts) (kept_offers parts.offers txs)
+  kept_are = All-filter (λ offer. not (list_any (same_key (key_of offer)) (cancelled txs)))
+      (IsOffer (assets_of parts) parts.accounts) parts.offers keeps.offers
+
+  pub keys_in_order : in_order key_before None (keys (offers_after parts txs)) ≡ true
+  keys_in_order =
+      let ordered = filter_in_order key_of key_before before_both
+      (λ offer. not (list_any (same_key (key_of offer)) (cancelled txs))) None parts.offers keeps.by_key in
+      let whole = put_all_in_order key_of key_before (made txs) (kept_offers parts.offers txs)
+      (made_apart parts keeps.by_id (kept_offers parts.offers txs) kept_are None txs body.ordered passing)
+      ordered in
+      rw offers_put whole
+
+module _ (parts : Parts) (txs : List Tx) (keeps : IsLedger parts) (in_range : All IsTx txs) (body : IsAdmissible parts txs) where
+  all_pass : All (Passes parts) txs
+  all_pass = passing parts txs keeps body
 
   totals : (asset : ℕ) → asset < assets_of parts → total_of (body_after parts txs) asset ≤ 2 ^ 62
   totals asset lt = omega (arith, body_conserves parts txs asset keeps body lt, keeps.totals asset lt)
@@ -59,7 +79,7 @@ module _ (parts : Parts) (txs : List Tx) (keeps : IsLedger parts) (in_range : Al
   accounts k d lt =
       let after = accounts_after parts txs in
       let account = get_or after k d in
-      let shape : HasShape (assets_of parts) account = shapes parts txs keeps in_range passing k d lt in
+      let shape : HasShape (assets_of parts) account = shapes parts txs keeps in_range all_pass k d lt in
       record {
         id = shape.id;
         last = shape.last;
@@ -75,27 +95,11 @@ module _ (parts : Parts) (txs : List Tx) (keeps : IsLedger parts) (in_range : Al
 
   -- ---- offers
 
-  offers_put : offers_after parts txs ≡ put_all key_of key_before (made txs) (kept_offers parts.offers txs)
-  offers_put = put_offers_are (made txs) (kept_offers parts.offers txs)
-
   few_offers : length (offers_after parts txs) ≤ 262144
   few_offers =
       let is : length (offers_after parts txs) ≡ length (made txs) + length (kept_offers parts.offers txs) =
-      ap length offers_put ∙ length-put_all key_of key_before (made txs) (kept_offers parts.offers txs) in
+      ap length (offers_put parts txs keeps body) ∙ length-put_all key_of key_before (made txs) (kept_offers parts.offers txs) in
       omega (arith, is, kept_few parts.offers txs, body.offers_fit)
-
-  kept_are : All (IsOffer (assets_of parts) parts.accounts) (kept_offers parts.offers txs)
-  kept_are = All-filter (λ offer. not (list_any (same_key (key_of offer)) (cancelled txs)))
-      (IsOffer (assets_of parts) parts.accounts) parts.offers keeps.offers
-
-  by_key : in_order key_before None (keys (offers_after parts txs)) ≡ true
-  by_key =
-      let ordered = filter_in_order key_of key_before before_both
-      (λ offer. not (list_any (same_key (key_of offer)) (cancelled txs))) None parts.offers keeps.by_key in
-      let whole = put_all_in_order key_of key_before (made txs) (kept_offers parts.offers txs)
-      (made_apart parts keeps.by_id (kept_offers parts.offers txs) kept_are None txs body.ordered passing)
-      ordered in
-      rw offers_put whole
 
   kept_offer : (offer : Offer) → IsOffer (assets_of parts) parts.accounts offer
       → IsOffer (assets_of parts) (accounts_after parts txs) offer
@@ -107,7 +111,7 @@ module _ (parts : Parts) (txs : List Tx) (keeps : IsLedger parts) (in_range : Al
     account = is.account;
     seq = is.seq;
     amount = is.amount;
-    owner = owner_after parts txs keeps in_range passing offer (owner_there parts.accounts offer is.owner) is.seq.0
+    owner = owner_after parts txs keeps in_range all_pass offer (owner_there parts.accounts offer is.owner) is.seq.0
         (inl (owner_used parts.accounts keeps.by_id offer is.owner));
   }
 
@@ -121,19 +125,19 @@ module _ (parts : Parts) (txs : List Tx) (keeps : IsLedger parts) (in_range : Al
   made_offers [] all = tt
   made_offers (offer ∷ offers) all = (
     all.0.fields (accounts_after parts txs)
-        (owner_after parts txs keeps in_range passing offer all.0.there all.0.some (inr all.0.used)),
+        (owner_after parts txs keeps in_range all_pass offer all.0.there all.0.some (inr all.0.used)),
     made_offers offers all.1,
   )
 
   offers : All (IsOffer (assets_of parts) (accounts_after parts txs)) (offers_after parts txs)
   offers =
       All-from_recursion (IsOffer (assets_of parts) (accounts_after parts txs)) (offers_after parts txs)
-      (subst (AllByRecursion (IsOffer (assets_of parts) (accounts_after parts txs))) (sym offers_put)
+      (subst (AllByRecursion (IsOffer (assets_of parts) (accounts_after parts txs))) (sym (offers_put parts txs keeps body))
       (all_put_all key_of key_before (IsOffer (assets_of parts) (accounts_after parts txs)) (made txs)
       (kept_offers parts.offers txs)
-      (made_offers (made txs) (all_made parts txs txs in_range passing all_used))
+      (made_offers (made txs) (all_made parts txs txs in_range all_pass all_used))
       (recursion_from_All (IsOffer (assets_of parts) (accounts_after parts txs)) (kept_offers parts.offers txs)
-      (λ k d lt. kept_offer (get_or (kept_offers parts.offers txs) k d) (kept_are k d lt)))))
+      (λ k d lt. kept_offer (get_or (kept_offers parts.offers txs) k d) (kept_are parts txs keeps body k d lt)))))
 
   ledger_after : IsLedger (body_after parts txs)
   ledger_after = record {
@@ -146,10 +150,10 @@ module _ (parts : Parts) (txs : List Tx) (keeps : IsLedger parts) (in_range : Al
     rounding = keeps.rounding;
     few_accounts = few_accounts;
     accounts = accounts;
-    by_id = by_id_after parts txs keeps in_range passing body.creates_once;
+    by_id = by_id_after parts txs keeps in_range all_pass body.creates_once;
     few_offers = few_offers;
     offers = offers;
-    by_key = by_key;
+    by_key = keys_in_order parts txs keeps body;
     totals = totals;
   }
 

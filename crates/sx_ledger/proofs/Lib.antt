@@ -19,6 +19,7 @@ pub mod BodyKeepsLedger
 pub mod SearchNumbers
 pub mod SearchById
 pub mod KeyOrder
+pub mod OfferOrder
 pub mod SearchByKey
 pub mod Lookup
 pub mod SequenceChecks

@@ -10,3 +10,4 @@ pub mod Bounds
 pub mod Fills
 pub mod Trade
 pub mod EffectLaws
+pub mod Places

@@ -1,6 +1,7 @@
 //! The ids of accounts, to look many of them up.
 
 ghost use Rattle.std.specs.Prelude.{◌≡◌, ◌≤◌, length, slice_get, IfOk, IfSome, IfNone, Some, Contains};
+ghost use Rattle.std.specs.Bool.{OnTrue};
 ghost use Rattle.std.specs.List.Sorted.{IsStrictlyIncreasing};
 ghost use Rattle.sx_ledger.specs.Ledger.{ids, most_accounts};
 
@@ -51,6 +52,32 @@ impl AccountIndex {
             Ok(place) => Some(place as u32),
             Err(_) => None,
         }
+    }
+
+    // Whether the account of this id stands at a place, which may be any number.
+    fn is_at(&self, place: u32, id: AccountId) -> bool
+        ensures at { OnTrue result (slice_get self.now place ≡ Some id.0) }
+        ensures by_id { IsStrictlyIncreasing self.now }
+    {
+        match self.entries.get(place as usize) {
+            Some(entry) => *entry == id.0,
+            None => false,
+        }
+    }
+
+    // The same as `find`, but the place `near` and the one after it are tried first.
+    pub(crate) fn find_near(&self, near: u32, id: AccountId) -> Option<u32>
+        ensures found { IfSome result (λ place. slice_get self.now place ≡ Some id.0) }
+        ensures absent { IfNone result (Contains self.now id.0 → ⊥) }
+    {
+        if self.is_at(near, id) {
+            return Some(near);
+        }
+        let next = near.saturating_add(1);
+        if self.is_at(next, id) {
+            return Some(next);
+        }
+        self.find(id)
     }
 }
 

@@ -9,7 +9,8 @@
 //! [`read_state`] answers a ledger exactly where the bytes are the encoding of one, and else the
 //! first fault from left to right; [`Ledger::write_state`] writes the one encoding, and
 //! [`read_prices`] reads a price for each asset. [`Ledger::static_check`] answers the first reason,
-//! a [`Static`], why the ledger refuses a transaction by itself. [`Ledger::find`] and
+//! a [`Static`], why the ledger refuses a transaction by itself, and [`Ledger::places_of`] the same
+//! with the [`Places`] where its account and what it names stand. [`Ledger::find`] and
 //! [`Ledger::find_offer`] search for an account and for an offer, an [`AccountIndex`] finds many
 //! accounts fast, and [`Ledger::copy`] makes a ledger of its own. Any call that takes memory may
 //! answer out of memory instead.
@@ -37,6 +38,7 @@ mod ledger;
 mod offer;
 mod offer_reading;
 mod parts;
+mod places;
 mod reading;
 mod sizes;
 mod statics;
@@ -52,6 +54,7 @@ pub use laws::state_laws;
 pub use ledger::Ledger;
 pub use offer::{Offer, Offers};
 pub use parts::Parts;
+pub use places::{Places, Target};
 pub use reading::{read_prices, read_state};
 pub use statics::Static;
 

@@ -1,12 +1,14 @@
 //! What a ledger says of one transaction, whatever stands beside it in a block.
 
-ghost use Rattle.std.specs.Prelude.{◌≡◌, ◌*◌, ◌^◌, ◌==◌, ◌||◌, nat_lt, nat_le, not, take, drop, [], ◌∷◌};
+ghost use Rattle.std.specs.Prelude.{◌≡◌, ◌*◌, ◌^◌, ◌==◌, ◌||◌, nat_lt, nat_le, not, take, drop, [], ◌∷◌, slice_get, Some, IfOk, IfSome, is_some};
 ghost use Rattle.sx_ledger.specs.declared.statics.Static.TheVariants.{UnknownAsset, SamePair, UnknownPayee, AccountExists, NoSuchOffer, Dust};
-ghost use Rattle.sx_ledger.specs.Ledger.{assets_of};
-ghost use Rattle.sx_ledger.specs.Static.{first_holding, has_account as is_there, has_offer as is_offered, number_of_static, static_list, static_of};
+ghost use Rattle.sx_ledger.specs.Ledger.{assets_of, ids, keys};
+ghost use Rattle.sx_ledger.specs.Places.{ArePlaces, IsFound, IsNamedOffer, IsTarget, named_account, verdict};
+ghost use Rattle.sx_ledger.specs.Static.{first_holding, has_offer as is_offered, number_of_static, static_list, static_of};
 
 use crate::key::Key;
 use crate::ledger::Ledger;
+use crate::places::{Places, Target};
 use sx_base::{AccountId, Amount, AssetId};
 use sx_price::Limit;
 use sx_tx::{Kind, Tx, WindowFault};
@@ -58,57 +60,40 @@ impl Static {
 const ONE: u128 = 1 << 24;
 
 impl Ledger {
-    fn has_account(&self, id: AccountId) -> bool
-        ensures { result ≡ is_there self.now.accounts id.0 }
-    {
-        self.find(id).is_some()
-    }
-
-    fn has_offer(&self, key: &Key) -> bool
-        ensures { result ≡ is_offered self.now.offers key.now }
-    {
-        self.find_offer(key).is_some()
-    }
-
     fn lacks_asset(&self, asset: AssetId) -> bool
         ensures { result ≡ nat_le (assets_of self.now) asset }
     {
         self.assets() <= u32::from(asset.get())
     }
 
-    // The account is there, and the sequence number is in its window.
-    fn check_number(&self, tx: &Tx) -> Result<(), Static>
-        ensures { result ≡ first_holding (take 3 (static_list self.now tx.now)) }
+    // The account is there, at the place that was found, and the sequence number is in its window.
+    fn check_number(&self, tx: &Tx, account: Option<u32>) -> Result<u32, Static>
+        requires { IsFound (ids self.now.accounts) tx.now.account.0 account }
+        ensures tells { verdict result ≡ first_holding (take 3 (static_list self.now tx.now)) }
+        ensures place { IfOk result (λ place. slice_get (ids self.now.accounts) place ≡ Some tx.now.account.0) }
     {
-        let Some(place) = self.find(tx.account) else {
+        let Some(place) = account else {
             return Err(Static::UnknownAccount);
         };
         match self.account(place).window.place(tx.seq) {
-            Ok(_) => Ok(()),
+            Ok(_) => Ok(place),
             Err(WindowFault::Behind) => Err(Static::SeqBehind),
             Err(WindowFault::Beyond) => Err(Static::SeqBeyond),
         }
     }
 
-    fn check_payment(&self, to: AccountId, asset: AssetId) -> Result<(), Static>
-        ensures { result ≡ first_holding ((nat_le (assets_of self.now) asset, UnknownAsset) ∷ (not (is_there self.now.accounts to.0), UnknownPayee) ∷ []) }
+    // The asset is there, and the payee was found.
+    fn check_payment(&self, asset: AssetId, payee: Option<u32>) -> Result<Target, Static>
+        ensures tells { verdict result ≡ first_holding ((nat_le (assets_of self.now) asset, UnknownAsset) ∷ (not (is_some payee), UnknownPayee) ∷ []) }
+        ensures place { IfOk result (λ target. IfSome payee (λ place. target ≡ Target.Payee place)) }
     {
         if self.lacks_asset(asset) {
             return Err(Static::UnknownAsset);
         }
-        if !self.has_account(to) {
-            return Err(Static::UnknownPayee);
+        match payee {
+            Some(place) => Ok(Target::Payee(place)),
+            None => Err(Static::UnknownPayee),
         }
-        Ok(())
-    }
-
-    fn check_creation(&self, id: AccountId) -> Result<(), Static>
-        ensures { result ≡ first_holding ((is_there self.now.accounts id.0, AccountExists) ∷ []) }
-    {
-        if self.has_account(id) {
-            return Err(Static::AccountExists);
-        }
-        Ok(())
     }
 
     // The assets are there, and they are two.
@@ -141,29 +126,40 @@ impl Ledger {
         Ok(())
     }
 
-    fn check_cancellation(&self, key: &Key) -> Result<(), Static>
-        ensures { result ≡ first_holding ((nat_le (assets_of self.now) key.now.sell || nat_le (assets_of self.now) key.now.buy, UnknownAsset) ∷ (key.now.sell == key.now.buy, SamePair) ∷ (not (is_offered self.now.offers key.now), NoSuchOffer) ∷ []) }
+    // The pair is one, and an offer has this key.
+    fn check_cancellation(&self, key: &Key) -> Result<Target, Static>
+        ensures tells { verdict result ≡ first_holding ((nat_le (assets_of self.now) key.now.sell || nat_le (assets_of self.now) key.now.buy, UnknownAsset) ∷ (key.now.sell == key.now.buy, SamePair) ∷ (not (is_offered self.now.offers key.now), NoSuchOffer) ∷ []) }
+        ensures place { IfOk result (IsNamedOffer self.now key.now) }
     {
         self.check_pair(key.sell, key.buy)?;
-        if !self.has_offer(key) {
-            return Err(Static::NoSuchOffer);
+        match self.find_offer(key) {
+            Some(place) => Ok(Target::Offer(place)),
+            None => Err(Static::NoSuchOffer),
         }
-        Ok(())
     }
 
-    // What the kind of the transaction asks of the ledger.
-    fn check_kind(&self, tx: &Tx) -> Result<(), Static>
-        ensures { result ≡ first_holding (drop 3 (static_list self.now tx.now)) }
+    // What the kind of the transaction asks of the ledger, where the account that it pays or creates
+    // was looked up.
+    fn check_kind(&self, tx: &Tx, named: Option<u32>) -> Result<Target, Static>
+        requires { IfSome (named_account tx.now.kind) (λ id. IsFound (ids self.now.accounts) id.0 named) }
+        ensures tells { verdict result ≡ first_holding (drop 3 (static_list self.now tx.now)) }
+        ensures target { IfOk result (IsTarget self.now tx.now.account.0 tx.now.kind) }
     {
         match tx.kind {
-            Kind::Pay { to, asset, .. } => self.check_payment(to, asset),
-            Kind::Create { id } => self.check_creation(id),
+            Kind::Pay { asset, .. } => self.check_payment(asset, named),
+            Kind::Create { .. } => match named {
+                Some(_) => Err(Static::AccountExists),
+                None => Ok(Target::Nothing),
+            },
             Kind::Offer {
                 sell,
                 buy,
                 limit,
                 amount,
-            } => self.check_offer(sell, buy, limit, amount),
+            } => {
+                self.check_offer(sell, buy, limit, amount)?;
+                Ok(Target::Nothing)
+            }
             Kind::Cancel {
                 sell,
                 buy,
@@ -179,12 +175,34 @@ impl Ledger {
         }
     }
 
+    // The static test of a transaction, once its account and the one that it pays or creates were
+    // looked up, and the places of what it names.
+    pub(crate) fn test(
+        &self,
+        tx: &Tx,
+        account: Option<u32>,
+        named: Option<u32>,
+    ) -> Result<Places, Static>
+        requires account { IsFound (ids self.now.accounts) tx.now.account.0 account }
+        requires named { IfSome (named_account tx.now.kind) (λ id. IsFound (ids self.now.accounts) id.0 named) }
+        ensures tells { verdict result ≡ static_of self.now tx.now }
+        ensures places { IfOk result (ArePlaces self.now tx.now) }
+    {
+        let account = self.check_number(tx, account)?;
+        let target = self.check_kind(tx, named)?;
+        Ok(Places { account, target })
+    }
+
     /// Why the ledger refuses a transaction, whatever stands beside it: exactly the first reason
     /// that holds, in the order in which they are listed. It takes no memory.
     pub fn static_check(&self, tx: &Tx) -> Result<(), Static>
         ensures { result ≡ static_of self.now tx.now }
     {
-        self.check_number(tx)?;
-        self.check_kind(tx)
+        let account = self.find(tx.account);
+        let named = self.find_named(&tx.kind);
+        match self.test(tx, account, named) {
+            Ok(_) => Ok(()),
+            Err(why) => Err(why),
+        }
     }
 }

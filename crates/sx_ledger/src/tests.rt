@@ -214,6 +214,41 @@ fn kinds() -> Option<[Kind; 4]> {
     ])
 }
 
+// The places of the payment and of the cancellation, by account 1, with the account looked for at a
+// place first.
+fn placed(alloc: Global, near: u32) -> Option<[Result<Places, Static>; 2]> {
+    let ledger = read_state(alloc, &state_bytes()).ok()?;
+    let index = ledger.index().ok()?;
+    let account = AccountId(1);
+    let seq = Seq::new(8).ok()?;
+    let [pay, _, _, cancel] = kinds()?;
+    let pay = Tx {
+        account,
+        seq,
+        kind: pay,
+    };
+    let cancel = Tx {
+        account,
+        seq,
+        kind: cancel,
+    };
+    Some([
+        ledger.places_of(&index, near, &pay),
+        ledger.places_of(&index, near, &cancel),
+    ])
+}
+
+#[test]
+fn places_are_found(rt: HostRuntime) {
+    for near in [0, 1, u32::MAX] {
+        let wanted = [Target::Payee(0), Target::Offer(0)].map(|target| Ok(Places {
+            account: 0,
+            target,
+        }));
+        assert_eq!(rt; placed(rt.alloc(), near), Some(wanted), "{near}");
+    }
+}
+
 #[test]
 fn transactions_pass(rt: HostRuntime) -> Result<(), Fail> {
     let ledger = read_state(rt.alloc(), &state_bytes())

@@ -20,6 +20,6 @@ returns c =
     subst (λ (xs : List Account). IsPermutation (xs ++ map (fresh (assets_of parts)) (created txs)) after) olds
     (rw c.assets-assets.ensures.number at c.in_ok-accounts.ensures.all) in
     let accounts : c.of.result ≡ accounts_after parts txs =
-    c.of.ensures ∙ accounts_are parts txs c.assets-assets.ensures.kept c.all_ranges.ensures c.requires after permuted c.in_ok-accounts.ensures.by_id in
+    c.of.ensures ∙ accounts_are parts txs c.assets-assets.ensures.kept c.requires.credits.in_range c.requires.body after permuted c.in_ok-accounts.ensures.by_id in
     let made : Parts → List Account → Parts = λ p entries. record p { accounts = entries } in
     ap (λ (p : Parts). made p c.of.result) same ∙ ap (made (settled_parts parts txs)) accounts

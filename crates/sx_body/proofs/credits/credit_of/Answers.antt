@@ -1,50 +1,25 @@
-use Rattle.std.proofs.Common.{ℕ, Some, ap, sym, ◌∙◌}
-use Rattle.sx_body.proofs.CreditSums.{cancellation, payment}
+use Rattle.std.proofs.Common.{◌≡◌, ℕ, Some, ap, sym, ◌∙◌}
+use Rattle.std.specs.Prelude.{slice_get}
+use Rattle.sx_body.proofs.CreditSums.{amount_is, cancellation, key_at}
 use Rattle.sx_body.proofs.credits.credit_of.Goals as goal
 use Rattle.sx_ledger.specs.Effects.{Posting}
+use Rattle.sx_ledger.specs.Ledger.{keys}
 
-pub returns-in_err-place-in-Pay-clause-none : goal.returns-in_err-place-in-Pay-clause-none
-returns-in_err-place-in-Pay-clause-none c =
-    let ledger = c.args.ledger.now in
-    let pay = payment ledger c.args.tx.now c.requires.passes c.in-Pay.to c.in-Pay.asset c.in-Pay.amount c.in-Pay.is in
-    let absent = rw c.requires.index at c.in_err-place-in-Pay.ensures.absent in
-    absurd (absent pay.payee)
-
-pub returns-in_ok-place-in-Pay-clause-some : goal.returns-in_ok-place-in-Pay-clause-some
-returns-in_ok-place-in-Pay-clause-some c =
-    let ledger = c.args.ledger.now in
-    let pay = payment ledger c.args.tx.now c.requires.passes c.in-Pay.to c.in-Pay.asset c.in-Pay.amount c.in-Pay.is in
-    record {
-      account = c.in-Pay.to.0;
-      there = rw c.requires.index at c.in_ok-place-in-Pay.ensures.found;
-      asset = pay.asset_there;
-      posting = pay.posting;
-    }
-
-pub returns-in_err-amount-in-Cancel-clause-none : goal.returns-in_err-amount-in-Cancel-clause-none
-returns-in_err-amount-in-Cancel-clause-none c =
-    let offered = cancellation c.args.ledger.now c.args.tx.now c.requires.passes c.in-Cancel.sell c.in-Cancel.buy
-    c.in-Cancel.limit c.in-Cancel.seq c.in-Cancel.is in
-    let there = offered.offer in
-    let absent = c.in_err-amount-in-Cancel.ensures.absent in
-    absurd cc
-
-pub returns-in_err-place-in-Cancel-clause-none : goal.returns-in_err-place-in-Cancel-clause-none
-returns-in_err-place-in-Cancel-clause-none c =
-    let offered = cancellation c.args.ledger.now c.args.tx.now c.requires.passes c.in-Cancel.sell c.in-Cancel.buy
-    c.in-Cancel.limit c.in-Cancel.seq c.in-Cancel.is in
-    let absent = rw c.requires.index at c.in_err-place-in-Cancel.ensures.absent in
-    absurd (absent offered.own)
-
-pub returns-in_ok-place-in-Cancel-clause-some : goal.returns-in_ok-place-in-Cancel-clause-some
-returns-in_ok-place-in-Cancel-clause-some c =
+pub returns-in-Offer-clause-some : goal.returns-in-Offer-clause-some
+returns-in-Offer-clause-some c =
+    let parts = c.args.ledger.now in
     let tx = c.args.tx.now in
-    let offered = cancellation c.args.ledger.now tx c.requires.passes c.in-Cancel.sell c.in-Cancel.buy
-    c.in-Cancel.limit c.in-Cancel.seq c.in-Cancel.is in
+    let key = key_at tx c.in-Cancel.sell c.in-Cancel.buy c.in-Cancel.limit c.in-Cancel.seq in
+    let offered = cancellation parts tx c.requires.passes c.in-Cancel.sell c.in-Cancel.buy c.in-Cancel.limit
+    c.in-Cancel.seq c.in-Cancel.is in
+    let named : slice_get (keys parts.offers) c.in-Offer.place ≡ Some key =
+    rw (c.in-Cancel.is, c.in-Offer.is) at c.requires.places.target in
+    let amount = amount_is parts.offers c.in-Offer.place c.offer.result.now key c.offer.ensures.kept.by_key
+    c.offer.ensures.offer named in
     let posting : ℕ → Posting = λ n. record { account = tx.account.0; asset = c.in-Cancel.sell; units = n } in
     record {
       account = tx.account.0;
-      there = rw c.requires.index at c.in_ok-place-in-Cancel.ensures.found;
+      there = c.requires.places.account;
       asset = offered.asset_there;
-      posting = offered.posting ∙ ap (λ (n : ℕ). Some (posting n)) (sym c.in_ok-amount-in-Cancel.ensures.found);
+      posting = offered.posting ∙ ap (λ (n : ℕ). Some (posting n)) (sym amount);
     }

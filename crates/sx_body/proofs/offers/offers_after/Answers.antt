@@ -20,6 +20,6 @@ returns c =
     (c.in_ok-offers.ensures ∙ ap (λ (offers : List Offer). kept_offers offers txs) items)
     (c.deref.ensures.value ∙ c.in_ok-new_offers.ensures) in
     c.of.ensures
-    ∙ offers_are ledger txs c.parts.ensures.kept c.all_ranges.ensures c.requires after
+    ∙ offers_are ledger txs c.parts.ensures.kept c.requires after
     (subst (λ (xs : List Offer). IsPermutation xs after) all c.in_ok-sort_by_key.ensures.permutation)
     (c.in_ok-sort_by_key.ensures.sorted key_of (answers_always _ _ _ (λ f a r g called. search rules)))

@@ -105,7 +105,7 @@ settled_account-requires c =
     let own = c.split_own.result.0.now in
     let row = c.row-row.result.now in
     let shape = c.requires.credits.shape in
-    let ranges = c.all_ranges.ensures in
+    let ranges = c.requires.credits.in_range in
     let body = c.requires.body in
     let mine : own ≡ own_of account.id.0 txs = c.split_own.ensures.own
     ∙ takes_own ledger.accounts keeps.by_id k account lt is txs c.loop-account.left.now c.loop-account.invariant.left in
@@ -156,7 +156,7 @@ loop-account-preserved c =
     let window = settled.window
     ∙ ap (λ (v : ℕ). Next v account.window (used_numbers own account.id.0 account.window.last)) (ap (λ (p : Parts). p.version) same) in
     let account_is : c.settled_account.result ≡ account_after ledger txs account =
-    settled_is ledger txs keeps c.all_ranges.ensures c.requires.body k account lt is own mine row rows
+    settled_is ledger txs keeps c.requires.credits.in_range c.requires.body k account lt is own mine row rows
     c.settled_account.result settled.id window settled.as_many settled.each in
     let rest = leaves_others ledger.accounts keeps.by_id k account lt is txs c.loop-account.left.now own
     c.split_own.result.1.now left split.own split.all split.later split.ordered in

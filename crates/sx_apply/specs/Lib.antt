@@ -1,0 +1,4 @@
+pub mod Trading
+pub mod Effects
+pub mod FillSums
+pub mod NextFill

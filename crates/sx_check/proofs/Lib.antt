@@ -1,0 +1,7 @@
+pub mod RepeatLaws
+pub mod Counting
+pub mod SameReason
+pub mod ReasonLaws
+pub mod MarketLaws
+pub mod BoundLaws
+pub mod OfferLaws

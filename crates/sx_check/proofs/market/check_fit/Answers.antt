@@ -1,0 +1,27 @@
+use Rattle.std.proofs.Common.{refl, sym, subst}
+use Rattle.sx_block.specs.Validity.{flow_of_block, high_in, low_in}
+use Rattle.sx_check.specs.Refusals.{RefusesEarly}
+use Rattle.sx_check.proofs.MarketLaws.{fits_from, misfit_from, misfit_refuses}
+use Rattle.sx_check.proofs.market.check_fit.Goals as goal
+use Rattle.sx_dual.specs.Tables.{potential_of}
+use Rattle.sx_ledger.specs.Ledger.{assets_of}
+
+pub returns-in-Err-clause-refused : goal.returns-in-Err-clause-refused
+returns-in-Err-clause-refused c =
+    let parts = c.args.ledger.now in
+    let block = c.args.block.now in
+    let misfit = c.in-Err.misfit in
+    subst (RefusesEarly parts block) (sym c.from.ensures)
+    (misfit_refuses parts block misfit c.requires.body
+    (misfit_from (assets_of parts) (low_in parts block) (high_in parts block) c.args.bounds.now c.requires.bounds
+    (flow_of_block block) (potential_of block.header.potentials) misfit c.in-Err.ensures.misfit))
+
+pub returns-in-Ok-clause-fits : goal.returns-in-Ok-clause-fits
+returns-in-Ok-clause-fits c =
+    let parts = c.args.ledger.now in
+    let block = c.args.block.now in
+    record {
+      body = c.requires.body;
+      fits = fits_from (assets_of parts) (low_in parts block) (high_in parts block) c.args.bounds.now c.requires.bounds
+          (flow_of_block block) (potential_of block.header.potentials) (c.in-Ok.ensures.exact.0 refl);
+    }

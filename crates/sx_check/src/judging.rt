@@ -1,0 +1,111 @@
+//! Whether a block is valid, with the first reason where it is not.
+
+ghost use Rattle.std.specs.Prelude.{◌≡◌, ◌≢◌, IfErr, IfOk, OnOk};
+ghost use Rattle.sha2.specs.Sha256.{sha256};
+ghost use Rattle.sx_block.specs.Block.{IsBlock};
+ghost use Rattle.sx_block.specs.Validity.{IsValid, digest_of_ledger, ledger_after};
+ghost use Rattle.sx_check.specs.Checked.{IsJudged, IsWrongAfter, checked_of};
+ghost use Rattle.sx_check.specs.Refusals.{Explains, ExplainsEarly, Refuses};
+ghost use Rattle.sx_check.specs.Rules.{IsSound};
+ghost use Rattle.sx_tx.specs.Transactions.{list_bytes};
+
+use crate::body::check_body;
+use crate::checked::{Checked, Judged};
+use crate::fault::CheckFault;
+use crate::header::check_header;
+use crate::invalid::Invalid;
+use crate::market::check_market;
+use crate::rounding::check_rounding;
+use std::alloc::Global;
+use sx_apply::{Effects, apply};
+use sx_block::{Block, Digest, Header, body_digest, ledger_digest};
+use sx_body::offers_after;
+use sx_ledger::Ledger;
+
+// What is told of a valid block.
+fn checked(block: &Block) -> Checked
+    requires { IsBlock block.now }
+    ensures { result ≡ checked_of block.now }
+{
+    Checked {
+        height: block.header.height,
+        value: block.header.trades.value(),
+        dropped: block.header.dropped.is_some(),
+    }
+}
+
+/// Judges a block on a ledger by all but the digest of the ledger that it leaves: Ok exactly where the
+/// block is valid but for that, with what it does to the ledger, and else the first reason, which is
+/// one of the first fifteen. `parent` is the digest of the ledger and `body` that of the block's
+/// transactions. The block has the form of one, as those have that are read.
+///
+/// It goes over the transactions and the offers a fixed number of times, and copies nothing.
+pub fn judge(
+    alloc: Global,
+    ledger: &Ledger,
+    block: &Block,
+    parent: &Digest,
+    body: &Digest,
+) -> Result<Judged, CheckFault>
+    requires form { IsBlock block.now }
+    requires parent { parent.now ≡ digest_of_ledger ledger.now }
+    requires body { body.now ≡ sha256 (list_bytes block.now.txs) }
+    ensures judged { IfOk result (IsJudged ledger.now block.now) }
+    ensures refused { IfErr result (ExplainsEarly ledger.now block.now) }
+{
+    check_header(ledger, block, parent, body)?;
+    let credits = check_body(alloc, ledger, block)?;
+    let offers = offers_after(alloc, ledger, block.txs.items())?;
+    check_market(alloc, ledger, block, offers.items())?;
+    let fills = check_rounding(alloc, ledger, block, offers.items())?;
+    Ok(Judged {
+        checked: checked(block),
+        effects: Effects {
+            credits,
+            offers,
+            fills,
+        },
+    })
+}
+
+/// Whether the block leaves the ledger that its header says: Ok exactly where `after`, the digest of
+/// the ledger that it leaves, is the one of the header, and else `WrongAfter` with both.
+pub fn close(header: &Header, after: &Digest) -> Result<(), Invalid>
+    ensures same { OnOk result (header.now.after ≡ after.now) }
+    ensures differ { IfErr result (IsWrongAfter header.now after.now) }
+{
+    let said = header.after;
+    let real = *after;
+    if said != real {
+        return Err(Invalid::WrongAfter { said, real });
+    }
+    Ok(())
+}
+
+// The block leaves the ledger that its header says, where `after` is the digest of what it leaves.
+fn check_after(ledger: &Ledger, block: &Block, after: &Digest) -> Result<(), Invalid>
+    requires sound { IsSound ledger.now block.now }
+    requires after { after.now ≡ digest_of_ledger (ledger_after ledger.now block.now) }
+    ensures valid { OnOk result (IsValid ledger.now block.now) }
+    ensures refused { IfErr result (Refuses ledger.now block.now) }
+{
+    close(&block.header, after)
+}
+
+/// Judges a block on a ledger: Ok exactly where the block is valid for it, and else the first reason
+/// why it is not. The block has the form of one, as those have that are read. It works on a copy of the
+/// ledger to know what the block leaves; where the ledger may change, [`judge`], `apply` of `sx_apply`
+/// and [`close`] do the same with no copy.
+pub fn check(alloc: Global, ledger: &Ledger, block: &Block) -> Result<Checked, CheckFault>
+    requires form { IsBlock block.now }
+    ensures valid { OnOk result (IsValid ledger.now block.now) }
+    ensures checked { IfOk result (λ checked. checked ≡ checked_of block.now) }
+    ensures refused { IfErr result (Explains ledger.now block.now) }
+{
+    let parent = ledger_digest(alloc, ledger)?;
+    let body = body_digest(alloc, block.txs.items())?;
+    let Judged { checked, effects } = judge(alloc, ledger, block, &parent, &body)?;
+    let after = apply(alloc, ledger.copy()?, block, effects)?;
+    check_after(ledger, block, &ledger_digest(alloc, &after)?)?;
+    Ok(checked)
+}

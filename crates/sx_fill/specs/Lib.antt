@@ -1,0 +1,3 @@
+pub mod PairFills
+pub mod AllFills
+pub mod Laws

@@ -1,0 +1,68 @@
+//! The fills of the offers of one pair.
+
+ghost use Rattle.std.specs.Prelude.{◌≡◌, ◌+◌, ◌*◌, ◌^◌, ◌<◌, ◌≤◌, ◌++◌, length, IfOk, IsTrue, None, OnOk};
+ghost use Rattle.sx_base.specs.Ranges.{most_amount};
+ghost use Rattle.sx_bytes.specs.Grammar.{in_order};
+ghost use Rattle.sx_fill.specs.PairFills.{pair_fill, trading};
+ghost use Rattle.sx_ledger.specs.Ledger.{keys};
+ghost use Rattle.sx_ledger.specs.Order.{key_before};
+
+use std::alloc::Global;
+use sx_bytes::NoMemory;
+use sx_ledger::{Fill, Fills, Offer};
+use sx_price::{Price, units_down, units_up};
+
+/// Appends the fills of the offers of one pair, which stand in book order, where the sold asset has
+/// the price `sell`, the bought asset the price `buy`, and the pair trades the value `y`, in units of
+/// `2^-24`. There is one fill for each offer that trades a value above 0, by strictly rising place,
+/// and `first` is the place of the first offer. `NoMemory` comes where the list cannot grow.
+pub fn push_fills(
+    fills: &mut Vec<Fill>,
+    first: u32,
+    offers: &[Offer],
+    sell: Price,
+    buy: Price,
+    y: u128,
+) -> Result<(), NoMemory>
+    requires few { first + length offers.now < 2 ^ 32 }
+    requires in_book_order { IsTrue (in_order key_before None (keys offers.now)) }
+    requires worth_an_amount { y ≤ buy * most_amount }
+    ensures { OnOk result (fills.new.items ≡ fills.old.items ++ trading (pair_fill sell buy y offers.now) first offers.now) }
+{
+    let price = u128::from(sell.get());
+    let mut left = y;
+    for (place, offer) in offers.iter().enumerate() {
+        if left == 0 {
+            return Ok(());
+        }
+        let traded = left.min(price * u128::from(offer.amount.get()));
+        fills.push(Fill {
+            place: first + place as u32,
+            value: traded,
+            gives: units_up(traded, sell),
+            gets: units_down(traded, buy),
+        })?;
+        left -= traded;
+    }
+    Ok(())
+}
+
+/// The fills of the offers of one pair, which stand in book order, where the sold asset has the price
+/// `sell`, the bought asset the price `buy`, and the pair trades the value `y`, in units of `2^-24`:
+/// one for each offer that trades a value above 0, by strictly rising place, from place 0.
+pub fn fill_pair(
+    alloc: Global,
+    offers: &[Offer],
+    sell: Price,
+    buy: Price,
+    y: u128,
+) -> Result<Fills, NoMemory>
+    requires few { length offers.now < 2 ^ 32 }
+    requires in_book_order { IsTrue (in_order key_before None (keys offers.now)) }
+    requires worth_an_amount { y ≤ buy * most_amount }
+    ensures { IfOk result (λ fills. fills ≡ trading (pair_fill sell buy y offers.now) 0 offers.now) }
+{
+    let mut fills = Vec::new(alloc);
+    push_fills(&mut fills, 0, offers, sell, buy, y)?;
+    Ok(Fills::of(fills))
+}
