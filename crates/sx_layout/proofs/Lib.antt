@@ -1,2 +1,6 @@
 pub mod OutcomeLaws
 pub mod OutcomeListLaws
+pub mod Counts
+pub mod Turns
+pub mod ScriptLaws
+pub mod Cases

@@ -1,7 +1,8 @@
 -- Decoding an outcome inverts encoding it.
-use Rattle.std.proofs.Common.{◌≡◌, ℕ, zero, suc, ◌+◌, ◌^◌, ◌<◌, ◌≤◌, List, [], ◌++◌, length, Ok, refl, sym, ap, subst, ◌∙◌, append_assoc, arith}
+use Rattle.std.proofs.Common.{◌≡◌, ℕ, zero, suc, ◌+◌, ◌^◌, ◌≤◌, List, [], ◌++◌, length, Result, Ok, refl, sym, ap, subst, ◌∙◌, append_assoc, arith}
 use Rattle.byteorder.specs.Endian.{big_bytes}
 use Rattle.sx_bytes.specs.declared.fault.Form.TheVariants as form
+use Rattle.sx_bytes.specs.declared.fault.FormFault.{FormFault}
 use Rattle.sx_bytes.specs.Field.{AreBytes}
 use Rattle.sx_bytes.specs.Cursor.{Cursor, rest}
 use Rattle.sx_bytes.specs.Grammar.{◌>>=◌, between, field_at}
@@ -70,7 +71,8 @@ none_take n y c next x text is e =
 static_take : (c next : Cursor) (x : Outcome) → AreBytes c.bytes → static_at c ≡ Ok (x, next) → AreFields 1 c next x
 unfolding static_at
 static_take c next x bytes e =
-    let a = bind_ok (field_at 1 (between 1 9) form.Tag c) (λ n. Ok (outcome.Static (static_numbered n.0), n.1)) (x, next) e in
+    let a = bind_ok (field_at 1 (between 1 9) form.Tag c) (λ n. Ok (outcome.Static (static_numbered n.0), n.1))
+    (x, next) e in
     let t = range_takes 1 1 9 form.Tag c a.0.1 a.0.0 bytes a.1 in
     let is = made_is (outcome.Static (static_numbered a.0.0)) x a.0.1 next a.2 in
     let text : big_bytes 1 1 ++ big_bytes 1 a.0.0 ≡ outcome_bytes (outcome.Static (static_numbered a.0.0)) =
@@ -78,13 +80,19 @@ static_take c next x bytes e =
     subst (AreFields 1 c next) is.0
     (big_bytes 1 a.0.0, text, subst (λ (d : Cursor). Takes c (big_bytes 1 a.0.0) d) is.1 t.0, tt)
 
-overdraft_take : (c next : Cursor) (x : Outcome) → AreBytes c.bytes → overdraft_at c ≡ Ok (x, next) → AreFields 5 c next x
+abbrev at_need : ℕ × Cursor → Result (Outcome × Cursor) FormFault
+at_need seen =
+    field_at 8 (between (seen.0 + 1) (2 ^ 62)) form.AmountRange seen.1
+    >>= λ need. Ok (outcome.Overdraft seen.0 need.0, need.1)
+
+overdraft_take : (c next : Cursor) (x : Outcome) → AreBytes c.bytes → overdraft_at c ≡ Ok (x, next)
+    → AreFields 5 c next x
 unfolding overdraft_at
 overdraft_take c next x bytes e =
-    let a =
-    bind_ok (field_at 8 (between 0 (2 ^ 62)) form.AmountRange c) (λ seen. field_at 8 (between (seen.0 + 1) (2 ^ 62)) form.AmountRange seen.1 >>= λ need. Ok (outcome.Overdraft seen.0 need.0, need.1)) (x, next) e in
+    let a = bind_ok (field_at 8 (between 0 (2 ^ 62)) form.AmountRange c) at_need (x, next) e in
     let b =
-    bind_ok (field_at 8 (between (a.0.0 + 1) (2 ^ 62)) form.AmountRange a.0.1) (λ need. Ok (outcome.Overdraft a.0.0 need.0, need.1)) (x, next) a.2 in
+    bind_ok (field_at 8 (between (a.0.0 + 1) (2 ^ 62)) form.AmountRange a.0.1)
+    (λ need. Ok (outcome.Overdraft a.0.0 need.0, need.1)) (x, next) a.2 in
     let seen = big_bytes 8 a.0.0 in
     let need = big_bytes 8 b.0.0 in
     let t1 = range_takes 8 0 (2 ^ 62) form.AmountRange c a.0.1 a.0.0 bytes a.1 in
@@ -125,7 +133,8 @@ number_again : (n : ℕ) (c : Cursor) (x : Outcome) (text after : List ℕ) → 
 unfolding outcome_at
 number_again n c x text after few again within e =
     let a =
-    range_again 1 0 5 form.Tag c n (text ++ after) (omega arith) (omega arith) few within (e ∙ append_assoc (big_bytes 1 n) text after) in
+    range_again 1 0 5 form.Tag c n (text ++ after) (omega arith) (omega arith) few within
+    (e ∙ append_assoc (big_bytes 1 n) text after) in
     again_then (field_at 1 (between 0 5) form.Tag c) (λ n. fields_at n.0 n.1) c n x (text ++ after) after a
     (again a.next a.within a.rest_is)
 
@@ -151,9 +160,11 @@ overdraft_again : (seen need : ℕ) (mid : Cursor) (after : List ℕ) → IsShor
 unfolding overdraft_at
 overdraft_again seen need mid after is within e =
     let a =
-    range_again 8 0 (2 ^ 62) form.AmountRange mid seen (big_bytes 8 need ++ after) (omega arith) (omega arith) (omega (arith, is.0, is.1)) within (e ∙ append_assoc (big_bytes 8 seen) (big_bytes 8 need) after) in
+    range_again 8 0 (2 ^ 62) form.AmountRange mid seen (big_bytes 8 need ++ after) (omega arith) (omega arith)
+    (omega (arith, is.0, is.1)) within (e ∙ append_assoc (big_bytes 8 seen) (big_bytes 8 need) after) in
     let b =
-    range_again 8 (seen + 1) (2 ^ 62) form.AmountRange a.next need after (omega arith) (omega (arith, is.0)) is.1 a.within a.rest_is in
+    range_again 8 (seen + 1) (2 ^ 62) form.AmountRange a.next need after (omega arith) (omega (arith, is.0)) is.1
+    a.within a.rest_is in
     record {
       next = b.next;
       is = rw a.is (rw b.is refl);

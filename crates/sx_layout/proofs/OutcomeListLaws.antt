@@ -25,14 +25,18 @@ pub list_takes : TakesAll outcome_list_at outcomes_bytes AreOutcomes
 unfolding outcome_list_at
 list_takes c next x bytes e =
     let n =
-    bind_ok (field_at 4 (between 0 most_outcomes) form.TooMany c) (λ count. many_at outcome_at count.0 count.1) (x, next) e in
+    bind_ok (field_at 4 (between 0 most_outcomes) form.TooMany c) (λ count. many_at outcome_at count.0 count.1)
+    (x, next) e in
     let t0 = range_takes 4 0 most_outcomes form.TooMany c n.0.1 n.0.0 bytes n.1 in
     let bytes1 = bytes_after c n.0.1 (big_bytes 4 n.0.0) t0.0 bytes in
     let t1 = many_takes outcome_at outcome_bytes IsOutcome outcome_takes n.0.0 n.0.1 next x bytes1 n.2 in
     let count : Takes c (big_bytes 4 (length x)) n.0.1 =
     subst (λ (m : ℕ). Takes c (big_bytes 4 m) n.0.1) (sym t1.1) t0.0 in
-    let few : length x ≤ most_outcomes = subst (λ (m : ℕ). m ≤ most_outcomes) (sym t1.1) t0.2 in
-    (Takes-then c n.0.1 next (big_bytes 4 (length x)) (flat_map outcome_bytes x) count t1.0, record { few = few; each = All-from_recursion IsOutcome x t1.2 })
+    let few : length x ≤ most_outcomes = subst (λ (m : ℕ). m ≤ most_outcomes) (sym t1.1) t0.2 in (
+      Takes-then c n.0.1 next (big_bytes 4 (length x)) (flat_map outcome_bytes x) count t1.0,
+      record
+          { few = few; each = All-from_recursion IsOutcome x t1.2 },
+    )
 
 pub list_again : ReadsAgain outcome_list_at outcomes_bytes AreOutcomes
 unfolding outcome_list_at
@@ -40,10 +44,13 @@ list_again c x after is within e =
     let few = is.few in
     let text = flat_map outcome_bytes x ++ after in
     let a =
-    range_again 4 0 most_outcomes form.TooMany c (length x) text (omega arith) (omega arith) few within (e ∙ append_assoc (big_bytes 4 (length x)) (flat_map outcome_bytes x) after) in
+    range_again 4 0 most_outcomes form.TooMany c (length x) text (omega arith) (omega arith) few within
+    (e ∙ append_assoc (big_bytes 4 (length x)) (flat_map outcome_bytes x) after) in
     let t =
-    many_again outcome_at outcome_bytes IsOutcome outcome_again x a.next after (recursion_from_All IsOutcome x is.each) a.within a.rest_is in
-    again_then (field_at 4 (between 0 most_outcomes) form.TooMany c) (λ count. many_at outcome_at count.0 count.1) c (length x) x text after a t
+    many_again outcome_at outcome_bytes IsOutcome outcome_again x a.next after
+    (recursion_from_All IsOutcome x is.each) a.within a.rest_is in
+    again_then (field_at 4 (between 0 most_outcomes) form.TooMany c) (λ count. many_at outcome_at count.0 count.1) c
+    (length x) x text after a t
 
 -- ---- a whole payload
 
@@ -84,7 +91,8 @@ pub only_in : (bytes : List ℕ) (r : Result (List Outcome) ReadError) (x : List
     → Gives (λ found. found) r (outcomes_at bytes) → AreOutcomes x → bytes ≡ outcomes_bytes x
     → Gives (λ found. found) r (Ok x)
 only_in bytes r x given is e =
-    subst (λ (read : Result (List Outcome) FormFault). Gives (λ found. found) r read) (ap outcomes_at e ∙ outcomes_again x is) given
+    subst (λ (read : Result (List Outcome) FormFault). Gives (λ found. found) r read)
+    (ap outcomes_at e ∙ outcomes_again x is) given
 
 -- ---- lengths
 

@@ -6,6 +6,7 @@ ghost use Rattle.sx_layout.specs.declared.outcome.Outcome.{Outcome};
 ghost use Rattle.sx_layout.specs.Outcomes.{outcomes_bytes, AreOutcomes};
 ghost use Rattle.sx_layout.specs.OutcomeDecoding.{static_numbered, static_at, overdraft_at, outcome_at, outcome_list_at, outcomes_at};
 
+use crate::fault::fault_at;
 use crate::outcome::{MOST_OUTCOMES, Outcome, Outcomes};
 use std::alloc::Global;
 use sx_base::Amount;
@@ -98,9 +99,7 @@ fn whole(alloc: Global, payload: &[u8]) -> Result<Outcomes, ReadError>
     let mut from = Reader::new(payload);
     let outcomes = list(alloc, &mut from)?;
     if from.left() != 0 {
-        let at = from.place() as u64;
-        let fault = Form::Rest;
-        return Err(ReadError::Form(FormFault { at, fault }));
+        return Err(fault_at(from.place(), Form::Rest));
     }
     Ok(outcomes)
 }

@@ -8,5 +8,7 @@ returns-clause-ok c =
     let r = c.put_u64-2.result in
     let seen : List ℕ = big_bytes 8 c.args.seen in
     let need : List ℕ = big_bytes 8 c.args.need in
-    written_then r c.args.to.now (big_bytes 1 5) c.put_u8.new.self (seen ++ need) c.put_u64-2.new.self c.in_ok-put_u8.ensures.ok
-    (written_then r c.put_u8.new.self seen c.put_u64.new.self need c.put_u64-2.new.self c.in_ok-put_u64.ensures.ok c.put_u64-2.ensures.ok)
+    written_then r c.args.to.now (big_bytes 1 5) c.put_u8.new.self (seen ++ need) c.put_u64-2.new.self
+    c.in_ok-put_u8.ensures.ok
+    (written_then r c.put_u8.new.self seen c.put_u64.new.self need c.put_u64-2.new.self c.in_ok-put_u64.ensures.ok
+    c.put_u64-2.ensures.ok)

@@ -1,0 +1,20 @@
+use Rattle.sx_bytes.proofs.Parts.{decodes_only_encodings, decodes_every_encoding, is_injective, is_prefix_free}
+use Rattle.sx_layout.specs.ScriptDecoding.{script_fields_at}
+use Rattle.sx_layout.specs.Scripts.{script_bytes, IsScript}
+use Rattle.sx_layout.proofs.ScriptLaws.{script_takes, script_again, scripts_fit}
+use Rattle.sx_layout.proofs.laws.script_laws.Goals as goal
+
+pub returns-clause-decodes_only : goal.returns-clause-decodes_only
+returns-clause-decodes_only c = decodes_only_encodings script_fields_at script_bytes IsScript script_takes
+
+pub returns-clause-decodes_every : goal.returns-clause-decodes_every
+returns-clause-decodes_every c = decodes_every_encoding script_fields_at script_bytes IsScript script_again
+
+pub returns-clause-injective : goal.returns-clause-injective
+returns-clause-injective c = is_injective script_fields_at script_bytes IsScript script_again
+
+pub returns-clause-prefix_free : goal.returns-clause-prefix_free
+returns-clause-prefix_free c = is_prefix_free script_fields_at script_bytes IsScript script_again
+
+pub returns-clause-fits : goal.returns-clause-fits
+returns-clause-fits c = scripts_fit
