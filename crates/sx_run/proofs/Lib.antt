@@ -5,6 +5,11 @@ pub mod OutcomeFaults
 pub mod Reading
 pub mod Records
 pub mod Inputs
+pub mod Completeness
+pub mod Chains
+pub mod ReplayFindings
+pub mod Encodings
+pub mod CheckFindings
 pub mod ReplayItems
 pub mod Replays
 pub mod Steps

@@ -3,6 +3,11 @@
 ghost use Rattle.sx_run.specs.Answers.{FindsInCheck, FindsInReplay};
 ghost use Rattle.sx_run.specs.Laws.{ChainConserves, ChainKeepsLedger, ChecksOnlyRecords, FindsOne, ReplaysChains};
 
+use sx_block::{block_effect_laws, block_laws};
+use sx_check::check_laws;
+use sx_layout::outcome_list_laws;
+use sx_ledger::state_laws;
+
 /// An input of `check` has no form fault exactly where it is the records of a ledger and of a block.
 /// One thing is found of an input at most, for each command: no fault, and then one output, or one first
 /// fault. So the answer to an input is a function of it.
@@ -10,7 +15,12 @@ pub fn input_laws()
     ensures records { ChecksOnlyRecords }
     ensures one_in_check { FindsOne FindsInCheck }
     ensures one_in_replay { FindsOne FindsInReplay }
-{}
+{
+    state_laws();
+    block_laws();
+    outcome_list_laws();
+    check_laws();
+}
 
 /// The blocks of a replay are a chain of valid ones. What a chain of valid blocks leaves of a ledger is
 /// a ledger, and the total of each asset, of balances, offers and rounding, is that of the first ledger.
@@ -18,4 +28,6 @@ pub fn chain_laws()
     ensures replays { ReplaysChains }
     ensures ledger { ChainKeepsLedger }
     ensures conserves { ChainConserves }
-{}
+{
+    block_effect_laws();
+}

@@ -8,6 +8,7 @@ ghost use Rattle.sx_run.specs.Status.{UnlessReadFails, UnlessWriteFails, is_sile
 ghost use Rattle.sx_run.specs.Words.{AreCheck, AreReplay};
 
 use crate::checking::check;
+use crate::laws::input_laws;
 use crate::replaying::replay;
 use crate::status::{Status, status_of};
 use crate::words::{Command, command_of};
@@ -105,6 +106,7 @@ pub fn run<R: Threads + Sync, S: Source, K: Sink>(
         (Rose (K.faults sink.old) (K.faults sink.new) → ⊥) → Completes FindsInReplay (S.left source.old) result }
 {
     let _ = rt;
+    input_laws();
     match command_of(words) {
         Some(Command::Check) => run_check(alloc, source, sink),
         Some(Command::Replay { .. }) => run_replay(alloc, source, sink),

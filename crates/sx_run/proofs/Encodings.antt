@@ -1,0 +1,49 @@
+-- The encodings of a state, a block and outcomes decode to them, wherever their records stand.
+use Rattle.std.proofs.Common.{◌≡◌, ℕ, ◌<◌, ◌≤◌, List, [], ◌∷◌, ◌++◌, length, Contains, Option, Some, None, Result, Ok, Err, refl, sym, ap, ◌∙◌, arith}
+use Rattle.sx_block.specs.declared.header.Block.{Block}
+use Rattle.sx_block.specs.Block.{IsBlock}
+use Rattle.sx_block.specs.Decoding.{block_at}
+use Rattle.sx_block.specs.Encoding.{block_bytes}
+use Rattle.sx_block.proofs.BlockLaws.{only_in as block_only_in}
+use Rattle.sx_block.proofs.Lengths.{block_fits}
+use Rattle.sx_bytes.specs.declared.fault.FormFault.{FormFault}
+use Rattle.sx_bytes.specs.declared.fault.ReadError.TheVariants as read_error
+use Rattle.sx_layout.specs.declared.outcome.Outcome.{Outcome}
+use Rattle.sx_layout.specs.OutcomeDecoding.{outcomes_at}
+use Rattle.sx_layout.specs.Outcomes.{AreOutcomes, outcomes_bytes}
+use Rattle.sx_layout.proofs.OutcomeListLaws.{only_in as outcomes_only_in, outcomes_fit}
+use Rattle.sx_ledger.specs.declared.parts.Parts.{Parts}
+use Rattle.sx_ledger.specs.Encoding.{state_bytes}
+use Rattle.sx_ledger.specs.Ledger.{IsLedger}
+use Rattle.sx_ledger.proofs.Lengths.{state_fits}
+use Rattle.sx_record.specs.Frame.{most_bytes}
+
+-- ---- payloads
+
+block_is : (x : Block) → IsBlock x → (d : Result Block FormFault) → block_at (block_bytes x) ≡ d → d ≡ Ok x
+block_is x is (Ok y) e = sym (block_only_in (block_bytes x) (Ok y) x e is refl)
+block_is x is (Err fault) e =
+    absurd (let none : Ok x ≡ Err fault = block_only_in (block_bytes x) (Err (read_error.Form fault)) x e is refl in cc)
+
+pub block_again : (x : Block) → IsBlock x → block_at (block_bytes x) ≡ Ok x
+block_again x is = block_is x is (block_at (block_bytes x)) refl
+
+outcomes_are : (x : List Outcome) → AreOutcomes x → (d : Result (List Outcome) FormFault) → outcomes_at (outcomes_bytes x) ≡ d
+    → d ≡ Ok x
+outcomes_are x are (Ok y) e = sym (outcomes_only_in (outcomes_bytes x) (Ok y) x e are refl)
+outcomes_are x are (Err fault) e =
+    absurd (let none : Ok x ≡ Err fault = outcomes_only_in (outcomes_bytes x) (Err (read_error.Form fault)) x e are refl in cc)
+
+pub outcomes_again : (x : List Outcome) → AreOutcomes x → outcomes_at (outcomes_bytes x) ≡ Ok x
+outcomes_again x are = outcomes_are x are (outcomes_at (outcomes_bytes x)) refl
+
+-- ---- their lengths
+
+pub state_short : (x : Parts) → IsLedger x → length (state_bytes x) ≤ most_bytes
+state_short x is = omega (arith, state_fits x is)
+
+pub block_short : (x : Block) → IsBlock x → length (block_bytes x) ≤ most_bytes
+block_short x is = block_fits x is
+
+pub outcomes_short : (x : List Outcome) → AreOutcomes x → length (outcomes_bytes x) ≤ most_bytes
+outcomes_short x are = omega (arith, outcomes_fit x are.few)
