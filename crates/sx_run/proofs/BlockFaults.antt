@@ -1,13 +1,11 @@
 -- A fault of a block is not after the end of its payload.
-use Rattle.std.proofs.Common.{◌≡◌, ℕ, ◌-◌, ◌*◌, ◌^◌, ◌≤◌, Bool, true, eqb, List, length, Option, Some, None, Result, Ok, Err, refl, arith}
+use Rattle.std.proofs.Common.{ℕ, ◌-◌, ◌*◌, ◌^◌, true, eqb, List, None, refl, arith}
 use Rattle.sx_base.specs.Ranges.{most_assets}
-use Rattle.sx_block.specs.declared.trade.Trade.{Trade}
 use Rattle.sx_block.specs.Decoding.{block_at, body_at, cut_at, digest_at, fields_at, flow_at, front_at, header_at, market_at, outcome_at, potential_at, set_at, trade_at, trades_at}
 use Rattle.sx_block.specs.Trades.{trade_before}
 use Rattle.sx_bytes.specs.declared.fault.Form.TheVariants as form
-use Rattle.sx_bytes.specs.declared.fault.FormFault.{FormFault}
-use Rattle.sx_bytes.specs.Cursor.{Cursor, left}
-use Rattle.sx_bytes.specs.Grammar.{between, field_at, many_at, ordered_at}
+use Rattle.sx_bytes.specs.Cursor.{left}
+use Rattle.sx_bytes.specs.Grammar.{between, field_at, many_at}
 use Rattle.sx_ledger.specs.Body.{tx_before}
 use Rattle.sx_ledger.specs.Decoding.{buy_at, price_at, sell_at, units_field_at}
 use Rattle.sx_ledger.specs.Ledger.{most_height}

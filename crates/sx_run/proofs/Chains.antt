@@ -1,13 +1,12 @@
 -- Chains of valid blocks.
-use Rattle.std.proofs.Common.{◌≡◌, ℕ, ◌+◌, ◌<◌, ◌≤◌, List, [], ◌∷◌, length, refl, sym, ap, subst, ◌∙◌, arith}
-use Rattle.std.specs.Prelude.{fold}
+use Rattle.std.proofs.Common.{◌≡◌, ◌+◌, ◌≤◌, List, [], ◌∷◌, length, refl, ◌∙◌, arith}
 use Rattle.sx_block.specs.declared.header.Block.{Block}
 use Rattle.sx_block.specs.EffectLaws.{BlockConserves, BlockKeepsLedger}
 use Rattle.sx_block.specs.Validity.{IsValid, ledger_after}
 use Rattle.sx_ledger.specs.declared.parts.Parts.{Parts}
-use Rattle.sx_ledger.specs.Ledger.{IsLedger, assets_of, total_of}
-use Rattle.sx_run.specs.Laws.{AreChain, ChainConserves, ChainKeepsLedger, ReplaysChains}
-use Rattle.sx_run.specs.Replays.{AreValid, Item, MayComeAll, Standing, block, blocks_of, ledger_after_all, most_blocks, outcomes, stands_after, start}
+use Rattle.sx_ledger.specs.Ledger.{assets_of}
+use Rattle.sx_run.specs.Laws.{ChainConserves, ChainKeepsLedger, ReplaysChains}
+use Rattle.sx_run.specs.Replays.{AreValid, Item, MayComeAll, Standing, block, blocks_of, most_blocks, outcomes, stands_after, start}
 
 valid_along : (at : Standing) (items : List Item) → MayComeAll at items → AreValid at.ledger (blocks_of items)
 valid_along at [] each = tt

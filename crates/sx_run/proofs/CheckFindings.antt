@@ -20,11 +20,11 @@ use Rattle.sx_ledger.specs.Encoding.{state_bytes}
 use Rattle.sx_ledger.specs.Ledger.{IsLedger}
 use Rattle.sx_ledger.proofs.Payload.{state_again, state_takes}
 use Rattle.sx_record.specs.declared.frame.Record.{Record}
-use Rattle.sx_record.specs.Decoding.{StreamDecoding, done, go_on, record_at}
+use Rattle.sx_record.specs.Decoding.{StreamDecoding, go_on, record_at}
 use Rattle.sx_record.specs.Frame.{frame, frame_bytes, most_bytes, record_bytes}
 use Rattle.sx_record.specs.Tags.{block_tag, state_tag}
 use Rattle.sx_record.proofs.Encoding.{decodes_every_record, decodes_only_records}
-use Rattle.sx_run.specs.Answers.{Finding, FindsInCheck, malformed, output, refused}
+use Rattle.sx_run.specs.Answers.{FindsInCheck, malformed, output, refused}
 use Rattle.sx_run.specs.Inputs.{block_record, check_at, end_at, end_of, opening_at, payload_at, required, required_at, shifted, state_record}
 use Rattle.sx_run.specs.Laws.{AreRecordsOf, ChecksOnlyRecords, FindsOne}
 use Rattle.sx_run.specs.Texts.{checked_text}
@@ -53,8 +53,10 @@ pub opening_again : (parts : Parts) (rest : List ℕ) → IsLedger parts
 unfolding opening_at
 opening_again parts rest is =
     let found = framed state_tag 0 (state_bytes parts) in
-    rw (required_again state_tag 0 (state_bytes parts) rest (omega arith) (state_short parts is),
-    payload_again state_at found parts rest (state_again parts is)) refl
+    rw (
+      required_again state_tag 0 (state_bytes parts) rest (omega arith) (state_short parts is),
+      payload_again state_at found parts rest (state_again parts is),
+    ) refl
 
 pub check_again : (parts : Parts) (block : Block) → IsLedger parts → IsBlock block
     → check_at (state_record parts ++ block_record block) ≡ (Ok (parts, block), [])
@@ -64,8 +66,10 @@ check_again parts block is form =
     let found = framed block_tag at (block_bytes block) in
     let tail : block_record block ≡ block_record block ++ [] = sym (append-nil (block_record block)) in
     rw (opening_again parts (block_record block) is)
-    (rw tail (rw (required_again block_tag at (block_bytes block) [] (omega arith) (block_short block form),
-    payload_again block_at found block [] (block_again block form)) refl))
+    (rw tail (rw (
+      required_again block_tag at (block_bytes block) [] (omega arith) (block_short block form),
+      payload_again block_at found block [] (block_again block form),
+    ) refl))
 
 -- ---- what decodes is encoded so
 
@@ -154,6 +158,22 @@ opening_ok bytes rest opening are e =
       subst AreBytes left has.rest_are,
     )
 
+-- what stands where, put together
+put_together : (bytes tail mid payload : List ℕ) (p parts : Parts) (b block : Block) → IsLedger p → IsBlock b
+    → bytes ≡ state_record p ++ tail → tail ≡ record_bytes block_tag payload ++ mid → mid ≡ [] → payload ≡ block_bytes b
+    → ◌≡◌ {A = Parts × Block} (p, b) (parts, block) → AreRecordsOf bytes parts block
+put_together bytes tail mid payload p parts b block is form whole second none encoded same =
+    let ledger : p ≡ parts = ap (λ (o : Parts × Block). o.0) same in
+    let said : b ≡ block = ap (λ (o : Parts × Block). o.1) same in
+    let last : tail ≡ block_record block =
+    second ∙ ap (λ (r : List ℕ). record_bytes block_tag payload ++ r) none ∙ append-nil (record_bytes block_tag payload)
+    ∙ ap (λ (q : List ℕ). record_bytes block_tag q) encoded ∙ ap (λ (k : Block). block_record k) said in
+    record {
+      ledger = subst IsLedger ledger is;
+      form = subst IsBlock said form;
+      whole = whole ∙ ap (λ (l : Parts). state_record l ++ tail) ledger ∙ ap (λ (t : List ℕ). state_record parts ++ t) last;
+    }
+
 check_ok : (bytes : List ℕ) (parts : Parts) (block : Block) → AreBytes bytes → (check_at bytes).0 ≡ Ok (parts, block)
     → AreRecordsOf bytes parts block
 unfolding check_at
@@ -166,19 +186,8 @@ check_ok bytes parts block are e =
     let h = holds block_at b.0 b.1 d.1 d.0 d.2 in
     let is = found_in b.0.payload (Ok d.0) has.payload h.0 in
     let f = went_at_last (end_at (end_of b.0) d.1) _ (parts, block) d.3 in
-    let none = ended (end_of b.0) d.1 (ap (λ (p : Result (Unit {0}) FormFault × List ℕ). p.0) f.2) in
-    let same : (a.0.0, d.0) ≡ (parts, block) = cc in
-    let ledger : a.0.0 ≡ parts = ap (λ (o : Parts × Block). o.0) same in
-    let said : d.0 ≡ block = ap (λ (o : Parts × Block). o.1) same in
-    let tail : a.1 ≡ block_record block =
-    has.encoded ∙ ap (λ (r : List ℕ). record_bytes block_tag b.0.payload ++ r) (h.1 ∙ none)
-    ∙ append-nil (record_bytes block_tag b.0.payload) ∙ ap (λ (p : List ℕ). record_bytes block_tag p) is.1
-    ∙ ap (λ (k : Block). block_record k) said in
-    record {
-      ledger = subst IsLedger ledger opened.0;
-      form = subst IsBlock said is.0;
-      whole = opened.1 ∙ ap (λ (l : Parts). state_record l ++ a.1) ledger ∙ ap (λ (t : List ℕ). state_record parts ++ t) tail;
-    }
+    let none = ended (end_of b.0) d.1 f.1 f.2 in
+    put_together bytes a.1 b.1 b.0.payload a.0.0 parts d.0 block opened.0 is.0 opened.1 has.encoded (h.1 ∙ none) is.1 cc
 
 pub checks_only_records : ChecksOnlyRecords
 checks_only_records bytes parts block are = (

@@ -1,5 +1,5 @@
 -- What is found of an input is the answer.
-use Rattle.std.proofs.Common.{◌≡◌, ◌⊎◌, ℕ, List, Option, Some, None, inl, inr, refl, sym, ap, ◌∙◌}
+use Rattle.std.proofs.Common.{◌≡◌, ℕ, List, Option, Some, None, inl, inr, refl, ap}
 use Rattle.sx_run.specs.declared.status.Status.{Status}
 use Rattle.sx_run.specs.declared.status.Status.TheVariants as status
 use Rattle.sx_run.specs.Answers.{Answers, Completes, Finding, malformed, output, refused, status_of}

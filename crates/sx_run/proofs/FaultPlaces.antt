@@ -1,5 +1,5 @@
 -- Decoding stays within its bytes: a fault is at or before their end.
-use Rattle.std.proofs.Common.{◌≡◌, ℕ, zero, suc, ◌+◌, ◌-◌, ◌^◌, ◌<◌, ◌≤◌, Bool, true, false, cond, ltb, List, [], ◌∷◌, length, take, Option, Some, None, Result, Ok, Err, refl, ap, arith}
+use Rattle.std.proofs.Common.{◌≡◌, ℕ, zero, suc, ◌+◌, ◌^◌, ◌<◌, ◌≤◌, Bool, true, false, cond, ltb, List, length, take, Option, Some, Result, Ok, Err, refl, ap, arith}
 use Rattle.std.proofs.lemmas.Bool.{ltb-false}
 use Rattle.byteorder.specs.Endian.{big_number}
 use Rattle.sx_bytes.specs.declared.fault.Form.{Form}
@@ -53,7 +53,7 @@ enough : {X : Type 0} (bytes : List ℕ) (n : ℕ) (c : Cursor) (x : X) → c.by
     → Keeps bytes (IsOn bytes) (or_fault (cond (ltb (left c) n) (Err (record { at = length c.bytes })) (Ok (x, moved n c))))
 enough bytes n c x same place =
     elim (ltb (left c) n) as (λ b. ltb (left c) n ≡ b
-        → Keeps bytes (IsOn bytes) (or_fault (cond b (Err (record { at = length c.bytes })) (Ok (x, moved n c))))) [
+    → Keeps bytes (IsOn bytes) (or_fault (cond b (Err (record { at = length c.bytes })) (Ok (x, moved n c))))) [
       | true ↦ λ _. rw same (omega arith)
       | false ↦ λ e.
           let whole : n ≤ left c = ltb-false _ _ e in

@@ -1,5 +1,5 @@
 -- Reading a state, and a state and a block, record by record.
-use Rattle.std.proofs.Common.{◌≡◌, ℕ, List, Option, Result, Ok, Err, sym, subst}
+use Rattle.std.proofs.Common.{◌≡◌, ℕ, List, Option, Ok, Err, subst}
 use Rattle.sx_block.specs.declared.header.Block.{Block}
 use Rattle.sx_block.specs.Decoding.{block_at}
 use Rattle.sx_ledger.specs.declared.parts.Parts.{Parts}

@@ -1,11 +1,9 @@
 -- A fault of outcomes is not after the end of their payload.
-use Rattle.std.proofs.Common.{◌≡◌, ℕ, ◌+◌, ◌≤◌, Bool, true, false, cond, eqb, List, length, Result, Ok, Err, refl, subst, arith}
+use Rattle.std.proofs.Common.{ℕ, ◌+◌, eqb, List, refl, arith}
 use Rattle.sx_base.specs.Ranges.{most_amount}
 use Rattle.sx_bytes.specs.declared.fault.Form.TheVariants as form
-use Rattle.sx_bytes.specs.declared.fault.FormFault.{FormFault}
-use Rattle.sx_bytes.specs.Cursor.{Cursor, left}
-use Rattle.sx_bytes.specs.Grammar.{between, field_at, many_at}
-use Rattle.sx_layout.specs.declared.outcome.Outcome.{Outcome}
+use Rattle.sx_bytes.specs.Cursor.{left}
+use Rattle.sx_bytes.specs.Grammar.{between, field_at}
 use Rattle.sx_layout.specs.OutcomeDecoding.{fields_at, outcome_at, outcome_list_at, outcomes_at, overdraft_at, static_at}
 use Rattle.sx_layout.specs.Outcomes.{most_outcomes}
 use Rattle.sx_run.proofs.FaultPlaces.{IsAny, IsOn, Keeps, Stays, either, field_stays, many_stays, tested, then}

@@ -1,11 +1,10 @@
 -- One thing is found of an input of `replay`.
-use Rattle.std.proofs.Common.{◌≡◌, ℕ, zero, suc, ◌+◌, ◌<◌, ◌≤◌, Bool, true, false, eqb, List, [], ◌∷◌, ◌++◌, length, Contains, Option, Some, None, Result, Ok, Err, inl, inr, refl, sym, ap, subst, ◌∙◌, append_assoc, arith}
+use Rattle.std.proofs.Common.{◌≡◌, ℕ, ◌+◌, ◌<◌, ◌≤◌, Bool, true, false, eqb, List, [], ◌∷◌, ◌++◌, length, Contains, Option, Some, None, Result, Ok, Err, inl, inr, refl, sym, ap, subst, ◌∙◌, append_assoc, arith}
 use Rattle.std.proofs.lemmas.List.{append-nil, length-append}
 use Rattle.std.specs.Prelude.{fold, MatchBool}
 use Rattle.std.specs.List.{flat_map}
 use Rattle.sx_block.specs.declared.header.Block.{Block}
 use Rattle.sx_block.specs.Block.{IsBlock}
-use Rattle.sx_block.specs.Decoding.{block_at}
 use Rattle.sx_block.specs.Encoding.{block_bytes}
 use Rattle.sx_block.specs.Validity.{IsValid}
 use Rattle.sx_bytes.specs.declared.fault.FormFault.{FormFault}
@@ -24,7 +23,7 @@ use Rattle.sx_record.specs.Decoding.{record_at}
 use Rattle.sx_record.specs.Frame.{frame_bytes, most_bytes, record_bytes}
 use Rattle.sx_record.specs.Tags.{block_tag, outcomes_tag, state_tag}
 use Rattle.sx_record.proofs.Encoding.{are_records_prefix_free, decodes_every_record}
-use Rattle.sx_run.specs.Answers.{Finding, FindsInReplay, IsFaultAmong, IsFaultOfReplay, IsRefusedAmong, IsReplayed, malformed, output, refused}
+use Rattle.sx_run.specs.Answers.{FindsInReplay, IsFaultAmong, IsFaultOfReplay, IsRefusedAmong, IsReplayed, malformed, output, refused}
 use Rattle.sx_run.specs.Inputs.{block_record, opening_at, shifted, state_record}
 use Rattle.sx_run.specs.Laws.{FindsOne}
 use Rattle.sx_run.specs.Replays.{BeginsWithFault, HasFault, IsFaultOf, IsFaultOfBlock, IsFaultOfRecord, Item, MayCome, MayComeAll, Standing, block, blocks_of, input_of, item_record, ledger_after_all, most_blocks, outcomes, standing_of, stands_after, start, tags_after}

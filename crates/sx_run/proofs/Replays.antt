@@ -1,5 +1,5 @@
 -- What a replay knows of the input, record after record.
-use Rattle.std.proofs.Common.{◌≡◌, ℕ, ◌+◌, ◌<◌, ◌≤◌, false, List, [], ◌∷◌, ◌++◌, length, Option, Some, None, Result, Ok, Err, inl, inr, refl, sym, ap, subst, ◌∙◌, append_assoc, arith}
+use Rattle.std.proofs.Common.{◌≡◌, ℕ, ◌+◌, ◌≤◌, false, List, [], ◌∷◌, ◌++◌, length, Option, Some, None, Result, Ok, Err, inr, refl, sym, ap, subst, ◌∙◌, append_assoc, arith}
 use Rattle.std.proofs.lemmas.List.{append-nil, length-append}
 use Rattle.sx_bytes.specs.declared.fault.FormFault.{FormFault}
 use Rattle.sx_check.specs.declared.invalid.Invalid.{Invalid}
@@ -14,11 +14,11 @@ use Rattle.sx_run.specs.declared.head.Head.{Head}
 use Rattle.sx_run.specs.declared.replaying.Place.{Place}
 use Rattle.sx_run.specs.declared.stop.Stop.{Stop}
 use Rattle.sx_run.specs.declared.stop.Stop.TheVariants as stop
-use Rattle.sx_run.specs.Answers.{FindsInReplay, Found, IsFaultAmong, IsFaultOfReplay, IsInput, IsRead, IsRefusedAmong, IsReplayed}
+use Rattle.sx_run.specs.Answers.{FindsInReplay, Found, IsFaultOfReplay, IsInput, IsRead, IsRefusedAmong, IsReplayed}
 use Rattle.sx_run.specs.Head.{IsHead}
-use Rattle.sx_run.specs.Inputs.{block_record, state_record}
+use Rattle.sx_run.specs.Inputs.{state_record}
 use Rattle.sx_run.specs.Replaying.{HasReplayed, IsNext, RefusesNext, Steps, StepsTo, stand_of}
-use Rattle.sx_run.specs.Replays.{BeginsWithFault, IsFaultOf, IsFaultOfRecord, Item, MayCome, Standing, blocks_of, input_of, item_record, ledger_after_all, most_blocks, standing_of, stands_after, start, tags_after}
+use Rattle.sx_run.specs.Replays.{BeginsWithFault, IsFaultOf, MayCome, Standing, blocks_of, input_of, ledger_after_all, standing_of, stands_after, start, tags_after}
 use Rattle.sx_run.specs.Stream.{Reads, TakesItem}
 use Rattle.sx_run.proofs.ReplayItems.{come_then, input_then, ledger_of, length-record, number_of, stands_then}
 
@@ -71,7 +71,12 @@ goes_on input left after place next found so_far took is_next steps =
       stands = stands_then so_far.parts items steps.item
           ∙ ap (λ (s : Standing). stands_after s steps.item) so_far.stands ∙ sym steps.stands;
       offset = omega (
-        arith, long, steps.at_end, is_next.place, so_far.offset, length-record found.tag found.payload,
+        arith,
+        long,
+        steps.at_end,
+        is_next.place,
+        so_far.offset,
+        length-record found.tag found.payload,
         length-append (input_of so_far.parts items) (record_bytes found.tag found.payload),
       );
       may_go_on = steps.may_go_on;

@@ -1,13 +1,12 @@
 -- A fault of a state is not after the end of its payload.
-use Rattle.std.proofs.Common.{◌≡◌, ℕ, ◌-◌, ◌≤◌, Bool, true, eqb, ltb, not, List, length, Option, Some, None, Result, Ok, Err, refl, arith}
+use Rattle.std.proofs.Common.{ℕ, ◌-◌, true, eqb, ltb, not, List, length, Option, None, refl, arith}
 use Rattle.sx_base.specs.Ranges.{most_amount, most_assets, most_seq}
 use Rattle.sx_bytes.specs.declared.fault.Form.TheVariants as form
-use Rattle.sx_bytes.specs.declared.fault.FormFault.{FormFault}
-use Rattle.sx_bytes.specs.Cursor.{Cursor, left}
+use Rattle.sx_bytes.specs.Cursor.{left}
 use Rattle.sx_bytes.specs.Grammar.{between, field_at, many_at, may_follow}
 use Rattle.sx_ledger.specs.declared.account.Account.{Account}
 use Rattle.sx_ledger.specs.declared.key.Key.{Key}
-use Rattle.sx_ledger.specs.Decoding.{account_at, account_list_at, accounts_at, buy_at, guarded, head_at, last_at, next_account_at, next_offer_at, offer_at, offer_list_at, offers_at, parts_at, price_at, sell_at, state_at, totals_fit, units_field_at}
+use Rattle.sx_ledger.specs.Decoding.{account_at, account_list_at, buy_at, head_at, last_at, next_account_at, next_offer_at, offer_at, offer_list_at, parts_at, price_at, sell_at, state_at, totals_fit, units_field_at}
 use Rattle.sx_ledger.specs.Ledger.{assets_of, has_owner, most_accounts, most_height, most_offers}
 use Rattle.sx_ledger.specs.Order.{key_before, key_of}
 use Rattle.sx_price.specs.Limits.{least_price, most_price}

@@ -1,5 +1,5 @@
 -- One record of a replay.
-use Rattle.std.proofs.Common.{◌≡◌, ℕ, zero, suc, ◌+◌, ◌*◌, ◌<◌, ◌≤◌, Bool, true, false, List, [], ◌∷◌, length, Contains, refl, sym, ap, ◌∙◌, arith}
+use Rattle.std.proofs.Common.{◌≡◌, ℕ, zero, suc, ◌+◌, ◌*◌, ◌<◌, ◌≤◌, Bool, true, false, List, length, Contains, refl, ap, ◌∙◌, arith}
 use Rattle.sx_block.specs.declared.header.Block.{Block}
 use Rattle.sx_block.specs.Encoding.{block_bytes}
 use Rattle.sx_block.specs.Validity.{IsValid, ledger_after}
@@ -12,8 +12,8 @@ use Rattle.sx_record.specs.Tags.{block_tag, outcomes_tag}
 use Rattle.sx_run.specs.declared.head.Head.{Head}
 use Rattle.sx_run.specs.declared.replaying.Place.{Place}
 use Rattle.sx_run.specs.Head.{IsHead}
-use Rattle.sx_run.specs.Replaying.{IsNext, MayGoOn, StepsTo, most_records, stand_of}
-use Rattle.sx_run.specs.Replays.{Standing, block, most_blocks, outcomes, tags_after}
+use Rattle.sx_run.specs.Replaying.{IsNext, MayGoOn, StepsTo, most_records}
+use Rattle.sx_run.specs.Replays.{block, most_blocks, outcomes, tags_after}
 
 -- a record more is not too far
 near_block : (blocks at : ℕ) (after : Bool) (long : ℕ) → at ≤ most_records blocks after * (most_bytes + frame_bytes) → long ≤ most_bytes

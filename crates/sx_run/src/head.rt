@@ -79,8 +79,13 @@ pub fn advance(alloc: Global, head: Head, incoming: &Incoming) -> Result<Advance
         mut state,
         digest,
     } = head;
-    let Judged { checked, effects } =
-        judge(alloc, &ledger, &incoming.block, &digest, &incoming.body)?;
+    let Judged { checked, effects } = judge(
+        alloc,
+        &ledger,
+        &incoming.block,
+        &digest,
+        &incoming.body,
+    )?;
     let ledger = apply(alloc, ledger, &incoming.block, effects)?;
     rewrite(&mut state, &ledger)?;
     let digest = digest_of(state.bytes());

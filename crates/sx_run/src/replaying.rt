@@ -3,7 +3,7 @@
 
 ghost use Rattle.std.specs.Prelude.{◌≡◌, ◌+◌, ◌^◌, ◌≤◌, length, IfOk, OnOk, IsErrOf, IsTrue};
 ghost use Rattle.sx_base.specs.Outside.{Rose};
-ghost use Rattle.sx_record.specs.Frame.{MayStand};
+ghost use Rattle.sx_record.specs.Tags.{block_tag, outcomes_tag};
 ghost use Rattle.sx_run.specs.Answers.{FindsInReplay, Found, IsRead};
 ghost use Rattle.sx_run.specs.Inputs.{end_of};
 ghost use Rattle.sx_run.specs.Replaying.{HasReplayed, IsNext, MayGoOn, Steps, stand_of};
@@ -49,7 +49,7 @@ fn tags(after_block: bool) -> &'static [u8]
 fn step_block(alloc: Global, place: Place, found: Record) -> Result<Place, Stop>
     requires place { MayGoOn place }
     requires found { IsNext place found }
-    requires tag { found.tag ≡ 3 }
+    requires tag { found.tag ≡ block_tag }
     ensures { Steps place found result }
 {
     if place.blocks >= MOST_BLOCKS {
@@ -76,20 +76,16 @@ fn step_block(alloc: Global, place: Place, found: Record) -> Result<Place, Stop>
 }
 
 // Outcomes, read for their form alone.
-fn step_outcomes(alloc: Global, place: Place, found: Record) -> Result<Place, Stop>
+fn step_outcomes(alloc: Global, mut place: Place, found: Record) -> Result<Place, Stop>
     requires place { MayGoOn place }
     requires found { IsNext place found }
-    requires tag { found.tag ≡ 4 }
+    requires tag { found.tag ≡ outcomes_tag }
     ensures { Steps place found result }
 {
-    let at = found.at + found.payload.items().len() as u64;
+    place.at = found.at + found.payload.items().len() as u64;
+    place.after_block = false;
     let _ = outcomes_of(alloc, found)?;
-    Ok(Place {
-        head: place.head,
-        at,
-        blocks: place.blocks,
-        after_block: false,
-    })
+    Ok(place)
 }
 
 // One record after the state.

@@ -82,11 +82,10 @@ pub fn end<S: Source>(alloc: Global, source: &mut S, at: u64) -> Result<(), Stop
     ensures falls_never { S.faults source.old ≤ S.faults source.new }
     ensures kept { S.strict source.new ≡ S.strict source.old }
 {
-    match next_record(alloc, source, at, &[]) {
+    match next(alloc, source, at, &[]) {
         Ok(None) => Ok(()),
         Ok(Some(_)) => Err(stop_at(at, Form::Rest)),
-        Err(RecordFault::Form(_)) => Err(stop_at(at, Form::Rest)),
-        Err(RecordFault::Failed) => Err(Stop::ReadFault),
-        Err(RecordFault::NoMemory) => Err(Stop::NoMemory),
+        Err(Stop::Malformed(_)) => Err(stop_at(at, Form::Rest)),
+        Err(stop) => Err(stop),
     }
 }

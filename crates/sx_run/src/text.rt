@@ -95,13 +95,7 @@ fn unbalanced(alloc: Global, asset: AssetId, out: u128, into: u128) -> Result<St
     Ok(format!(in alloc; "12 Unbalanced asset {asset} out {out} into {into}")?)
 }
 
-fn slack(
-    alloc: Global,
-    sell: AssetId,
-    buy: AssetId,
-    gain: i64,
-    y: u128,
-) -> Result<String, NoMemory>
+fn slack(alloc: Global, sell: AssetId, buy: AssetId, gain: i64, y: u128) -> Result<String, NoMemory>
     ensures { IfOk result (λ text. string_bytes text ≡ reason_text (Invalid.Slack sell buy gain y)) }
 {
     let pair = pair(alloc, sell, buy)?;
@@ -205,7 +199,10 @@ pub fn status_line(alloc: Global, status: &Status) -> Result<Text, NoMemory>
     let text = match status {
         Status::Done => String::from_str(alloc, "")?,
         Status::Usage => {
-            String::from_str(alloc, "usage: speedex seal, replay, check, show, interleave or demo N\n")?
+            String::from_str(
+                alloc,
+                "usage: speedex seal, replay, check, show, interleave or demo N\n",
+            )?
         }
         Status::ReadFault => String::from_str(alloc, "read fault\n")?,
         Status::WriteFault => String::from_str(alloc, "write fault\n")?,

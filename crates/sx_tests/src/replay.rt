@@ -1,4 +1,4 @@
-//! Replays over a source and a sink in memory.
+//! Replays and checks over a source and a sink in memory.
 
 ghost use Rattle.std.specs.Prelude.{◌≤◌};
 
@@ -9,11 +9,11 @@ use std::thread::Threads;
 use sx_base::{MemSink, MemSource, Sink, Source};
 use sx_run::{Status, run};
 
-// The word `replay`, this many times.
-fn words(alloc: Global, times: usize) -> Option<Vec<String>> {
+// This word, this many times.
+fn words(alloc: Global, word: &str, times: usize) -> Option<Vec<String>> {
     let mut words = Vec::new(alloc);
     for _ in 0..times {
-        words.push(String::from_str(alloc, "replay").ok()?).ok()?;
+        words.push(String::from_str(alloc, word).ok()?).ok()?;
     }
     Some(words)
 }
@@ -41,7 +41,7 @@ fn replay<R: Threads + Sync, S: Source, K: Sink>(
     source: &mut S,
     sink: &mut K,
 ) -> Option<Status> {
-    let words = words(alloc, 1)?;
+    let words = words(alloc, "replay", 1)?;
     Some(run(rt, alloc, &words, source, sink))
 }
 
@@ -107,7 +107,7 @@ fn a_failed_put_is_a_write_fault(rt: HostRuntime) {
 
 // How many bytes of the source are left after words that are no command.
 fn left_at_usage<R: Threads + Sync>(rt: &R, alloc: Global, times: usize) -> Option<usize> {
-    let words = words(alloc, times)?;
+    let words = words(alloc, "replay", times)?;
     let mut source = source(alloc, 7, &[])?;
     let mut sink = sink(alloc, 100, 7, &[])?;
     let status = run(rt, alloc, &words, &mut source, &mut sink);
@@ -133,4 +133,21 @@ fn recovered<R: Threads + Sync>(rt: &R, alloc: Global) -> Option<(Status, usize,
 fn an_interruption_that_is_overcome_is_no_failure(rt: HostRuntime) {
     let ended = recovered(&rt, rt.alloc());
     assert_eq!(rt; ended, Some((Status::Done, 87, true)));
+}
+
+// Whether a check of the payment ends well and writes its line.
+fn is_told_valid<R: Threads + Sync>(rt: &R, alloc: Global) -> Option<bool> {
+    let words = words(alloc, "check", 1)?;
+    let mut source = source(alloc, 7, &[])?;
+    let mut sink = sink(alloc, 100, 7, &[])?;
+    let status = run(rt, alloc, &words, &mut source, &mut sink);
+    Some(
+        status == Status::Done
+            && sink.written() == b"valid height 1 value 0 bounds kept\n".as_slice(),
+    )
+}
+
+#[test]
+fn a_valid_block_is_told(rt: HostRuntime) {
+    assert_eq!(rt; is_told_valid(&rt, rt.alloc()), Some(true));
 }

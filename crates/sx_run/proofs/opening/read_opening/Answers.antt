@@ -1,7 +1,6 @@
 use Rattle.std.proofs.Common.{ap, length, refl, ◌+◌}
 use Rattle.std.proofs.lemmas.Result.{err_from_is_err_and}
 use Rattle.sx_run.specs.declared.opening.Opening.{Opening}
-use Rattle.sx_run.specs.Inputs.{end_of}
 use Rattle.sx_run.proofs.Inputs.{bad_state, no_state, opened}
 use Rattle.sx_run.proofs.opening.read_opening.Goals as goal
 

@@ -1,6 +1,5 @@
-use Rattle.std.proofs.Common.{rules, sym, subst, Option, Some, None, Ok, Err}
+use Rattle.std.proofs.Common.{rules}
 use Rattle.std.proofs.lemmas.Result.{err_from_is_err_and}
-use Rattle.sx_record.specs.declared.frame.Record.{Record}
 use Rattle.sx_run.proofs.Replays.{begins, fails, finishes, goes_on, stops}
 use Rattle.sx_run.proofs.replaying.replay.Goals as goal
 

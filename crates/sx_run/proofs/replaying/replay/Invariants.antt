@@ -1,4 +1,4 @@
-use Rattle.std.proofs.Common.{◌≡◌, ℕ, ◌+◌, ◌-◌, ◌*◌, ◌≤◌, true, cond}
+use Rattle.std.proofs.Common.{◌≡◌, ◌+◌, ◌-◌, ◌*◌, ◌≤◌, cond}
 use Rattle.std.specs.Prelude.{IsTrue}
 use Rattle.sx_run.specs.Replaying.{HasReplayed}
 use Rattle.sx_run.specs.Replays.{most_blocks}

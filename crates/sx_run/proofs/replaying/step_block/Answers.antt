@@ -1,4 +1,4 @@
-use Rattle.std.proofs.Common.{ap, length, arith, ◌+◌, ℕ, List}
+use Rattle.std.proofs.Common.{ap, length, ◌+◌, ℕ, List}
 use Rattle.sx_run.proofs.Steps.{block_steps}
 use Rattle.sx_run.proofs.replaying.step_block.Goals as goal
 

@@ -5,6 +5,6 @@ pub returns-in-Ok-None-clause-exact : goal.returns-in-Ok-None-clause-exact
 returns-in-Ok-None-clause-exact g c =
     at_end c.args.at _ _ (rw c.in-Ok-None.field-0-is at c.in-Ok-None.ensures.exact)
 
-pub returns-in-Err-Form-clause-exact : goal.returns-in-Err-Form-clause-exact
-returns-in-Err-Form-clause-exact g c =
-    rw c.stop_at-in-Err-Form.ensures (more_bytes c.args.at _ _ c.in-Err-Form.field-0-0 (rw c.in-Err-Form.field-0-is at c.in-Err-Form.ensures.exact))
+pub returns-in-Err-Malformed-clause-exact : goal.returns-in-Err-Malformed-clause-exact
+returns-in-Err-Malformed-clause-exact g c =
+    rw c.stop_at-in-Err-Malformed.ensures (more_bytes c.args.at _ _ c.in-Err-Malformed.field-0-0 (rw c.in-Err-Malformed.field-0-is at c.in-Err-Malformed.ensures.exact))
