@@ -1,6 +1,6 @@
 //! The fills of the offers of one pair.
 
-ghost use Rattle.std.specs.Prelude.{◌≡◌, ◌+◌, ◌*◌, ◌^◌, ◌<◌, ◌≤◌, ◌++◌, length, IfOk, IsTrue, None, OnOk};
+ghost use Rattle.std.specs.Prelude.{◌≡◌, ◌+◌, ◌*◌, ◌^◌, ◌<◌, ◌≤◌, ◌++◌, length, take, IfOk, IsTrue, None, OnErr, OnOk};
 ghost use Rattle.sx_base.specs.Ranges.{most_amount};
 ghost use Rattle.sx_bytes.specs.Grammar.{in_order};
 ghost use Rattle.sx_fill.specs.PairFills.{pair_fill, trading};
@@ -15,7 +15,8 @@ use sx_price::{Price, units_down, units_up};
 /// Appends the fills of the offers of one pair, which stand in book order, where the sold asset has
 /// the price `sell`, the bought asset the price `buy`, and the pair trades the value `y`, in units of
 /// `2^-24`. There is one fill for each offer that trades a value above 0, by strictly rising place,
-/// and `first` is the place of the first offer. `NoMemory` comes where the list cannot grow.
+/// and `first` is the place of the first offer. `NoMemory` comes where the list cannot grow, and what
+/// stood in it then still stands before all else.
 pub fn push_fills(
     fills: &mut Vec<Fill>,
     first: u32,
@@ -27,7 +28,8 @@ pub fn push_fills(
     requires few { first + length offers.now < 2 ^ 32 }
     requires in_book_order { IsTrue (in_order key_before None (keys offers.now)) }
     requires worth_an_amount { y ≤ buy * most_amount }
-    ensures { OnOk result (fills.new.items ≡ fills.old.items ++ trading (pair_fill sell buy y offers.now) first offers.now) }
+    ensures appended { OnOk result (fills.new.items ≡ fills.old.items ++ trading (pair_fill sell buy y offers.now) first offers.now) }
+    ensures kept { OnErr result (take (length fills.old.items) fills.new.items ≡ fills.old.items) }
 {
     let price = u128::from(sell.get());
     let mut left = y;

@@ -105,4 +105,4 @@ loop-first-preserved c =
     let place : length c.args.offers.now - length c.loop-first.left.now ≡ length done.front =
     omega (arith, ap length done.whole, length-append done.front c.loop-first.left.now) in
     pair_done prices flow c.args.offers.now c.loop-first.left.now c.split_pair.result.0.now c.split_pair.result.1.now first c.loop-first.fills.items done there c.split_pair.ensures.own c.split_pair.ensures.all apart
-    (length c.args.offers.now - length c.loop-first.left.now) c.index-items-from.result c.index-items-from-in-Some.result c.at-value.result c.push_fills.new.fills.items place sell buy c.at-value.ensures.value c.in_ok-push_fills.ensures
+    (length c.args.offers.now - length c.loop-first.left.now) c.index-items-from.result c.index-items-from-in-Some.result c.at-value.result c.push_fills.new.fills.items place sell buy c.at-value.ensures.value c.in_ok-push_fills.ensures.appended

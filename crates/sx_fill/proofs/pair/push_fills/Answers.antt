@@ -4,8 +4,8 @@ use Rattle.sx_fill.proofs.PairOrder.{all_filled, less_left, more_filled, some_va
 use Rattle.sx_fill.proofs.pair.push_fills.Goals as goal
 use Rattle.sx_ledger.specs.declared.fill.Fill.{Fill}
 
-pub returns-then-left-eq0 : goal.returns-then-left-eq0
-returns-then-left-eq0 c =
+pub returns-then-left-eq0-clause-appended : goal.returns-then-left-eq0-clause-appended
+returns-then-left-eq0-clause-appended c =
     c.loop-place.invariant.fills
     ∙ ap (λ (fs : List Fill). c.args.fills.now.items ++ fs)
     (all_filled c.args.sell c.args.buy c.args.y c.args.first c.args.offers.now c.requires.in_book_order c.loop-place.place c.loop-place.left c.loop-place.invariant.left c.if-left-eq0.true)
