@@ -6,6 +6,10 @@
 #![tactic(auto)]
 
 #[cfg(test)]
+mod chain;
+#[cfg(test)]
+mod chains;
+#[cfg(test)]
 mod payment;
 #[cfg(test)]
 mod recovering;
