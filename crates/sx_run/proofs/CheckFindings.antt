@@ -134,9 +134,9 @@ holds : {X : Type 0} (read : List ℕ → Result X FormFault) (found : Record) (
 holds {X} read found bytes rest x e =
     (unshifted found.at (read found.payload) x (ap (λ (a : Result X FormFault × List ℕ). a.0) e), ap (λ (a : Result X FormFault × List ℕ). a.1) e)
 
-ended : (at : ℕ) (bytes : List ℕ) → (end_at at bytes).0 ≡ Ok tt → bytes ≡ []
-ended at [] e = refl
-ended at (byte ∷ bytes) e = absurd cc
+ended : (at : ℕ) (bytes rest : List ℕ) → end_at at bytes ≡ (Ok tt, rest) → bytes ≡ []
+ended at [] rest e = refl
+ended at (byte ∷ bytes) rest e = absurd (let f = ap (λ (a : Result (Unit {0}) FormFault × List ℕ). a.0) e in cc)
 
 -- a state at the beginning, and its encoding
 opening_ok : (bytes rest : List ℕ) (opening : Parts × ℕ) → AreBytes bytes → opening_at bytes ≡ (Ok opening, rest)
