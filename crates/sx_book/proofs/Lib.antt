@@ -6,3 +6,4 @@ pub mod Sound
 pub mod Located
 pub mod Gaps
 pub mod Putting
+pub mod Taking
