@@ -17,7 +17,7 @@ module _ {X : Type 0} where
   abbrev pub beyond : List (List X) → ℕ → List X
   beyond lists l = flat (drop (suc l) lists)
 
-  flat_around : (lists : List (List X)) (l : ℕ) → l < length lists
+  pub flat_around : (lists : List (List X)) (l : ℕ) → l < length lists
       → flat lists ≡ ahead lists l ++ (get_or lists l [] ++ beyond lists l)
   flat_around [] l within = absurd (omega arith)
   flat_around (xs ∷ lists) zero within = refl
@@ -25,7 +25,7 @@ module _ {X : Type 0} where
       ap (λ ys. xs ++ ys) (flat_around lists l (omega arith))
       ∙ sym (append_assoc xs (ahead lists l) (get_or lists l [] ++ beyond lists l))
 
-  flat_set : (lists : List (List X)) (l : ℕ) (ys : List X) → l < length lists
+  pub flat_set : (lists : List (List X)) (l : ℕ) (ys : List X) → l < length lists
       → flat (set lists l ys) ≡ ahead lists l ++ (ys ++ beyond lists l)
   flat_set [] l ys within = absurd (omega arith)
   flat_set (xs ∷ lists) zero ys within = refl

@@ -7,3 +7,4 @@ pub mod Located
 pub mod Gaps
 pub mod Putting
 pub mod Taking
+pub mod Pairs

@@ -81,7 +81,7 @@ flat_empty (suc n) = flat_empty n
 
 -- ---- the offers of a pair
 
-abbrev is_pair : ℕ → ℕ → Offer → Bool
+abbrev pub is_pair : ℕ → ℕ → Offer → Bool
 is_pair sell buy offer = (offer.sell == sell) && (offer.buy == buy)
 
 other_pair : (sell buy : ℕ) (offer : Offer) → list_of offer.sell offer.buy ≢ list_of sell buy

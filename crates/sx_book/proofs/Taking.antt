@@ -10,6 +10,7 @@ use Rattle.std.specs.declared.cmp.Ordering.TheVariants.{Less, Equal, Greater}
 use Rattle.std.specs.Ordering.{is_eq}
 use Rattle.std.proofs.lemmas.Bool.{false_from_ne_true}
 use Rattle.std.proofs.lemmas.List.{length-append}
+use Rattle.std.proofs.lemmas.Option.{same_Some}
 use Rattle.sx_book.specs.declared.store.Store.{Store}
 use Rattle.sx_book.specs.Books.{without}
 use Rattle.sx_book.specs.Store.{IsIn, IsSound, entry_of, list_of, nodes_of, offers_in, offers_of}
@@ -171,3 +172,9 @@ found_offer store sound l p x here =
     among : (xs ys : List (ℕ × Offer)) → Contains (offers_in (xs ++ x ∷ ys)) x.1
     among [] ys = (0, omega arith, refl)
     among (y ∷ xs) ys = let rest = among xs ys in (suc rest.0, omega (arith, rest.1), rest.2)
+
+-- what is answered of a node has its key
+pub key_answered : {store : Store} {key : Key} {n : ℕ} (node : Node store key n) {offer : Offer}
+    → slice_get (list_at store.lists.lists (list_of key.sell key.buy)) node.place ≡ Some (n, offer) → key_of offer ≡ key
+key_answered {store} {key} {n} node {offer} there =
+    ap (λ x. key_of x.1) (same_Some (n, offer) (n, node.offer) (sym there ∙ node.here)) ∙ node.keyed
