@@ -8,3 +8,8 @@ pub mod Gaps
 pub mod Putting
 pub mod Taking
 pub mod Pairs
+pub mod Building
+pub mod Giving
+pub mod Fills
+pub mod FillSteps
+pub mod Kept

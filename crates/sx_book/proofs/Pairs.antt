@@ -85,3 +85,8 @@ nothing_left xs i at none rest =
     sym (append-nil (take i xs))
     ∙ ap (λ zs. take i xs ++ zs) (ap (λ o. rest_from o xs) (sym none) ∙ rest)
     ∙ take-append-drop i xs
+
+pub node_none : (xs : List (ℕ × Offer)) (i : ℕ) → node_at xs i ≡ None → node_at xs (suc i) ≡ None
+node_none [] i none = refl
+node_none (x ∷ xs) zero none = absurd cc
+node_none (x ∷ xs) (suc i) none = node_none xs i none

@@ -94,7 +94,7 @@ this_pair sell buy offer in_range is =
     let sold : offer.sell ≡ sell = omega (arith, is.number, is.buy) in
     grind (arith, common_steps, nat_tests)
 
-mapped : (P : Offer → Type 0) (nodes : List (ℕ × Offer)) → AllByRecursion (λ x. P x.1) nodes
+pub mapped : (P : Offer → Type 0) (nodes : List (ℕ × Offer)) → AllByRecursion (λ x. P x.1) nodes
     → AllByRecursion P (offers_in nodes)
 mapped P [] all = tt
 mapped P (x ∷ xs) all = (all.0, mapped P xs all.1)

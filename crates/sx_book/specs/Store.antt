@@ -1,10 +1,11 @@
 -- How `Books` keep their offers: a list of nodes for each pair, and a map from key to node. No public clause cites this
 -- module.
-use Rattle.std.specs.Prelude.{◌≡◌, ℕ, suc, ◌+◌, ◌*◌, ◌<◌, ◌≤◌, true, List, [], ◌∷◌, ◌++◌, length, map, take, drop, Option, Some, None, nat_lt, slice_set, if◌then◌else◌}
+use Rattle.std.specs.Prelude.{◌≡◌, ℕ, suc, ◌+◌, ◌*◌, ◌<◌, ◌≤◌, true, List, [], ◌∷◌, ◌++◌, length, map, take, drop, Option, Some, None, nat_lt, slice_get, slice_set, if◌then◌else◌}
 use Rattle.std.specs.List.{All, AllByRecursion, Contains, flat_map}
 use Rattle.std.specs.List.Sorted.{IsStrictlySortedBy}
 use Rattle.sx_book.specs.declared.store.Store.{Store}
-use Rattle.sx_book.specs.Books.{IsListed, left_by, left_from, less, most_offers}
+use Rattle.std.specs.Ordering.{nat_cmp}
+use Rattle.sx_book.specs.Books.{Fits, IsListed, left_by, left_from, less, most_offers, places}
 use Rattle.sx_base.specs.Ranges.{most_assets}
 use Rattle.sx_ledger.specs.declared.fill.Fill.{Fill}
 use Rattle.sx_ledger.specs.declared.key.Key.{Key}
@@ -87,15 +88,26 @@ given_by nodes place x units = take place nodes ++ (left_node x units ++ drop (s
 
 -- ---- fills of a list
 
--- what the loop over the fills has made of a list, so far
+-- what a loop over the fills has made of a list, with these fills still to come
 pub record SoFar (old now : List (List (ℕ × Offer))) (list : ℕ) (fills rest : List Fill) (at : Option ℕ) (place : ℕ)
     : Type 0 where
   pub done : List (ℕ × Offer)
   pub lists : now ≡ slice_set old list (done ++ drop place (list_at old list))
   pub here : at ≡ node_at (list_at old list) place
+  pub within : place ≤ length (list_at old list)
   pub left : offers_in done ++ left_from rest place (offers_in (drop place (list_at old list)))
       ≡ left_by fills (offers_in (list_at old list))
-  pub ahead : All (λ fill. place ≤ fill.place) rest
+  pub ahead : AllByRecursion (λ fill. place ≤ fill.place) rest
+  pub rising : IsStrictlySortedBy nat_cmp (places rest)
+  pub fits : AllByRecursion (Fits (offers_in (list_at old list))) rest
+
+-- an offer of the node has at least these units
+pub record Has (lists : List (List (ℕ × Offer))) (node units : ℕ) : Type 0 where
+  pub list : ℕ
+  pub place : ℕ
+  pub offer : Offer
+  pub here : slice_get (list_at lists list) place ≡ Some (node, offer)
+  pub enough : units ≤ offer.amount
 
 -- in the place of the offers of a pair, which stand together, is what the fills leave of them
 pub record IsReduced (sell buy : ℕ) (fills : List Fill) (old new : List Offer) : Type 0 where
@@ -103,3 +115,5 @@ pub record IsReduced (sell buy : ℕ) (fills : List Fill) (old new : List Offer)
   pub after : List Offer
   pub was : old ≡ before ++ (pair_of sell buy old ++ after)
   pub is : new ≡ before ++ (left_by fills (pair_of sell buy old) ++ after)
+  pub none_before : pair_of sell buy before ≡ []
+  pub none_after : pair_of sell buy after ≡ []

@@ -4,7 +4,7 @@ ghost use Rattle.std.specs.Prelude.{◌≡◌, ◌≤◌, ◌+◌, ℕ, All, Som
 ghost use Rattle.std.specs.Option.{ForSome};
 ghost use Rattle.std.specs.List.Sorted.{IsStrictlyIncreasing};
 ghost use Rattle.sx_book.specs.Books.{Fits, places};
-ghost use Rattle.sx_book.specs.Store.{IsReduced, IsSound, given_by, offers_of};
+ghost use Rattle.sx_book.specs.Store.{Has, IsReduced, IsSound, given_by, offers_of};
 ghost use Rattle.sx_ledger.specs.declared.offer.Offer.{Offer};
 ghost use Rattle.sx_ledger.specs.Bounds.{pair_of};
 ghost use Rattle.sx_ledger.specs.Ledger.{keys};
@@ -70,9 +70,7 @@ impl Store {
     // Takes some units from the offer of a node, and the offer out where nothing is left of it.
     fn give(&mut self, node: u32, units: u64)
         requires sound { IsSound self.old }
-        requires stands { Stands self.old.lists.lists node }
-        requires enough { (list place : ℕ) (offer : Offer)
-            → slice_get (list_at self.old.lists.lists list) place ≡ Some (node, offer) → units ≤ offer.amount }
+        requires has { Has self.old.lists.lists node units }
         ensures sound { IsSound self.new }
         ensures given { (list place : ℕ) (offer : Offer)
             → slice_get (list_at self.old.lists.lists list) place ≡ Some (node, offer)

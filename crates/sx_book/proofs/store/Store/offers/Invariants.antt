@@ -4,7 +4,7 @@ use Rattle.sx_links.specs.Lists.{list_at, node_at, rest_from}
 use Rattle.sx_book.proofs.store.Store.offers.Given as goal
 
 abbrev pub invariant-loop-at : goal.invariant-loop-at
-invariant-loop-at l = let xs = list_at l.self.lists.lists (list_of l.sell l.buy) in record {
+invariant-loop-at l = let xs = list_at l.self.lists.lists (list_of l.fn.sell l.fn.buy) in record {
   place : ℕ;
   here : l.at ≡ node_at xs place;
   rest : rest_from l.at xs ≡ drop place xs;
@@ -12,4 +12,4 @@ invariant-loop-at l = let xs = list_at l.self.lists.lists (list_of l.sell l.buy)
 }
 
 abbrev pub decreases-loop-at : goal.decreases-loop-at
-decreases-loop-at l = length (rest_from l.at (list_at l.self.lists.lists (list_of l.sell l.buy)))
+decreases-loop-at l = length (rest_from l.at (list_at l.self.lists.lists (list_of l.fn.sell l.fn.buy)))
