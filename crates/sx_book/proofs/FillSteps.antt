@@ -82,7 +82,8 @@ module _ (old : List Nodes) (list : ℕ) (within : list < length old) (fills : L
     fits = fits;
   }
 
-  module _ (now : List Nodes) (rest : List Fill) (at : Option ℕ) (place : ℕ) (so : SoFar old now list fills rest at place) where
+  module _ (now : List Nodes) (rest : List Fill) (at : Option ℕ) (place : ℕ)
+      (so : SoFar old now list fills rest at place) where
     now_list : list_at now list ≡ so.done ++ drop place xs
     now_list = ap (λ ls. list_at ls list) so.lists ∙ get_or-set_same old list (so.done ++ drop place xs) [] within
 
@@ -170,7 +171,8 @@ module _ (old : List Nodes) (list : ℕ) (within : list < length old) (fills : L
           let ys = drop place xs in
           let left = left_node fit.0 fill.gives in
           let skipped : suc (length so.done + k) ≡ length so.done + suc k = omega arith in
-          let whole : given_by (list_at now list) (length so.done + k) fit.0 fill.gives ≡ done' ++ drop (fill.place + 1) xs =
+          let whole : given_by (list_at now list) (length so.done + k) fit.0 fill.gives ≡ done' ++ drop
+              (fill.place + 1) xs =
           ap (λ zs. given_by zs (length so.done + k) fit.0 fill.gives) now_list
           ∙ ap (λ zs. zs ++ (left ++ drop (suc (length so.done + k)) (so.done ++ ys))) (take_shift so.done ys k)
           ∙ ap (λ n. (so.done ++ take k ys) ++ (left ++ drop n (so.done ++ ys))) skipped
@@ -182,7 +184,8 @@ module _ (old : List Nodes) (list : ℕ) (within : list < length old) (fills : L
           ∙ ap (option_map (λ x. x.1)) (slice_get_drop place xs k ∙ ap (slice_get xs) (sym sum) ∙ fit.1) in
           let step = left_at fill others place k (offers_in ys) fit.0.1 sum later
           (mapped (λ offer. 1 ≤ offer.amount) ys (all_drop (λ x. 1 ≤ x.1.amount) place xs amounts)) here' in
-          let done_offers : offers_in done' ≡ (offers_in so.done ++ take k (offers_in ys)) ++ left_one fit.0.1 fill.gives =
+          let done_offers : offers_in done' ≡ (offers_in so.done ++ take k (offers_in ys)) ++ left_one fit.0.1
+              fill.gives =
           map-append (λ x. x.1) (so.done ++ take k ys) left
           ∙ ap (λ os. os ++ offers_in left) (map-append (λ x. x.1) so.done (take k ys)
           ∙ ap (λ os. offers_in so.done ++ os) (sym (take-map (λ x. x.1) k ys)))
@@ -192,7 +195,8 @@ module _ (old : List Nodes) (list : ℕ) (within : list < length old) (fills : L
           ap (λ n. left_from others n (offers_in (drop (fill.place + 1) xs))) (sym next)
           ∙ ap (λ zs. left_from others (suc fill.place) (offers_in zs)) (sym dropped)
           ∙ ap (left_from others (suc fill.place)) (sym (drop-map (λ x. x.1) (suc k) ys)) in
-          let regroup : (a b c d : List Offer) → ((a ++ b) ++ c) ++ d ≡ a ++ (b ++ (c ++ d)) = λ a b c d. simp append_assoc in
+          let regroup : (a b c d : List Offer) → ((a ++ b) ++ c) ++ d ≡ a ++ (b ++ (c ++ d)) = λ a b c d. simp
+              append_assoc in
           record {
             done = done';
             lists = made ∙ ap (set now list) whole
@@ -201,13 +205,15 @@ module _ (old : List Nodes) (list : ℕ) (within : list < length old) (fills : L
             here = here;
             within = omega (arith, slice_get_within xs fill.place fit.0 fit.1);
             left = ap (λ os. os ++ left_from others (fill.place + 1) (offers_in (drop (fill.place + 1) xs))) done_offers
-                ∙ ap (λ os. ((offers_in so.done ++ take k (offers_in ys)) ++ left_one fit.0.1 fill.gives) ++ os) rest_offers
+                ∙ ap (λ os. ((offers_in so.done ++ take k (offers_in ys)) ++ left_one fit.0.1 fill.gives) ++ os)
+                    rest_offers
                 ∙ regroup (offers_in so.done) (take k (offers_in ys)) (left_one fit.0.1 fill.gives)
                 (left_from others (suc fill.place) (drop (suc k) (offers_in ys)))
                 ∙ ap (λ os. offers_in so.done ++ os) (sym step)
                 ∙ ap (λ fs. offers_in so.done ++ left_from fs place (offers_in ys)) (sym first)
                 ∙ so.left;
-            ahead = all_weaker (λ f. fill.place < f.place) (λ f. fill.place + 1 ≤ f.place) (λ f lt. omega arith) others later;
+            ahead = all_weaker (λ f. fill.place < f.place) (λ f. fill.place + 1 ≤ f.place) (λ f lt. omega arith) others
+                later;
             rising = (subst (λ fs. IsStrictlySortedBy nat_cmp (places fs)) first so.rising).1;
             fits = (subst (AllByRecursion (Fits (offers_in xs))) first so.fits).1;
           }
@@ -239,7 +245,8 @@ reduced_is old new sound sell buy in_range within fills at place so amounts =
     }
 
 -- the amounts of a list
-pub amounts_at : (store : Store) → IsSound store → (sell buy : ℕ) → (within : list_of sell buy < length store.lists.lists)
+pub amounts_at : (store : Store) → IsSound store → (sell buy : ℕ) → (within : list_of sell buy < length
+    store.lists.lists)
     → AllByRecursion (λ x. 1 ≤ x.1.amount) (list_at store.lists.lists (list_of sell buy))
 amounts_at store sound sell buy within =
     let l = list_of sell buy in
@@ -249,7 +256,8 @@ amounts_at store sound sell buy within =
     (all_parts (λ x. 1 ≤ x.1.amount) (list_at lists l) (beyond lists l) all.1).0
 
 -- no list has more than the most offers
-pub list_short : (store : Store) → IsSound store → (sell buy : ℕ) → (within : list_of sell buy < length store.lists.lists)
+pub list_short : (store : Store) → IsSound store → (sell buy : ℕ) → (within : list_of sell buy < length
+    store.lists.lists)
     → length (list_at store.lists.lists (list_of sell buy)) ≤ most_offers
 list_short store sound sell buy within =
     let l = list_of sell buy in

@@ -23,7 +23,8 @@ units_other place fill other = grind (arith, common_steps, nat_tests)
 units_here : (place : ℕ) (fill : Fill) → fill.place ≡ place → units_at place fill ≡ fill.gives
 units_here place fill same = grind (arith, common_steps, nat_tests)
 
-given_none : (fills : List Fill) (place : ℕ) → AllByRecursion (λ fill. place < fill.place) fills → given_at fills place ≡ 0
+given_none : (fills : List Fill) (place : ℕ) → AllByRecursion (λ fill. place < fill.place) fills → given_at fills place
+    ≡ 0
 given_none [] place all = refl
 given_none (fill ∷ fills) place all =
     let first = units_other place fill (λ e. absurd (omega (arith, all.0))) in
@@ -85,7 +86,8 @@ left_past : (fill : Fill) (fills : List Fill) (place : ℕ) (offers : List Offer
 left_past fill fills place [] lt = refl
 left_past fill fills place (offer ∷ offers) lt =
     left_cons (fill ∷ fills) place offer offers
-    ∙ ap (λ units. left_one offer units ++ left_from (fill ∷ fills) (suc place) offers) (given_other fill fills place lt)
+    ∙ ap (λ units. left_one offer units ++ left_from (fill ∷ fills) (suc place) offers)
+        (given_other fill fills place lt)
     ∙ ap (λ os. left_one offer (given_at fills place) ++ os) (left_past fill fills (suc place) offers (omega arith))
     ∙ sym (left_cons fills place offer offers)
 
@@ -101,13 +103,15 @@ left_at fill fills place zero (o ∷ offers) offer at later amounts here =
     let there : place ≡ fill.place = omega arith in
     left_cons (fill ∷ fills) place o offers
     ∙ ap (λ units. left_one o units ++ left_from (fill ∷ fills) (suc place) offers)
-    (given_here fill fills place (sym there) (subst (λ p. AllByRecursion (λ other. p < other.place) fills) (sym there) later))
+    (given_here fill fills place (sym there) (subst (λ p. AllByRecursion (λ other. p < other.place) fills) (sym there)
+        later))
     ∙ ap (λ os. left_one o fill.gives ++ os) (left_past fill fills (suc place) offers (omega arith))
     ∙ ap (λ p. left_one o fill.gives ++ left_from fills (suc p) offers) there
     ∙ ap (λ z. left_one z fill.gives ++ left_from fills (suc fill.place) offers) same
 left_at fill fills place (suc k) (o ∷ offers) offer at later amounts here =
     let before : place < fill.place = omega arith in
-    let none = given_none (fill ∷ fills) place (before, all_weaker (λ other. fill.place < other.place) (λ other. place < other.place)
+    let none = given_none (fill ∷ fills) place (before, all_weaker (λ other. fill.place < other.place)
+        (λ other. place < other.place)
     (λ other lt. omega arith) fills later) in
     left_cons (fill ∷ fills) place o offers
     ∙ ap (λ units. left_one o units ++ left_from (fill ∷ fills) (suc place) offers) none
@@ -115,7 +119,8 @@ left_at fill fills place (suc k) (o ∷ offers) offer at later amounts here =
     ∙ ap (λ os. o ∷ os) (left_at fill fills (suc place) k offers offer (omega arith) later amounts.1 here)
 
 -- what holds of an offer whatever its amount holds of what is left
-pub all_left : (P : Offer → Type 0) → ((offer : Offer) (units : ℕ) → P offer → P (less offer units)) → (fills : List Fill)
+pub all_left : (P : Offer → Type 0) → ((offer : Offer) (units : ℕ) → P offer → P (less offer units)) →
+    (fills : List Fill)
     (place : ℕ) (offers : List Offer) → AllByRecursion P offers → AllByRecursion P (left_from fills place offers)
 all_left P keeps fills place [] all = tt
 all_left P keeps fills place (offer ∷ offers) all =

@@ -43,7 +43,8 @@ module _ (old : Store) (sound : IsSound old) (l p : ℕ) (x : ℕ × Offer)
   old_nodes : nodes_of old.lists.lists ≡ front old.lists.lists l p ++ x ∷ back old.lists.lists l (suc p)
   old_nodes = cut_at old.lists.lists l within p x here
 
-  split : set (list_at old.lists.lists l) p y ≡ take p (list_at old.lists.lists l) ++ y ∷ drop (suc p) (list_at old.lists.lists l)
+  split : set (list_at old.lists.lists l) p y ≡ take p (list_at old.lists.lists l) ++ y ∷ drop (suc p)
+      (list_at old.lists.lists l)
   split = set_split (list_at old.lists.lists l) p y (slice_get_within (list_at old.lists.lists l) p x here)
 
   same_keys : (xs ys : Nodes) → map (λ z. key_of z.1) (xs ++ x ∷ ys) ≡ map (λ z. key_of z.1) (xs ++ y ∷ ys)
@@ -85,17 +86,20 @@ module _ (old : Store) (sound : IsSound old) (l p : ℕ) (x : ℕ × Offer)
       ≡ set old.lists.lists l (given_by (list_at old.lists.lists l) p x units)
   given_some =
       ap (set old.lists.lists l) (split
-      ∙ ap (λ ys. take p (list_at old.lists.lists l) ++ (ys ++ drop (suc p) (list_at old.lists.lists l))) (sym (left_some x units some)))
+      ∙ ap (λ ys. take p (list_at old.lists.lists l) ++ (ys ++ drop (suc p) (list_at old.lists.lists l)))
+          (sym (left_some x units some)))
 
 pub given_nothing : (lists : List Nodes) (l p : ℕ) (x : ℕ × Offer) (units : ℕ) → x.1.amount ≤ units
     → set lists l (take p (list_at lists l) ++ drop (suc p) (list_at lists l))
         ≡ set lists l (given_by (list_at lists l) p x units)
 given_nothing lists l p x units le =
-    ap (λ ys. set lists l (take p (list_at lists l) ++ (ys ++ drop (suc p) (list_at lists l)))) (sym (left_nothing x units le))
+    ap (λ ys. set lists l (take p (list_at lists l) ++ (ys ++ drop (suc p) (list_at lists l))))
+        (sym (left_nothing x units le))
 
 -- an offer with other amounts is the same but for its amount
 pub less_is : (offer : Offer) (units amount : ℕ) → amount ≡ offer.amount - units
-    → record { sell = offer.sell; buy = offer.buy; limit = offer.limit; account = offer.account; seq = offer.seq; amount = amount }
+    → record { sell = offer.sell; buy = offer.buy; limit = offer.limit; account = offer.account; seq = offer.seq;
+        amount = amount }
         ≡ less offer units
 less_is offer units amount is =
     ap (λ (a : ℕ). record {

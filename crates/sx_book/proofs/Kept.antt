@@ -101,8 +101,10 @@ module _ (assets : ℕ) (old new : Store) (kept : IsKept assets old) (sound : Is
   pub kept_put : (offer : Offer) → IsListed assets offer → offers_of new ≡ put_offer offer (offers_of old)
       → IsKept assets new
   kept_put offer listed made =
-      kept_with (subst (All (IsListed assets)) (sym made) (All-from_recursion (IsListed assets) (put_offer offer (offers_of old))
-      (all_put (IsListed assets) offer (offers_of old) listed (recursion_from_All (IsListed assets) (offers_of old) kept.listed))))
+      kept_with (subst (All (IsListed assets)) (sym made) (All-from_recursion (IsListed assets)
+          (put_offer offer (offers_of old))
+      (all_put (IsListed assets) offer (offers_of old) listed (recursion_from_All (IsListed assets) (offers_of old)
+          kept.listed))))
 
   pub kept_take : (key : Key) → offers_of new ≡ without key (offers_of old) → IsKept assets new
   kept_take key made =
@@ -116,7 +118,8 @@ module _ (assets : ℕ) (old new : Store) (kept : IsKept assets old) (sound : Is
       let was = subst (AllByRecursion P) made.was (recursion_from_All P (offers_of old) kept.listed) in
       let first = all_parts P made.before (pair ++ made.after) was in
       let second = all_parts P pair made.after first.1 in
-      let left = all_left P (λ offer units is. record { sell = is.sell; buy = is.buy; differ = is.differ }) fills 0 pair second.0 in
+      let left = all_left P (λ offer units is. record { sell = is.sell; buy = is.buy; differ = is.differ }) fills 0
+          pair second.0 in
       kept_with (subst (All P) (sym made.is) (All-from_recursion P (made.before ++ (left_by fills pair ++ made.after))
       (all_append P made.before (left_by fills pair ++ made.after) first.0
       (all_append P (left_by fills pair) made.after left second.1))))

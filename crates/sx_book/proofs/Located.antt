@@ -55,14 +55,16 @@ module _ (store : Store) (sound : IsSound store) where
 
   -- the entry that the map has at a key is that of a node
   pub entry_at : (key : Key) (node : ℕ) → get key_cmp store.nodes key ≡ Some node
-      → (i : ℕ) × (offer : Offer) × (slice_get (nodes_of store.lists.lists) i ≡ Some (node, offer)) × (key_of offer ≡ key)
+      → (i : ℕ) × (offer : Offer) × (slice_get (nodes_of store.lists.lists) i ≡ Some (node, offer)) ×
+          (key_of offer ≡ key)
   entry_at key node found =
       let nodes = nodes_of store.lists.lists in
       let entry = place_from_lookup (is_at (key_cmp key)) store.nodes.entries node found in
       let at : slice_get (map entry_of nodes) entry.0 ≡ Some (entry.1, node) =
       ap (λ es. slice_get es entry.0) (sym sound.found) ∙ entry.2 in
       let same : key ≡ entry.1 = equal_is key entry.1 (equal_by (key_cmp key entry.1) entry.3) in
-      let x = mapped_some entry_of (slice_get nodes entry.0) (entry.1, node) (sym (slice_get-map entry_of nodes entry.0) ∙ at) in
+      let x = mapped_some entry_of (slice_get nodes entry.0) (entry.1, node)
+          (sym (slice_get-map entry_of nodes entry.0) ∙ at) in
       (entry.0, x.0.1, x.1 ∙ ap (λ e. Some (e.1, x.0.1)) x.2, ap (λ e. e.0) x.2 ∙ sym same)
 
   pub node_of : (key : Key) (node : ℕ) → get key_cmp store.nodes key ≡ Some node → Node store key node
@@ -133,7 +135,8 @@ module _ (store : Store) (sound : IsSound store) (key : Key) where
   pub contains_some : IsSome (get derived.ghosts.cmp store.nodes key) → Contains (keys (offers_of store)) key
   contains_some some = by_case (get derived.ghosts.cmp store.nodes key) refl some
     where
-      by_case : (o : Option ℕ) → get derived.ghosts.cmp store.nodes key ≡ o → IsSome o → Contains (keys (offers_of store)) key
+      by_case : (o : Option ℕ) → get derived.ghosts.cmp store.nodes key ≡ o → IsSome o → Contains
+          (keys (offers_of store)) key
       by_case None is some = absurd cc
       by_case (Some node) is some = contains_by node is
 

@@ -64,7 +64,8 @@ module _ (old new : Store) (sound : IsSound old) (offer : Offer) (node : ℕ) (a
   pub put_offers_are : offers_of new ≡ put_offer offer (offers_of old)
   put_offers_are =
       ap offers_in put_nodes
-      ∙ sym (put_between node offer (front old.lists.lists l gap.place) (back old.lists.lists l gap.place) gap.below gap.above)
+      ∙ sym (put_between node offer (front old.lists.lists l gap.place) (back old.lists.lists l gap.place) gap.below
+          gap.above)
       ∙ ap (λ xs. put_offer offer (offers_in xs)) (sym old_nodes)
 
   pub IsSound-put : new.nodes.entries ≡ insert_entry derived.ghosts.cmp old.nodes.entries (key_of offer) node
@@ -87,7 +88,8 @@ module _ (old new : Store) (sound : IsSound old) (offer : Offer) (node : ℕ) (a
       let fewer : length (nodes_of old.lists.lists) < most_offers = subst (λ k. k < most_offers)
       (length-map (nodes_of old.lists.lists) (λ x. x.1)) few in
       IsSound-with old new l _ sound lists
-      (all_append (λ x. IsIn l x.1) (take gap.place (list_at old.lists.lists l)) ((node, offer) ∷ drop gap.place (list_at old.lists.lists l))
+      (all_append (λ x. IsIn l x.1) (take gap.place (list_at old.lists.lists l))
+          ((node, offer) ∷ drop gap.place (list_at old.lists.lists l))
       (all_take (λ x. IsIn l x.1) gap.place (list_at old.lists.lists l) listed)
       (here, all_drop (λ x. IsIn l x.1) gap.place (list_at old.lists.lists l) listed))
       found
@@ -132,7 +134,8 @@ module _ (old : Store) (reserved made : Lists Offer) (offer : Offer) (key : Key)
 
   pub offers_put : offers_in (nodes_of made.lists) ≡ put_offer offer (offers_of old)
   offers_put =
-      put_offers_are old (record { lists = made; nodes = old.nodes }) sound offer node after gap_is within in_range lists_are
+      put_offers_are old (record { lists = made; nodes = old.nodes }) sound offer node after gap_is within in_range
+          lists_are
 
   pub sound_put : (new : Store) → new.lists ≡ made
       → new.nodes.entries ≡ insert_entry derived.ghosts.cmp old.nodes.entries key node

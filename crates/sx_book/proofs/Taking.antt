@@ -71,7 +71,8 @@ module _ (x : ℕ × Offer) where
   pub without_between : (xs ys : List (ℕ × Offer)) → AllByRecursion Ahead xs → AllByRecursion After ys
       → without (key_of x.1) (offers_in (xs ++ x ∷ ys)) ≡ offers_in (xs ++ ys)
   without_between [] ys ahead after =
-      let gone : not (same_key (key_of x.1) (key_of x.1)) ≡ false = ap not (same_key_from (key_of x.1) (key_of x.1) refl) in
+      let gone : not (same_key (key_of x.1) (key_of x.1)) ≡ false = ap not (same_key_from (key_of x.1) (key_of x.1)
+          refl) in
       rw gone (rest_stays ys after)
   without_between (y ∷ xs) ys ahead after =
       let kept = kept_where y.1 (key_of x.1) (differs y ahead.0) in
@@ -80,10 +81,12 @@ module _ (x : ℕ × Offer) where
   pub removed_between : (xs ys : List (ℕ × Offer)) → AllByRecursion Ahead xs
       → remove_entry (is_at (key_cmp (key_of x.1))) (map entry_of (xs ++ x ∷ ys)) ≡ map entry_of (xs ++ ys)
   removed_between [] ys ahead =
-      let equal : is_eq (key_cmp (key_of x.1) (key_of x.1)) ≡ true = ap is_eq (equal_from (key_of x.1) (key_of x.1) refl) in
+      let equal : is_eq (key_cmp (key_of x.1) (key_of x.1)) ≡ true = ap is_eq
+          (equal_from (key_of x.1) (key_of x.1) refl) in
       rw equal refl
   removed_between (y ∷ xs) ys ahead =
-      let greater : is_eq (key_cmp (key_of x.1) (key_of y.1)) ≡ false = ap is_eq (greater_from (key_of y.1) (key_of x.1) ahead.0) in
+      let greater : is_eq (key_cmp (key_of x.1) (key_of y.1)) ≡ false = ap is_eq
+          (greater_from (key_of y.1) (key_of x.1) ahead.0) in
       rw greater (ap (λ es. entry_of y ∷ es) (removed_between xs ys ahead.1))
 
 module _ (old new : Store) (sound : IsSound old) (l p : ℕ) (x : ℕ × Offer)
@@ -98,7 +101,8 @@ module _ (old new : Store) (sound : IsSound old) (l p : ℕ) (x : ℕ × Offer)
   new_nodes : nodes_of new.lists.lists ≡ front old.lists.lists l p ++ back old.lists.lists l (suc p)
   new_nodes = ap nodes_of lists ∙ cut_set old.lists.lists l within p (drop (suc p) (list_at old.lists.lists l))
 
-  sides : AllByRecursion (Ahead x) (front old.lists.lists l p) × AllByRecursion (After x) (back old.lists.lists l (suc p))
+  sides : AllByRecursion (Ahead x) (front old.lists.lists l p) × AllByRecursion (After x)
+      (back old.lists.lists l (suc p))
   sides =
       sorted_around (λ y. key_of y.1) (front old.lists.lists l p) x (back old.lists.lists l (suc p))
       (subst (λ xs. Sorted (map (λ y. key_of y.1) xs)) old_nodes sound.sorted)

@@ -59,8 +59,8 @@ less offer units = record {
 abbrev pub given_at : List Fill → ℕ → ℕ
 given_at fills place = sum_by (λ fill. if fill.place == place then fill.gives else 0) fills
 
--- what is left of the offers of a pair, which begin at a place: each loses what the fills give at its place, and is gone
--- where nothing is left of it
+-- what is left of the offers of a pair, which begin at a place: each loses what the fills give at its place, and is
+-- gone where nothing is left of it
 abbrev pub left_from : List Fill → ℕ → List Offer → List Offer
 left_from fills place [] = []
 left_from fills place (offer ∷ offers) =

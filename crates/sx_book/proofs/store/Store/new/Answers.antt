@@ -9,4 +9,5 @@ returns-clause-sound c =
     IsSound-new _ c.args.count c.requires (ap (λ l. l.lists) c.in_ok-new.ensures) c.new-2.ensures.empty
 
 pub returns-clause-empty : goal.returns-clause-empty
-returns-clause-empty c = ap (λ l. offers_in (nodes_of l.lists)) c.in_ok-new.ensures ∙ ap offers_in (flat_empty c.args.count)
+returns-clause-empty c = ap (λ l. offers_in (nodes_of l.lists)) c.in_ok-new.ensures ∙ ap offers_in
+    (flat_empty c.args.count)

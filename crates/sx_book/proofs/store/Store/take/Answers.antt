@@ -24,7 +24,8 @@ unlink-requires c =
 pub returns-clause-sound : goal.returns-clause-sound
 returns-clause-sound c =
     let node = node_by c.args.self.now c.requires c.args.key.now c.in_ok-node.node (sym c.in_ok-node.ensures.value) in
-    sound_taken c.args.self.now c.requires c.args.key.now c.in_ok-node.node node c.unlink.new.self c.unlink.ensures.taken
+    sound_taken c.args.self.now c.requires c.args.key.now c.in_ok-node.node node c.unlink.new.self
+        c.unlink.ensures.taken
     _ refl c.remove.ensures.entries c.remove.ensures.ordered
 
 pub returns-clause-key : goal.returns-clause-key
@@ -41,4 +42,5 @@ returns-clause-offer c =
 pub returns-clause-offers : goal.returns-clause-offers
 returns-clause-offers c =
     let node = node_by c.args.self.now c.requires c.args.key.now c.in_ok-node.node (sym c.in_ok-node.ensures.value) in
-    offers_taken c.args.self.now c.requires c.args.key.now c.in_ok-node.node node c.unlink.new.self c.unlink.ensures.taken
+    offers_taken c.args.self.now c.requires c.args.key.now c.in_ok-node.node node c.unlink.new.self
+        c.unlink.ensures.taken
