@@ -1,0 +1,15 @@
+pub mod Lists
+pub mod Flat
+pub mod Keys
+pub mod Placed
+pub mod Sound
+pub mod Located
+pub mod Gaps
+pub mod Putting
+pub mod Taking
+pub mod Pairs
+pub mod Building
+pub mod Giving
+pub mod Fills
+pub mod FillSteps
+pub mod Kept
