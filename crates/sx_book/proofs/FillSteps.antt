@@ -172,7 +172,7 @@ module _ (old : List Nodes) (list : ℕ) (within : list < length old) (fills : L
           let left = left_node fit.0 fill.gives in
           let skipped : suc (length so.done + k) ≡ length so.done + suc k = omega arith in
           let whole : given_by (list_at now list) (length so.done + k) fit.0 fill.gives ≡ done' ++ drop
-              (fill.place + 1) xs =
+          (fill.place + 1) xs =
           ap (λ zs. given_by zs (length so.done + k) fit.0 fill.gives) now_list
           ∙ ap (λ zs. zs ++ (left ++ drop (suc (length so.done + k)) (so.done ++ ys))) (take_shift so.done ys k)
           ∙ ap (λ n. (so.done ++ take k ys) ++ (left ++ drop n (so.done ++ ys))) skipped
@@ -185,18 +185,18 @@ module _ (old : List Nodes) (list : ℕ) (within : list < length old) (fills : L
           let step = left_at fill others place k (offers_in ys) fit.0.1 sum later
           (mapped (λ offer. 1 ≤ offer.amount) ys (all_drop (λ x. 1 ≤ x.1.amount) place xs amounts)) here' in
           let done_offers : offers_in done' ≡ (offers_in so.done ++ take k (offers_in ys)) ++ left_one fit.0.1
-              fill.gives =
+          fill.gives =
           map-append (λ x. x.1) (so.done ++ take k ys) left
           ∙ ap (λ os. os ++ offers_in left) (map-append (λ x. x.1) so.done (take k ys)
           ∙ ap (λ os. offers_in so.done ++ os) (sym (take-map (λ x. x.1) k ys)))
           ∙ ap (λ os. (offers_in so.done ++ take k (offers_in ys)) ++ os) (left_of_node fit.0 fill.gives) in
           let rest_offers : left_from others (fill.place + 1) (offers_in (drop (fill.place + 1) xs))
-              ≡ left_from others (suc fill.place) (drop (suc k) (offers_in ys)) =
+          ≡ left_from others (suc fill.place) (drop (suc k) (offers_in ys)) =
           ap (λ n. left_from others n (offers_in (drop (fill.place + 1) xs))) (sym next)
           ∙ ap (λ zs. left_from others (suc fill.place) (offers_in zs)) (sym dropped)
           ∙ ap (left_from others (suc fill.place)) (sym (drop-map (λ x. x.1) (suc k) ys)) in
           let regroup : (a b c d : List Offer) → ((a ++ b) ++ c) ++ d ≡ a ++ (b ++ (c ++ d)) = λ a b c d. simp
-              append_assoc in
+          append_assoc in
           record {
             done = done';
             lists = made ∙ ap (set now list) whole
@@ -206,7 +206,7 @@ module _ (old : List Nodes) (list : ℕ) (within : list < length old) (fills : L
             within = omega (arith, slice_get_within xs fill.place fit.0 fit.1);
             left = ap (λ os. os ++ left_from others (fill.place + 1) (offers_in (drop (fill.place + 1) xs))) done_offers
                 ∙ ap (λ os. ((offers_in so.done ++ take k (offers_in ys)) ++ left_one fit.0.1 fill.gives) ++ os)
-                    rest_offers
+                rest_offers
                 ∙ regroup (offers_in so.done) (take k (offers_in ys)) (left_one fit.0.1 fill.gives)
                 (left_from others (suc fill.place) (drop (suc k) (offers_in ys)))
                 ∙ ap (λ os. offers_in so.done ++ os) (sym step)

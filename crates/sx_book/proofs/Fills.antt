@@ -54,7 +54,7 @@ left_of_node x units = elim (cases_Bool (nat_lt units x.1.amount)) [ inl lt ↦ 
 
 left_cons : (fills : List Fill) (place : ℕ) (offer : Offer) (offers : List Offer)
     → left_from fills place (offer ∷ offers)
-        ≡ left_one offer (given_at fills place) ++ left_from fills (suc place) offers
+    ≡ left_one offer (given_at fills place) ++ left_from fills (suc place) offers
 left_cons fills place offer offers =
     elim (cases_Bool (nat_lt (given_at fills place) offer.amount)) [ inl lt ↦ rw lt refl | inr ge ↦ rw ge refl ]
 
@@ -87,7 +87,7 @@ left_past fill fills place [] lt = refl
 left_past fill fills place (offer ∷ offers) lt =
     left_cons (fill ∷ fills) place offer offers
     ∙ ap (λ units. left_one offer units ++ left_from (fill ∷ fills) (suc place) offers)
-        (given_other fill fills place lt)
+    (given_other fill fills place lt)
     ∙ ap (λ os. left_one offer (given_at fills place) ++ os) (left_past fill fills (suc place) offers (omega arith))
     ∙ sym (left_cons fills place offer offers)
 
@@ -96,7 +96,7 @@ pub left_at : (fill : Fill) (fills : List Fill) (place k : ℕ) (offers : List O
     → fill.place ≡ place + k → AllByRecursion (λ other. fill.place < other.place) fills
     → AllByRecursion (λ o. 1 ≤ o.amount) offers → slice_get offers k ≡ Some offer
     → left_from (fill ∷ fills) place offers
-        ≡ take k offers ++ (left_one offer fill.gives ++ left_from fills (suc fill.place) (drop (suc k) offers))
+    ≡ take k offers ++ (left_one offer fill.gives ++ left_from fills (suc fill.place) (drop (suc k) offers))
 left_at fill fills place k [] offer at later amounts here = absurd cc
 left_at fill fills place zero (o ∷ offers) offer at later amounts here =
     let same : o ≡ offer = cc in
@@ -104,15 +104,18 @@ left_at fill fills place zero (o ∷ offers) offer at later amounts here =
     left_cons (fill ∷ fills) place o offers
     ∙ ap (λ units. left_one o units ++ left_from (fill ∷ fills) (suc place) offers)
     (given_here fill fills place (sym there) (subst (λ p. AllByRecursion (λ other. p < other.place) fills) (sym there)
-        later))
+    later))
     ∙ ap (λ os. left_one o fill.gives ++ os) (left_past fill fills (suc place) offers (omega arith))
     ∙ ap (λ p. left_one o fill.gives ++ left_from fills (suc p) offers) there
     ∙ ap (λ z. left_one z fill.gives ++ left_from fills (suc fill.place) offers) same
 left_at fill fills place (suc k) (o ∷ offers) offer at later amounts here =
     let before : place < fill.place = omega arith in
-    let none = given_none (fill ∷ fills) place (before, all_weaker (λ other. fill.place < other.place)
-        (λ other. place < other.place)
-    (λ other lt. omega arith) fills later) in
+    let none = given_none (fill ∷ fills) place (
+      before,
+      all_weaker (λ other. fill.place < other.place)
+          (λ other. place < other.place)
+          (λ other lt. omega arith) fills later,
+    ) in
     left_cons (fill ∷ fills) place o offers
     ∙ ap (λ units. left_one o units ++ left_from (fill ∷ fills) (suc place) offers) none
     ∙ ap (λ os. os ++ left_from (fill ∷ fills) (suc place) offers) (left_zero o amounts.0)

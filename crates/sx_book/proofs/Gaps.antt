@@ -51,7 +51,7 @@ module _ (store : Store) (sound : IsSound store) (key : Key) (absent : Contains 
       let none : 0 + l ≡ l = omega arith in
       let others = all_parts (λ x. key_of x.1 ≡ key → ⊥) (front lists l 0) (back lists l 0)
       (subst (AllByRecursion (λ x. key_of x.1 ≡ key → ⊥)) (cut lists l within 0) (all_others (flat lists) key absent))
-          in
+      in
       let here = all_parts (λ x. key_of x.1 ≡ key → ⊥) (list_at lists l) (beyond lists l) others.1 in
       record {
         place = 0;
@@ -99,11 +99,11 @@ module _ (store : Store) (sound : IsSound store) (key : Key) (absent : Contains 
       gap_other within in_range other =
           gap_front within in_range (all_from NotBefore (list_at lists l) (λ i x here.
           (let placed = all_at (λ y. IsIn (0 + l) y.1) (list_at lists l) i x (placed_at 0 lists sound.placed l within)
-              here in
+          here in
           let sold : x.1.sell ≡ key.sell = omega (arith, placed.number, placed.buy) in
           let bought : x.1.buy ≡ key.buy = omega (arith, placed.number, placed.buy) in
           let some = all_at (λ y. IsSome (get key_cmp store.nodes (key_of y.1))) (list_at lists l) i x
-              (all_in_list within) here in
+          (all_in_list within) here in
           false_from_ne_true (key_before (key_of x.1) key)
           (λ lt. other (same_pair (key_of x.1) last.0 key sold bought (greatest x some lt) last_before)))))
 
@@ -115,7 +115,7 @@ module _ (store : Store) (sound : IsSound store) (key : Key) (absent : Contains 
           let p = node.place in
           let same : list_of last.0.sell last.0.buy ≡ l = omega arith in
           let here : slice_get (list_at lists l) p ≡ Some x = ap (λ n. slice_get (list_at lists n) p) (sym same) ∙
-              node.here in
+          node.here in
           let within : l < length lists = subst (λ n. n < length lists) same node.within in
           let parts = cut_at lists l within p x here in
           let keyed : key_of x.1 ≡ last.0 = node.keyed in
@@ -123,9 +123,9 @@ module _ (store : Store) (sound : IsSound store) (key : Key) (absent : Contains 
           (subst (λ xs. Sorted (map (λ y. key_of y.1) xs)) parts sound.sorted) in
           let first : key_before (key_of x.1) key ≡ true = ap (λ k. key_before k key) keyed ∙ last_before in
           let some = all_parts (λ y. IsSome (get key_cmp store.nodes (key_of y.1))) (front lists l p)
-              (x ∷ back lists l (suc p))
+          (x ∷ back lists l (suc p))
           (subst (AllByRecursion (λ y. IsSome (get key_cmp store.nodes (key_of y.1)))) parts
-              (all_found store sound ordered)) in
+          (all_found store sound ordered)) in
           let other = all_parts (λ y. key_of y.1 ≡ key → ⊥) (front lists l p) (x ∷ back lists l (suc p))
           (subst (AllByRecursion (λ y. key_of y.1 ≡ key → ⊥)) parts (all_others (flat lists) key absent)) in
           let next : suc p ≡ p + 1 = omega arith in
@@ -141,12 +141,12 @@ module _ (store : Store) (sound : IsSound store) (key : Key) (absent : Contains 
                 (all_from IsAfterKey (back lists l (suc p))
                 (λ i y at.
                 (let after = all_at (λ z. key_before (key_of x.1) (key_of z.1) ≡ true) (back lists l (suc p)) i y
-                    sides.1 at in
+                sides.1 at in
                 let has = all_at (λ z. IsSome (get key_cmp store.nodes (key_of z.1))) (back lists l (suc p)) i y
-                    some.1.1 at in
+                some.1.1 at in
                 let differs = all_at (λ z. key_of z.1 ≡ key → ⊥) (back lists l (suc p)) i y other.1.1 at in
                 let after' : key_before last.0 (key_of y.1) ≡ true = ap (λ k. key_before k (key_of y.1)) (sym keyed) ∙
-                    after in
+                after in
                 before_or_after (key_of y.1) key (λ e. differs (sym e))
                 (false_from_ne_true (key_before (key_of y.1) key) (λ lt. (let no = greatest y has lt in cc))))));
           }

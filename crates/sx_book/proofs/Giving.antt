@@ -87,20 +87,26 @@ module _ (old : Store) (sound : IsSound old) (l p : ℕ) (x : ℕ × Offer)
   given_some =
       ap (set old.lists.lists l) (split
       ∙ ap (λ ys. take p (list_at old.lists.lists l) ++ (ys ++ drop (suc p) (list_at old.lists.lists l)))
-          (sym (left_some x units some)))
+      (sym (left_some x units some)))
 
 pub given_nothing : (lists : List Nodes) (l p : ℕ) (x : ℕ × Offer) (units : ℕ) → x.1.amount ≤ units
     → set lists l (take p (list_at lists l) ++ drop (suc p) (list_at lists l))
-        ≡ set lists l (given_by (list_at lists l) p x units)
+    ≡ set lists l (given_by (list_at lists l) p x units)
 given_nothing lists l p x units le =
     ap (λ ys. set lists l (take p (list_at lists l) ++ (ys ++ drop (suc p) (list_at lists l))))
-        (sym (left_nothing x units le))
+    (sym (left_nothing x units le))
 
 -- an offer with other amounts is the same but for its amount
 pub less_is : (offer : Offer) (units amount : ℕ) → amount ≡ offer.amount - units
-    → record { sell = offer.sell; buy = offer.buy; limit = offer.limit; account = offer.account; seq = offer.seq;
-        amount = amount }
-        ≡ less offer units
+    → record {
+      sell = offer.sell;
+      buy = offer.buy;
+      limit = offer.limit;
+      account = offer.account;
+      seq = offer.seq;
+      amount = amount;
+    }
+    ≡ less offer units
 less_is offer units amount is =
     ap (λ (a : ℕ). record {
       sell = offer.sell;

@@ -102,9 +102,9 @@ module _ (assets : ℕ) (old new : Store) (kept : IsKept assets old) (sound : Is
       → IsKept assets new
   kept_put offer listed made =
       kept_with (subst (All (IsListed assets)) (sym made) (All-from_recursion (IsListed assets)
-          (put_offer offer (offers_of old))
+      (put_offer offer (offers_of old))
       (all_put (IsListed assets) offer (offers_of old) listed (recursion_from_All (IsListed assets) (offers_of old)
-          kept.listed))))
+      kept.listed))))
 
   pub kept_take : (key : Key) → offers_of new ≡ without key (offers_of old) → IsKept assets new
   kept_take key made =
@@ -119,7 +119,7 @@ module _ (assets : ℕ) (old new : Store) (kept : IsKept assets old) (sound : Is
       let first = all_parts P made.before (pair ++ made.after) was in
       let second = all_parts P pair made.after first.1 in
       let left = all_left P (λ offer units is. record { sell = is.sell; buy = is.buy; differ = is.differ }) fills 0
-          pair second.0 in
+      pair second.0 in
       kept_with (subst (All P) (sym made.is) (All-from_recursion P (made.before ++ (left_by fills pair ++ made.after))
       (all_append P made.before (left_by fills pair ++ made.after) first.0
       (all_append P (left_by fills pair) made.after left second.1))))

@@ -94,12 +94,14 @@ Sorted keys = IsStrictlySortedBy key_cmp keys
 module _ {X : Type 0} (key : X → Key) where
   pub sorted_around : (xs : List X) (y : X) (ys : List X) → Sorted (map key (xs ++ y ∷ ys))
       → AllByRecursion (λ x. key_before (key x) (key y) ≡ true) xs
-          × AllByRecursion (λ x. key_before (key y) (key x) ≡ true) ys
+      × AllByRecursion (λ x. key_before (key y) (key x) ≡ true) ys
   unfolding IsStrictlySortedBy
-  sorted_around [] y ys sorted =
-      (tt, all_weaker (λ x. key_cmp (key y) (key x) ≡ Less) (λ x. key_before (key y) (key x) ≡ true)
-          (λ x less. ap is_lt less) ys
-      (all_unmapped (λ k. key_cmp (key y) k ≡ Less) key ys sorted.0))
+  sorted_around [] y ys sorted = (
+    tt,
+    all_weaker (λ x. key_cmp (key y) (key x) ≡ Less) (λ x. key_before (key y) (key x) ≡ true)
+        (λ x less. ap is_lt less) ys
+        (all_unmapped (λ k. key_cmp (key y) k ≡ Less) key ys sorted.0),
+  )
   sorted_around (x ∷ xs) y ys sorted =
       let rest = sorted_around xs y ys sorted.1 in
       ((ap is_lt (among xs sorted.0), rest.0), rest.1)
@@ -130,10 +132,15 @@ sorted_after k [] ordered = (tt, tt)
 sorted_after k (y ∷ ys) ordered =
     let both = and_parts (key_before k y) (in_order key_before (Some y) ys) ordered in
     let rest = sorted_after y ys both.1 in
-    let first = less_from k y both.0 in
-    ((first, all_weaker (λ z. key_cmp y z ≡ Less) (λ z. key_cmp k z ≡ Less)
-        (λ z less. key_cmp_total.trans k y z first less)
-    ys rest.0), rest)
+    let first = less_from k y both.0 in (
+      (
+        first,
+        all_weaker (λ z. key_cmp y z ≡ Less) (λ z. key_cmp k z ≡ Less)
+            (λ z less. key_cmp_total.trans k y z first less)
+            ys rest.0,
+      ),
+      rest,
+    )
 
 pub sorted_from : (ks : List Key) → in_order key_before None ks ≡ true → Sorted ks
 unfolding IsStrictlySortedBy

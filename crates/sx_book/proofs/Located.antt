@@ -49,14 +49,16 @@ module _ (store : Store) (sound : IsSound store) where
   list_is l p x here =
       let lists = store.lists.lists in
       let within = within_lists lists l p x here in
-      let same : 0 + l ≡ l = omega arith in
-      (subst (λ n. IsIn n x.1) same
-      (all_at (λ y. IsIn (0 + l) y.1) (list_at lists l) p x (placed_at 0 lists sound.placed l within) here), within)
+      let same : 0 + l ≡ l = omega arith in (
+        subst (λ n. IsIn n x.1) same
+            (all_at (λ y. IsIn (0 + l) y.1) (list_at lists l) p x (placed_at 0 lists sound.placed l within) here),
+        within,
+      )
 
   -- the entry that the map has at a key is that of a node
   pub entry_at : (key : Key) (node : ℕ) → get key_cmp store.nodes key ≡ Some node
       → (i : ℕ) × (offer : Offer) × (slice_get (nodes_of store.lists.lists) i ≡ Some (node, offer)) ×
-          (key_of offer ≡ key)
+      (key_of offer ≡ key)
   entry_at key node found =
       let nodes = nodes_of store.lists.lists in
       let entry = place_from_lookup (is_at (key_cmp key)) store.nodes.entries node found in
@@ -64,7 +66,7 @@ module _ (store : Store) (sound : IsSound store) where
       ap (λ es. slice_get es entry.0) (sym sound.found) ∙ entry.2 in
       let same : key ≡ entry.1 = equal_is key entry.1 (equal_by (key_cmp key entry.1) entry.3) in
       let x = mapped_some entry_of (slice_get nodes entry.0) (entry.1, node)
-          (sym (slice_get-map entry_of nodes entry.0) ∙ at) in
+      (sym (slice_get-map entry_of nodes entry.0) ∙ at) in
       (entry.0, x.0.1, x.1 ∙ ap (λ e. Some (e.1, x.0.1)) x.2, ap (λ e. e.0) x.2 ∙ sym same)
 
   pub node_of : (key : Key) (node : ℕ) → get key_cmp store.nodes key ≡ Some node → Node store key node

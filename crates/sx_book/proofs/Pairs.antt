@@ -32,7 +32,7 @@ module _ (store : Store) (sound : IsSound store) (sell buy : ℕ) (in_range : bu
   none_ahead =
       let none : 0 + l ≡ l = omega arith in
       pair_ahead sell buy in_range (ahead store.lists.lists l) (subst (λ n. AllByRecursion (λ x. IsAhead n x.1)
-          (ahead store.lists.lists l)) none
+      (ahead store.lists.lists l)) none
       (placed_ahead 0 store.lists.lists sound.placed l))
 
   pub none_beyond : pair_of sell buy (offers_in (beyond store.lists.lists l)) ≡ []

@@ -33,7 +33,7 @@ placed_at k (xs ∷ lists) placed zero within =
 placed_at k (xs ∷ lists) placed (suc l) within =
     let same : suc k + l ≡ k + suc l = omega arith in
     subst (λ n. AllByRecursion (λ x. IsIn n x.1) (get_or lists l [])) same (placed_at (suc k) lists placed.1 l
-        (omega arith))
+    (omega arith))
 
 pub placed_ahead : (k : ℕ) (lists : List (List (ℕ × Offer))) → ArePlaced k lists → (l : ℕ)
     → AllByRecursion (λ x. IsAhead (k + l) x.1) (ahead lists l)
@@ -43,7 +43,7 @@ placed_ahead k (xs ∷ lists) placed (suc l) =
     let same : suc k + l ≡ k + suc l = omega arith in
     all_append (λ x. IsAhead (k + suc l) x.1) xs (ahead lists l)
     (all_weaker (λ x. IsIn k x.1) (λ x. IsAhead (k + suc l) x.1) (λ x is. record
-        { number = omega arith; buy = is.buy }) xs
+    { number = omega arith; buy = is.buy }) xs
     placed.0)
     (subst (λ n. AllByRecursion (λ x. IsAhead n x.1) (ahead lists l)) same (placed_ahead (suc k) lists placed.1 l))
 
@@ -53,7 +53,7 @@ all_beyond k m [] lt placed = tt
 all_beyond k m (xs ∷ lists) lt placed =
     all_append (λ x. IsBeyond m x.1) xs (flat lists)
     (all_weaker (λ x. IsIn k x.1) (λ x. IsBeyond m x.1) (λ x is. record { number = omega arith; buy = is.buy }) xs
-        placed.0)
+    placed.0)
     (all_beyond (suc k) m lists (omega arith) placed.1)
 
 pub placed_beyond : (k : ℕ) (lists : List (List (ℕ × Offer))) → ArePlaced k lists → (l : ℕ)
@@ -111,15 +111,15 @@ module _ (sell buy : ℕ) (in_range : buy < 32) where
   pair_ahead nodes all =
       filter_none (is_pair sell buy) (offers_in nodes) (mapped _ nodes (all_weaker (λ x. IsAhead (list_of sell buy) x.1)
       (λ x. is_pair sell buy x.1 ≡ false) (λ x is. other_pair sell buy x.1 (λ e. absurd (omega (arith, is.number))))
-          nodes all))
+      nodes all))
 
   pub pair_beyond : (nodes : List (ℕ × Offer)) → AllByRecursion (λ x. IsBeyond (list_of sell buy) x.1) nodes
       → pair_of sell buy (offers_in nodes) ≡ []
   pair_beyond nodes all =
       filter_none (is_pair sell buy) (offers_in nodes) (mapped _ nodes (all_weaker
-          (λ x. IsBeyond (list_of sell buy) x.1)
+      (λ x. IsBeyond (list_of sell buy) x.1)
       (λ x. is_pair sell buy x.1 ≡ false) (λ x is. other_pair sell buy x.1 (λ e. absurd (omega (arith, is.number))))
-          nodes all))
+      nodes all))
 
   pub pair_here : (nodes : List (ℕ × Offer)) → AllByRecursion (λ x. IsIn (list_of sell buy) x.1) nodes
       → pair_of sell buy (offers_in nodes) ≡ offers_in nodes

@@ -65,7 +65,7 @@ module _ (old new : Store) (sound : IsSound old) (offer : Offer) (node : ℕ) (a
   put_offers_are =
       ap offers_in put_nodes
       ∙ sym (put_between node offer (front old.lists.lists l gap.place) (back old.lists.lists l gap.place) gap.below
-          gap.above)
+      gap.above)
       ∙ ap (λ xs. put_offer offer (offers_in xs)) (sym old_nodes)
 
   pub IsSound-put : new.nodes.entries ≡ insert_entry derived.ghosts.cmp old.nodes.entries (key_of offer) node
@@ -89,7 +89,7 @@ module _ (old new : Store) (sound : IsSound old) (offer : Offer) (node : ℕ) (a
       (length-map (nodes_of old.lists.lists) (λ x. x.1)) few in
       IsSound-with old new l _ sound lists
       (all_append (λ x. IsIn l x.1) (take gap.place (list_at old.lists.lists l))
-          ((node, offer) ∷ drop gap.place (list_at old.lists.lists l))
+      ((node, offer) ∷ drop gap.place (list_at old.lists.lists l))
       (all_take (λ x. IsIn l x.1) gap.place (list_at old.lists.lists l) listed)
       (here, all_drop (λ x. IsIn l x.1) gap.place (list_at old.lists.lists l) listed))
       found
@@ -113,7 +113,7 @@ module _ (old : Store) (reserved made : Lists Offer) (offer : Offer) (key : Key)
     (listed : list ≡ list_of offer.sell offer.buy) (few_lists : list < list_count) (in_range : offer.buy < 32)
     (gap : Gap reserved.lists key after) (first : after ≡ None → made ≡ with_node reserved list 0 (node, offer))
     (later : (n place : ℕ) → after ≡ Some n → StandsAt reserved.lists list place n
-        → made ≡ with_node reserved list (place + 1) (node, offer)) where
+    → made ≡ with_node reserved list (place + 1) (node, offer)) where
   gap_is : Gap old.lists.lists (key_of offer) after
   gap_is = subst (λ k. Gap old.lists.lists k after) keyed (subst (λ ls. Gap ls key after) same gap)
 
@@ -135,7 +135,7 @@ module _ (old : Store) (reserved made : Lists Offer) (offer : Offer) (key : Key)
   pub offers_put : offers_in (nodes_of made.lists) ≡ put_offer offer (offers_of old)
   offers_put =
       put_offers_are old (record { lists = made; nodes = old.nodes }) sound offer node after gap_is within in_range
-          lists_are
+      lists_are
 
   pub sound_put : (new : Store) → new.lists ≡ made
       → new.nodes.entries ≡ insert_entry derived.ghosts.cmp old.nodes.entries key node

@@ -72,7 +72,7 @@ module _ (x : ℕ × Offer) where
       → without (key_of x.1) (offers_in (xs ++ x ∷ ys)) ≡ offers_in (xs ++ ys)
   without_between [] ys ahead after =
       let gone : not (same_key (key_of x.1) (key_of x.1)) ≡ false = ap not (same_key_from (key_of x.1) (key_of x.1)
-          refl) in
+      refl) in
       rw gone (rest_stays ys after)
   without_between (y ∷ xs) ys ahead after =
       let kept = kept_where y.1 (key_of x.1) (differs y ahead.0) in
@@ -82,11 +82,11 @@ module _ (x : ℕ × Offer) where
       → remove_entry (is_at (key_cmp (key_of x.1))) (map entry_of (xs ++ x ∷ ys)) ≡ map entry_of (xs ++ ys)
   removed_between [] ys ahead =
       let equal : is_eq (key_cmp (key_of x.1) (key_of x.1)) ≡ true = ap is_eq
-          (equal_from (key_of x.1) (key_of x.1) refl) in
+      (equal_from (key_of x.1) (key_of x.1) refl) in
       rw equal refl
   removed_between (y ∷ xs) ys ahead =
       let greater : is_eq (key_cmp (key_of x.1) (key_of y.1)) ≡ false = ap is_eq
-          (greater_from (key_of y.1) (key_of x.1) ahead.0) in
+      (greater_from (key_of y.1) (key_of x.1) ahead.0) in
       rw greater (ap (λ es. entry_of y ∷ es) (removed_between xs ys ahead.1))
 
 module _ (old new : Store) (sound : IsSound old) (l p : ℕ) (x : ℕ × Offer)

@@ -118,8 +118,20 @@ fn offers_come_and_go(rt: HostRuntime) {
         (4, 4, [15, 25, 10, 0]),
         (5, 3, [25, 10, 0, 0]),
     ] {
-        assert_eq!(rt; step(rt.alloc(), &mut books, number), Some(answer), "step {number}");
-        assert_eq!(rt; amounts(rt.alloc(), &books, 0, 1), Some(left), "after {number}");
-        assert_eq!(rt; amounts(rt.alloc(), &books, 1, 0), Some([40, 0, 0, 0]), "after {number}");
+        assert_eq!(rt;
+            step(rt.alloc(), &mut books, number),
+            Some(answer),
+            "step {number}"
+        );
+        assert_eq!(rt;
+            amounts(rt.alloc(), &books, 0, 1),
+            Some(left),
+            "after {number}"
+        );
+        assert_eq!(rt;
+            amounts(rt.alloc(), &books, 1, 0),
+            Some([40, 0, 0, 0]),
+            "after {number}"
+        );
     }
 }

@@ -75,7 +75,7 @@ impl Store {
         ensures given { (list place : ℕ) (offer : Offer)
             → slice_get (list_at self.old.lists.lists list) place ≡ Some (node, offer)
             → self.new.lists.lists ≡ slice_set self.old.lists.lists list
-                (given_by (list_at self.old.lists.lists list) place (node, offer) units) }
+            (given_by (list_at self.old.lists.lists list) place (node, offer) units) }
     {
         let offer = *self.lists.value(node);
         match Amount::new(offer.amount.get() - units) {

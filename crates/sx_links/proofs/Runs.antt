@@ -190,8 +190,11 @@ module _ {V : Type 0} (next next' : Place → Option ℕ) (value value' : ℕ �
   pub Run-revalued : (at : Place) (ys : List (ℕ × V)) (i : ℕ) (v : V) → value' n ≡ Some v → Simple ys → node_at ys i ≡ Some n → Run next value at ys → Run next' value' at (set ys i (n, v))
   Run-revalued at [] i v has simple e r = absurd cc
   Run-revalued at (y ∷ ys) zero v has simple e r =
-      let same : y.0 ≡ n = cc in
-      (nexts at ∙ r.0 ∙ e, has, subst (λ k. Run next' value' (After k) ys) same
-      (Run-keeps_revalued (After y.0) ys (subst (λ k. Beyond (After k) ys) same simple.0) r.2))
+      let same : y.0 ≡ n = cc in (
+        nexts at ∙ r.0 ∙ e,
+        has,
+        subst (λ k. Run next' value' (After k) ys) same
+            (Run-keeps_revalued (After y.0) ys (subst (λ k. Beyond (After k) ys) same simple.0) r.2),
+      )
   Run-revalued at (y ∷ ys) (suc i) v has simple e r =
       (nexts at ∙ r.0, values y.0 (λ f. Beyond-at y.0 ys i simple.0 (e ∙ ap Some (sym f))) ∙ r.1, Run-revalued (After y.0) ys i v has simple.1 e r.2)

@@ -16,18 +16,18 @@ within n key count sell buy = omega arith
 pub returns-in_err-last : goal.returns-in_err-last
 returns-in_err-last c =
     let range = subst (λ R. IsRangeOf R Unbounded (Excluded c.args.key.now) c.args.self.now.nodes c.range.result)
-        cmp_same
+    cmp_same
     (c.range.ensures.in_range tt) in
     let ordered = subst (λ R. IsOrdered R c.args.self.now.nodes) cmp_same c.range.ensures.ordered in
     subst (Gap c.args.self.now.lists.lists c.args.key.now) (sym c.from_residual.ensures)
     (gap_empty c.args.self.now c.requires.sound c.args.key.now c.requires.absent ordered c.range.result range
     (within _ c.args.key.now c.requires.sound.count c.requires.sell c.requires.buy) c.requires.buy
-        c.in_err-last.ensures.steps.0)
+    c.in_err-last.ensures.steps.0)
 
 pub returns-then-eq-2 : goal.returns-then-eq-2
 returns-then-eq-2 c =
     let range = subst (λ R. IsRangeOf R Unbounded (Excluded c.args.key.now) c.args.self.now.nodes c.range.result)
-        cmp_same
+    cmp_same
     (c.range.ensures.in_range tt) in
     let ordered = subst (λ R. IsOrdered R c.args.self.now.nodes) cmp_same c.range.ensures.ordered in
     gap_after c.args.self.now c.requires.sound c.args.key.now c.requires.absent ordered c.range.result range
@@ -37,7 +37,7 @@ returns-then-eq-2 c =
 pub returns-else-eq : goal.returns-else-eq
 returns-else-eq c =
     let range = subst (λ R. IsRangeOf R Unbounded (Excluded c.args.key.now) c.args.self.now.nodes c.range.result)
-        cmp_same
+    cmp_same
     (c.range.ensures.in_range tt) in
     let ordered = subst (λ R. IsOrdered R c.args.self.now.nodes) cmp_same c.range.ensures.ordered in
     gap_other c.args.self.now c.requires.sound c.args.key.now c.requires.absent ordered c.range.result range

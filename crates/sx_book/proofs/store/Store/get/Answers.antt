@@ -12,18 +12,18 @@ returns-in_err-node-clause-absent c =
 pub value-requires : goal.value-requires
 value-requires c =
     let node = node_by c.args.self.now c.requires c.args.key.now c.in_ok-node.node.now (sym c.in_ok-node.ensures.value)
-        in
+    in
     (list_of c.args.key.now.sell c.args.key.now.buy, node.place, ap (option_map (λ x. x.0)) node.here)
 
 pub returns-clause-offer : goal.returns-clause-offer
 returns-clause-offer c =
     let node = node_by c.args.self.now c.requires c.args.key.now c.in_ok-node.node.now (sym c.in_ok-node.ensures.value)
-        in
+    in
     found_offer c.args.self.now c.requires _ node.place (c.in_ok-node.node.now, c.value.result.now)
     (c.value.ensures.value _ node.place (ap (option_map (λ x. x.0)) node.here))
 
 pub returns-clause-key : goal.returns-clause-key
 returns-clause-key c =
     let node = node_by c.args.self.now c.requires c.args.key.now c.in_ok-node.node.now (sym c.in_ok-node.ensures.value)
-        in
+    in
     key_answered node (c.value.ensures.value _ node.place (ap (option_map (λ x. x.0)) node.here))

@@ -25,7 +25,7 @@ returns-in-Ok-clause-sound c =
     let amount : c.in-Ok.amount ≡ c.value.result.now.amount - c.args.units = c.in-Ok.ensures.value
     ∙ ap (λ n. n - c.args.units) c.get.ensures.value in
     IsSound-give c.args.self.now c.requires.sound has.list has.place (c.args.node, c.value.result.now) here
-        c.args.units some _
+    c.args.units some _
     (ap (λ ls. ls.lists) (c.set_value.ensures.set has.list has.place stands)
     ∙ ap (λ o. set lists has.list (set (list_at lists has.list) has.place (c.args.node, o)))
     (less_is c.value.result.now c.args.units c.in-Ok.amount amount)) refl

@@ -11,8 +11,13 @@ use Rattle.sx_book.proofs.store.Store.of.Goals as goal
 pub reserve-requires : goal.reserve-requires
 reserve-requires c =
     let lists = c.in_ok-store.store.lists.lists in
-    omega (arith, length-map (nodes_of lists) (λ x. x.1), length-flat_map (λ xs. xs) lists,
-    ap length c.in_ok-store.ensures.empty, c.requires.few)
+    omega (
+      arith,
+      length-map (nodes_of lists) (λ x. x.1),
+      length-flat_map (λ xs. xs) lists,
+      ap length c.in_ok-store.ensures.empty,
+      c.requires.few,
+    )
 
 pub put-requires-clause-absent : goal.put-requires-clause-absent
 put-requires-clause-absent c =

@@ -15,9 +15,9 @@ reserve-requires c =
 pub returns-in-Vacant-clause-sound : goal.returns-in-Vacant-clause-sound
 returns-in-Vacant-clause-sound c =
     sound_put c.args.self.now c.reserve.new.self c.push_after.new.self c.args.offer c.key-key.result
-        c.list_of-list.result
+    c.list_of-list.result
     c.push_after.result c.before-after.result c.requires.sound (ap (λ l. l.lists) c.in_ok-reserve.ensures.ok)
-        c.key-key.ensures
+    c.key-key.ensures
     c.list_of-list.ensures.number c.list_of-list.ensures.within c.list_of-list.ensures.buy c.before-after.ensures
     c.push_after.ensures.front c.push_after.ensures.after_node _ refl (search rules) (search rules) (omega arith)
     c.requires.few
@@ -25,9 +25,9 @@ returns-in-Vacant-clause-sound c =
 pub returns-in-Vacant-clause-ok : goal.returns-in-Vacant-clause-ok
 returns-in-Vacant-clause-ok c =
     offers_put c.args.self.now c.reserve.new.self c.push_after.new.self c.args.offer c.key-key.result
-        c.list_of-list.result
+    c.list_of-list.result
     c.push_after.result c.before-after.result c.requires.sound (ap (λ l. l.lists) c.in_ok-reserve.ensures.ok)
-        c.key-key.ensures
+    c.key-key.ensures
     c.list_of-list.ensures.number c.list_of-list.ensures.within c.list_of-list.ensures.buy c.before-after.ensures
     c.push_after.ensures.front c.push_after.ensures.after_node
 

@@ -40,9 +40,12 @@ skip-at-requires c =
     let lists = c.args.self.now.lists.lists in
     let l = list_of c.args.sell c.args.buy in
     let within : l < length lists = omega (arith, c.requires.sound.count) in
-    let so = c.loop-fill.invariant.so_far in
-    (l, length so.done, sym (at_now lists l within c.args.fills.now c.loop-fill.self.lists.lists
-    (drop c.loop-fill.fill-index c.args.fills.now) c.loop-fill.at c.loop-fill.place so) ∙ is))
+    let so = c.loop-fill.invariant.so_far in (
+      l,
+      length so.done,
+      sym (at_now lists l within c.args.fills.now c.loop-fill.self.lists.lists
+          (drop c.loop-fill.fill-index c.args.fills.now) c.loop-fill.at c.loop-fill.place so) ∙ is,
+    ))
 
 pub next-at-requires : goal.next-at-requires
 next-at-requires c =
@@ -84,7 +87,7 @@ overflow_add-place c =
     let fill : Fill = get_or fills i (record { place = 0; value = 0; gives = 0; gets = 0 }) in
     let first = drop_more fills i (record { place = 0; value = 0; gives = 0; gets = 0 }) c.loop-fill-test.true in
     let found = fit lists l within fills c.loop-fill.self.lists.lists (drop i fills) c.loop-fill.at c.loop-fill.place
-        so fill
+    so fill
     (drop (i + 1) fills) first in
     let place = slice_get_within (list_at lists l) fill.place found.0 found.1 in
     let short = list_short c.args.self.now c.requires.sound c.args.sell c.args.buy within in
@@ -109,23 +112,23 @@ loop-fill-preserved c =
     let spot : ℕ = length so.done + (fill.place - c.loop-fill.place) in
     elim c.match-at.branch [
       | in-Some w ↦ (
-        let same = same_Some w.in-Some.node found.0.0 (sym w.in-Some.is ∙ skipped) in
-        let got = got_is lists l within fills now rest c.loop-fill.at c.loop-fill.place so fill (drop (i + 1) fills)
-            first in
-        let stands = sym (c.skip-at.ensures l (length so.done) at) ∙ w.in-Some.is in
-        record {
-          sound = subst IsSound (sym w.self-is) w.give.ensures.sound;
-          so_far = so_far_next lists l within fills now rest c.loop-fill.at c.loop-fill.place so fill
-              (drop (i + 1) fills) first
-              c.match-at.self.lists.lists c.match-at.at
-              (amounts_at c.args.self.now c.requires.sound c.args.sell c.args.buy within)
-              (ap (λ s. s.lists.lists) w.self-is
-              ∙ w.give.ensures.given l spot found.0.1 (got ∙ ap (λ n. Some (n, found.0.1)) (sym same))
-              ∙ ap (λ n. set now l (given_by (list_at now l) spot (n, found.0.1) fill.gives)) same)
-              (w.at-is ∙ w.next-at.ensures.next l spot stands
-              ∙ next_is lists l within fills now rest c.loop-fill.at c.loop-fill.place so fill (drop (i + 1) fills)
-                  first);
-        })
+          let same = same_Some w.in-Some.node found.0.0 (sym w.in-Some.is ∙ skipped) in
+          let got = got_is lists l within fills now rest c.loop-fill.at c.loop-fill.place so fill (drop (i + 1) fills)
+          first in
+          let stands = sym (c.skip-at.ensures l (length so.done) at) ∙ w.in-Some.is in
+          record {
+            sound = subst IsSound (sym w.self-is) w.give.ensures.sound;
+            so_far = so_far_next lists l within fills now rest c.loop-fill.at c.loop-fill.place so fill
+                (drop (i + 1) fills) first
+                c.match-at.self.lists.lists c.match-at.at
+                (amounts_at c.args.self.now c.requires.sound c.args.sell c.args.buy within)
+                (ap (λ s. s.lists.lists) w.self-is
+                ∙ w.give.ensures.given l spot found.0.1 (got ∙ ap (λ n. Some (n, found.0.1)) (sym same))
+                ∙ ap (λ n. set now l (given_by (list_at now l) spot (n, found.0.1) fill.gives)) same)
+                (w.at-is ∙ w.next-at.ensures.next l spot stands
+                ∙ next_is lists l within fills now rest c.loop-fill.at c.loop-fill.place so fill (drop (i + 1) fills)
+                first);
+          })
       | in_default w ↦ absurd (let none = w.in_default.is in cc)
     ]
 
@@ -138,7 +141,7 @@ returns-clause-reduced c =
     let within : l < length lists = omega (arith, c.requires.sound.count) in
     let none = drop_all c.loop-fill.fill-index fills (omega arith) in
     reduced_is c.args.self.now c.loop-fill.self c.requires.sound c.args.sell c.args.buy c.list_of.ensures.buy within
-        fills
+    fills
     c.loop-fill.at c.loop-fill.place
     (subst (λ fs. SoFar lists now l fills fs c.loop-fill.at c.loop-fill.place) none c.loop-fill.invariant.so_far)
     (amounts_at c.args.self.now c.requires.sound c.args.sell c.args.buy within)

@@ -12,7 +12,7 @@ loop-step-preserved c = elim c.match-at.branch [
     here = λ list place is. (let steps = c.loop-step._step in
         let sum : (place + steps) + 1 ≡ place + (steps + 1) = omega arith in
         w.at-is ∙ w.next-at.ensures.next list (place + steps) (sym (c.loop-step.invariant.here list place is) ∙
-            w.in-Some.is)
+        w.in-Some.is)
         ∙ ap (node_at (list_at c.args.self.now.lists.lists list)) sum);
   }
   | in_default w ↦ record {

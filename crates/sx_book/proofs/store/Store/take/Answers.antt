@@ -25,7 +25,7 @@ pub returns-clause-sound : goal.returns-clause-sound
 returns-clause-sound c =
     let node = node_by c.args.self.now c.requires c.args.key.now c.in_ok-node.node (sym c.in_ok-node.ensures.value) in
     sound_taken c.args.self.now c.requires c.args.key.now c.in_ok-node.node node c.unlink.new.self
-        c.unlink.ensures.taken
+    c.unlink.ensures.taken
     _ refl c.remove.ensures.entries c.remove.ensures.ordered
 
 pub returns-clause-key : goal.returns-clause-key
@@ -43,4 +43,4 @@ pub returns-clause-offers : goal.returns-clause-offers
 returns-clause-offers c =
     let node = node_by c.args.self.now c.requires c.args.key.now c.in_ok-node.node (sym c.in_ok-node.ensures.value) in
     offers_taken c.args.self.now c.requires c.args.key.now c.in_ok-node.node node c.unlink.new.self
-        c.unlink.ensures.taken
+    c.unlink.ensures.taken
