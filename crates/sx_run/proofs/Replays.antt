@@ -88,8 +88,9 @@ module _ (input left after : Option (List ℕ)) (place : Place) (so_far : HasRep
   same_ledger : place.head.ledger ≡ ledger_after_all so_far.parts (blocks_of so_far.items)
   same_ledger = ap (λ (s : Standing). s.ledger) (sym so_far.stands) ∙ ledger_of so_far.parts so_far.items
 
-  written : place.head.state ≡ state_record (ledger_after_all so_far.parts (blocks_of so_far.items))
-  written = so_far.may_go_on.head.state ∙ ap (λ (l : Parts). state_record l) same_ledger
+  written : (text : List ℕ) → text ≡ state_record place.head.ledger
+      → text ≡ state_record (ledger_after_all so_far.parts (blocks_of so_far.items))
+  written text is_record = is_record ∙ ap (λ (l : Parts). state_record l) same_ledger
 
 all_read : (input left after : Option (List ℕ)) (text : List ℕ) → Took input left text → TakesItem left after None
     → IsInput input text × IsRead input after
@@ -99,9 +100,9 @@ all_read (Some bytes) (Some rest) after text took ended =
     let none : took.0 ≡ [] = cc in
     (took.1 ∙ ap (λ (r : List ℕ). text ++ r) none ∙ append-nil text, ended.1)
 
-pub finishes : (input left after : Option (List ℕ)) (place : Place) → HasReplayed input left place → TakesItem left after None
-    → IsReplayed input place.head.state × IsRead input after
-finishes input left after place so_far ended =
+pub finishes : (input left after : Option (List ℕ)) (place : Place) (text : List ℕ) → HasReplayed input left place
+    → TakesItem left after None → text ≡ state_record place.head.ledger → IsReplayed input text × IsRead input after
+finishes input left after place text so_far ended is_record =
     let read = all_read input left after (input_of so_far.parts so_far.items) so_far.took ended in (
       record {
         parts = so_far.parts;
@@ -109,7 +110,7 @@ finishes input left after place so_far ended =
         ledger = so_far.ledger;
         each = so_far.each;
         read = read.0;
-        written = written input left after place so_far;
+        written = written input left after place so_far text is_record;
       },
       read.1,
     )

@@ -18,6 +18,7 @@ use crate::stop::Stop;
 use crate::stream::{end, required};
 use crate::text::{Text, check_line};
 use std::alloc::Global;
+use std::thread::Threads;
 use sx_base::Source;
 use sx_check::CheckFault;
 use sx_record::tag;
@@ -30,7 +31,7 @@ struct Input {
 }
 
 // Reads the two records and the end of the input.
-fn read_input<S: Source>(alloc: Global, source: &mut S) -> Result<Input, Stop>
+fn read_input<R: Threads, S: Source>(rt: &R, alloc: Global, source: &mut S) -> Result<Input, Stop>
     ensures exact { Reads (λ input. (input.head.ledger, input.incoming.block)) check_at (S.left source.old) (S.left source.new) result }
     ensures took { IfOk result (λ input. TookBoth (S.left source.old) (S.left source.new) input.head.ledger input.incoming.block) }
     ensures head { IfOk result (λ input. IsHead input.head) }
@@ -44,7 +45,7 @@ fn read_input<S: Source>(alloc: Global, source: &mut S) -> Result<Input, Stop>
     ensures falls_never { S.faults source.old ≤ S.faults source.new }
     ensures kept { S.strict source.new ≡ S.strict source.old }
 {
-    let opening = read_opening(alloc, source)?;
+    let opening = read_opening(rt, alloc, source)?;
     let found = required(alloc, source, opening.end, tag::BLOCK)?;
     let at_end = found.at + found.payload.items().len() as u64;
     let incoming = block_of(alloc, found)?;
@@ -71,12 +72,12 @@ fn verdict(alloc: Global, input: Input) -> Result<Text, Stop>
 }
 
 // Checks the block of the input.
-pub fn check<S: Source>(alloc: Global, source: &mut S) -> Result<Text, Stop>
+pub fn check<R: Threads, S: Source>(rt: &R, alloc: Global, source: &mut S) -> Result<Text, Stop>
     ensures found { Found (FindsInCheck (S.left source.old)) result }
     ensures read { OnOk result (IsRead (S.left source.old) (S.left source.new)) }
     ensures steady { UnlessReadFault result (IsTrue (S.strict source.old) → S.faults source.new ≡ S.faults source.old) }
     ensures read_fault { IsErrOf result Stop.ReadFault → Rose (S.faults source.old) (S.faults source.new) }
 {
-    let input = read_input(alloc, source)?;
+    let input = read_input(rt, alloc, source)?;
     verdict(alloc, input)
 }

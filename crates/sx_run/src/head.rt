@@ -1,12 +1,11 @@
 //! Where a chain of blocks stands: a ledger, its record, and its digest.
 
-ghost use Rattle.std.specs.Prelude.{◌≡◌, IfErr, IfOk, OnOk};
+ghost use Rattle.std.specs.Prelude.{◌≡◌, IfErr, IfOk};
 ghost use Rattle.sha2.specs.Sha256.{sha256};
 ghost use Rattle.sx_block.specs.Block.{IsBlock};
 ghost use Rattle.sx_block.specs.Validity.{IsValid, ledger_after};
 ghost use Rattle.sx_check.specs.Checked.{checked_of};
 ghost use Rattle.sx_check.specs.Refusals.{Explains};
-ghost use Rattle.sx_ledger.specs.Encoding.{state_bytes};
 ghost use Rattle.sx_run.specs.Head.{IsHead};
 ghost use Rattle.sx_run.specs.Inputs.{state_record};
 ghost use Rattle.sx_tx.specs.Transactions.{list_bytes};
@@ -20,40 +19,37 @@ use sx_check::{CheckFault, Checked, Judged, close, judge};
 use sx_ledger::Ledger;
 use sx_record::{tag, write_frame};
 
-// A ledger, its record, and its digest, which is that of the record.
+// A ledger, its record, where that was written, and its digest, which is that of the record.
 #[derive(Debug, Drop)]
 pub struct Head {
     pub ledger: Ledger,
-    pub state: Writer,
+    pub state: Option<Writer>,
     pub digest: Digest,
 }
 
 impl Head {
-    // The head of a ledger, of which this is the payload.
-    pub fn of(alloc: Global, ledger: Ledger, payload: &[u8]) -> Result<Head, NoMemory>
-        requires { payload.now ≡ state_bytes ledger }
-        ensures head { IfOk result IsHead }
-        ensures same { IfOk result (λ head. head.ledger ≡ ledger) }
+    // The record of the ledger, which is written now where it was not before.
+    pub fn into_state(self, alloc: Global) -> Result<Writer, NoMemory>
+        requires { IsHead self }
+        ensures { IfOk result (λ written. written ≡ state_record self.ledger) }
     {
-        let mut state = Writer::new(alloc);
-        write_frame(&mut state, tag::STATE, ledger.state_length())?;
-        state.raw(payload)?;
-        let digest = digest_of(state.bytes());
-        Ok(Head {
-            ledger,
-            state,
-            digest,
-        })
+        let Head { ledger, state, .. } = self;
+        match state {
+            Some(state) => Ok(state),
+            None => written(alloc, &ledger, None),
+        }
     }
 }
 
-// Writes the record of a ledger over what was written before.
-fn rewrite(state: &mut Writer, ledger: &Ledger) -> Result<(), NoMemory>
-    ensures { OnOk result (state.new ≡ state_record ledger.now) }
+// The record of a ledger, written over that of an earlier one, if there is one.
+fn written(alloc: Global, ledger: &Ledger, earlier: Option<Writer>) -> Result<Writer, NoMemory>
+    ensures { IfOk result (λ state. state ≡ state_record ledger.now) }
 {
+    let mut state = earlier.unwrap_or(Writer::new(alloc));
     state.cut(0);
-    write_frame(state, tag::STATE, ledger.state_length())?;
-    ledger.write_state(state)
+    write_frame(&mut state, tag::STATE, ledger.state_length())?;
+    ledger.write_state(&mut state)?;
+    Ok(state)
 }
 
 // Where the chain stands after a block, and what is told of the block.
@@ -76,7 +72,7 @@ pub fn advance(alloc: Global, head: Head, incoming: &Incoming) -> Result<Advance
 {
     let Head {
         ledger,
-        mut state,
+        state,
         digest,
     } = head;
     let Judged { checked, effects } = judge(
@@ -87,12 +83,12 @@ pub fn advance(alloc: Global, head: Head, incoming: &Incoming) -> Result<Advance
         &incoming.body,
     )?;
     let ledger = apply(alloc, ledger, &incoming.block, effects)?;
-    rewrite(&mut state, &ledger)?;
+    let state = written(alloc, &ledger, state)?;
     let digest = digest_of(state.bytes());
     close(&incoming.block.header, &digest)?;
     let head = Head {
         ledger,
-        state,
+        state: Some(state),
         digest,
     };
     Ok(Advanced { head, checked })

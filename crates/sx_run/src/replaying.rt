@@ -16,6 +16,7 @@ use crate::payloads::{block_of, outcomes_of};
 use crate::stop::Stop;
 use crate::stream::next;
 use std::alloc::Global;
+use std::thread::Threads;
 use sx_base::Source;
 use sx_bytes::{Form, FormFault, Writer};
 use sx_check::CheckFault;
@@ -102,13 +103,13 @@ fn step(alloc: Global, place: Place, found: Record) -> Result<Place, Stop>
 }
 
 // The record of the ledger after all blocks of the input.
-pub fn replay<S: Source>(alloc: Global, source: &mut S) -> Result<Writer, Stop>
+pub fn replay<R: Threads, S: Source>(rt: &R, alloc: Global, source: &mut S) -> Result<Writer, Stop>
     ensures found { Found (FindsInReplay (S.left source.old)) result }
     ensures read { OnOk result (IsRead (S.left source.old) (S.left source.new)) }
     ensures steady { UnlessReadFault result (IsTrue (S.strict source.old) → S.faults source.new ≡ S.faults source.old) }
     ensures read_fault { IsErrOf result Stop.ReadFault → Rose (S.faults source.old) (S.faults source.new) }
 {
-    let opened = read_opening(alloc, source)?;
+    let opened = read_opening(rt, alloc, source)?;
     let mut place = Place {
         head: opened.head,
         at: opened.end,
@@ -118,5 +119,5 @@ pub fn replay<S: Source>(alloc: Global, source: &mut S) -> Result<Writer, Stop>
     while let Some(found) = next(alloc, source, place.at, tags(place.after_block))? {
         place = step(alloc, place, found)?;
     }
-    Ok(place.head.state)
+    Ok(place.head.into_state(alloc)?)
 }

@@ -28,7 +28,12 @@ fn write<K: Sink>(sink: &mut K, output: &[u8]) -> Status
     }
 }
 
-fn run_check<S: Source, K: Sink>(alloc: Global, source: &mut S, sink: &mut K) -> Status
+fn run_check<R: Threads, S: Source, K: Sink>(
+    rt: &R,
+    alloc: Global,
+    source: &mut S,
+    sink: &mut K,
+) -> Status
     ensures known { result ≡ Status.Usage → ⊥ }
     ensures answer { Answers (FindsInCheck (S.left source.old)) (K.written sink.old) (K.written sink.new) result }
     ensures read { result ≡ Status.Done → IsRead (S.left source.old) (S.left source.new) }
@@ -38,13 +43,18 @@ fn run_check<S: Source, K: Sink>(alloc: Global, source: &mut S, sink: &mut K) ->
     ensures steady_sink { UnlessWriteFails result (IsTrue (K.strict sink.old) → K.faults sink.new ≡ K.faults sink.old) }
     ensures silent { IsTrue (is_silent result) → sink.new ≡ sink.old }
 {
-    match check(alloc, source) {
+    match check(rt, alloc, source) {
         Ok(line) => write(sink, line.bytes()),
         Err(stop) => status_of(stop),
     }
 }
 
-fn run_replay<S: Source, K: Sink>(alloc: Global, source: &mut S, sink: &mut K) -> Status
+fn run_replay<R: Threads, S: Source, K: Sink>(
+    rt: &R,
+    alloc: Global,
+    source: &mut S,
+    sink: &mut K,
+) -> Status
     ensures known { result ≡ Status.Usage → ⊥ }
     ensures answer { Answers (FindsInReplay (S.left source.old)) (K.written sink.old) (K.written sink.new) result }
     ensures read { result ≡ Status.Done → IsRead (S.left source.old) (S.left source.new) }
@@ -54,7 +64,7 @@ fn run_replay<S: Source, K: Sink>(alloc: Global, source: &mut S, sink: &mut K) -
     ensures steady_sink { UnlessWriteFails result (IsTrue (K.strict sink.old) → K.faults sink.new ≡ K.faults sink.old) }
     ensures silent { IsTrue (is_silent result) → sink.new ≡ sink.old }
 {
-    match replay(alloc, source) {
+    match replay(rt, alloc, source) {
         Ok(state) => write(sink, state.bytes()),
         Err(stop) => status_of(stop),
     }
@@ -105,11 +115,10 @@ pub fn run<R: Threads + Sync, S: Source, K: Sink>(
     ensures complete_replay { AreReplay words.now → (Rose (S.faults source.old) (S.faults source.new) → ⊥) →
         (Rose (K.faults sink.old) (K.faults sink.new) → ⊥) → Completes FindsInReplay (S.left source.old) result }
 {
-    let _ = rt;
     input_laws();
     match command_of(words) {
-        Some(Command::Check) => run_check(alloc, source, sink),
-        Some(Command::Replay { .. }) => run_replay(alloc, source, sink),
+        Some(Command::Check) => run_check(rt, alloc, source, sink),
+        Some(Command::Replay { .. }) => run_replay(rt, alloc, source, sink),
         None => Status::Usage,
     }
 }

@@ -33,4 +33,4 @@ loop-place-preserved g c = record {
 
 pub returns-clause-found : goal.returns-clause-found
 returns-clause-found g c =
-    (finishes _ _ _ c.loop-place.place c.loop-place.invariant.replayed (rw c.in_default.is at c.in_ok-found.ensures.encoded)).0
+    (finishes _ _ _ c.loop-place.place _ c.loop-place.invariant.replayed (rw c.in_default.is at c.in_ok-found.ensures.encoded) c.in_ok-into_state.ensures).0
