@@ -11,8 +11,8 @@
 //! transactions and the list of offers. [`input_laws`] says that one thing is found of an input, and
 //! [`chain_laws`] that a chain of valid blocks makes and loses nothing of any asset.
 //!
-//! Not promised: how long a run takes, that two ledgers of one digest are the same, and what a source
-//! gave or a sink received that tells nothing of its bytes.
+//! Not promised: how long a run takes, that the system runs a thread to its end, that two ledgers of
+//! one digest are the same, and what a source gave or a sink received that tells nothing of its bytes.
 //!
 //! The way of the data: `stream` (bytes to records in their places), `payloads` and `opening` (records
 //! to a state, a block or outcomes), `head` (a block on a ledger), `checking` and `replaying` (the

@@ -24,8 +24,8 @@ use sx_block::{Digest, record_digest};
 use sx_ledger::Ledger;
 use sx_record::{Record, tag};
 
-// From how many bytes on a payload is hashed on a thread of its own. To start one takes far less than
-// the milliseconds that hashing takes there, and about as long as hashing a few thousand bytes.
+// From how many bytes on a payload is hashed on a thread of its own. Hashing takes milliseconds there,
+// and to start a thread a small part of one.
 const WORTH_A_THREAD: usize = 1 << 20;
 
 // The digest of the record of this payload, and the ledger that the payload encodes.

@@ -78,6 +78,9 @@ fn run_replay<R: Threads, S: Source, K: Sink>(
 /// state after all of them, where each block is valid for what the one before it left. See [`Status`]
 /// for the answers and for what is written at each. What is answered of the bytes holds where the
 /// source tells those that it has left, and what is written where the sink tells those that it holds.
+///
+/// A state whose payload has 1 MiB or more is decoded while a thread of its own makes the digest, and
+/// the call returns where that thread returns. Where no thread can be started, the two are done in turn.
 pub fn run<R: Threads + Sync, S: Source, K: Sink>(
     rt: &R,
     alloc: Global,
