@@ -50,7 +50,9 @@ last_greatest xs up x is k lt =
 -- of the greatest id less than twice the count is left
 pub few_left : (greatest count : ℕ) → greatest < 2 ^ 64 → 1 ≤ count → count < 2 ^ 64
     → greatest / 2 ^ (64 - count_leading_zeros 64 greatest - (64 - count_leading_zeros 64 count)) < 2 * count
-few_left zero count fits some count_fits = rw (zero-div (2 ^ (64 - count_leading_zeros 64 zero - (64 - count_leading_zeros 64 count)))) (omega arith)
+few_left zero count fits some count_fits =
+    let shift = 64 - count_leading_zeros 64 zero - (64 - count_leading_zeros 64 count) in
+    rw (zero-div (2 ^ shift)) (omega arith)
 few_left (suc n) count fits some count_fits =
     let g = leading_top 64 (suc n) (omega arith) fits in
     let c = leading_top 64 count (omega arith) count_fits in
