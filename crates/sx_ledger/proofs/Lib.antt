@@ -34,3 +34,4 @@ pub mod PartsLaws
 pub mod Payload
 pub mod Lengths
 pub mod DecodedRanges
+pub mod BucketLaws

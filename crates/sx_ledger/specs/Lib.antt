@@ -11,3 +11,4 @@ pub mod Fills
 pub mod Trade
 pub mod EffectLaws
 pub mod Places
+pub mod Buckets

@@ -1,14 +1,15 @@
-use Rattle.sx_ledger.proofs.SearchNumbers.{searched}
+use Rattle.std.proofs.Common.{◌+◌, ◌/◌, ◌^◌, ◌<◌, length, arith}
+use Rattle.sx_ledger.proofs.BucketLaws.{begin_at, begins_rise}
 use Rattle.sx_ledger.proofs.index.AccountIndex.find.Goals as goal
 
-pub returns-in-Ok-clause-found : goal.returns-in-Ok-clause-found
-returns-in-Ok-clause-found c =
-    let both = searched c.deref.result.now (rw c.deref.ensures.value c.self.invariant.0)
-    c.args.id.0 c.binary_search.result c.binary_search.ensures.bound c.binary_search.ensures.position in
-    rw (← c.self.view_is, ← c.deref.ensures.value) (rw c.in-Ok.is at both).0
-
-pub returns-in-Err-clause-absent : goal.returns-in-Err-clause-absent
-returns-in-Err-clause-absent c =
-    let both = searched c.deref.result.now (rw c.deref.ensures.value c.self.invariant.0)
-    c.args.id.0 c.binary_search.result c.binary_search.ensures.bound c.binary_search.ensures.position in
-    rw (← c.self.view_is, ← c.deref.ensures.value) (rw c.in-Err.is at both).1
+pub find_between-requires-clause-ordered : goal.find_between-requires-clause-ordered
+find_between-requires-clause-ordered c =
+    let inside = c.self.inside in
+    let buckets = c.self.invariant.2 in
+    let bucket = c.args.id.0 / 2 ^ inside.shift in
+    let within : bucket + 1 < length inside.begins.items = omega (arith, c.if-bucket-saturating_sub.false) in
+    begins_rise inside.entries.items inside.shift bucket c.index.result.now c.index-2.result.now
+    (begin_at inside.entries.items inside.shift inside.begins.items buckets.places bucket c.index.result.now
+    c.index.result.now (omega arith) c.index.ensures)
+    (begin_at inside.entries.items inside.shift inside.begins.items buckets.places (bucket + 1) c.index-2.result.now
+    c.index-2.result.now within c.index-2.ensures)
