@@ -1,0 +1,4 @@
+pub mod ListSums
+pub mod PairValues
+pub mod Digits
+pub mod SearchLaws
