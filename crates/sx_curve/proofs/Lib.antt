@@ -2,3 +2,4 @@ pub mod ListSums
 pub mod PairValues
 pub mod Digits
 pub mod SearchLaws
+pub mod SearchCases
