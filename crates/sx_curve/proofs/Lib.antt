@@ -3,3 +3,4 @@ pub mod PairValues
 pub mod Digits
 pub mod SearchLaws
 pub mod SearchCases
+pub mod InOrder

@@ -1,9 +1,9 @@
 -- What curves keep: quotes in order, the sums of the first of them, and where each pair begins.
-use Rattle.std.specs.Prelude.{◌≡◌, ◌≢◌, ℕ, ◌+◌, ◌*◌, ◌^◌, ◌<◌, ◌≤◌, List, length, take, All, slice_index, slice_index_or}
+use Rattle.std.specs.Prelude.{◌≡◌, ◌≢◌, ℕ, ◌+◌, ◌*◌, ◌^◌, ◌<◌, ◌≤◌, true, false, List, length, take, All, slice_index, slice_index_or}
 use Rattle.std.specs.List.{AllWithin}
 use Rattle.sx_curve.specs.declared.prefixes.Prefix.{Prefix}
 use Rattle.sx_curve.specs.declared.quote.Quote.{Quote}
-use Rattle.sx_curve.specs.Quotes.{amounts, sellers_of, weighted_amounts}
+use Rattle.sx_curve.specs.Quotes.{amounts, is_below, sellers_of, weighted_amounts}
 
 -- ---- what contracts see
 
@@ -61,6 +61,18 @@ pub record BeginsAt (quotes : List Quote) (place begin : ℕ) : Type 0 where
   pub within : begin ≤ length quotes
   pub before : AllWithin (λ quote. place_of_quote quote < place) quotes 0 begin
   pub after : AllWithin (λ quote. place ≤ place_of_quote quote) quotes begin (length quotes)
+
+-- a pair's quotes stand from one index to another
+pub record IsPairRange (quotes : List Quote) (sell buy begin end : ℕ) : Type 0 where
+  pub asset : buy < 32
+  pub begins : BeginsAt quotes (place_of_pair sell buy) begin
+  pub ends : BeginsAt quotes (place_of_pair sell buy + 1) end
+
+-- of a pair's quotes those before this index have a limit of at most num / den
+pub record ReachesTo (pair : List Quote) (num den count : ℕ) : Type 0 where
+  pub within : count ≤ length pair
+  pub below : AllWithin (λ quote. is_below num den quote ≡ true) pair 0 count
+  pub above : AllWithin (λ quote. is_below num den quote ≡ false) pair count (length pair)
 
 -- where each pair begins, by its place, and at last the end of the list
 pub record AreBegins (quotes : List Quote) (begins : List ℕ) : Type 0 where

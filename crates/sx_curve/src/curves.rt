@@ -1,10 +1,11 @@
 //! The supply curve of each pair.
 
-ghost use Rattle.std.specs.Prelude.{◌≡◌, ◌*◌, ◌≤◌, ◌^◌, IfOk};
+ghost use Rattle.std.specs.Prelude.{◌≡◌, ◌*◌, ◌≤◌, ◌^◌, length, take, IfOk};
 ghost use Rattle.std.specs.List.Sorted.{IsPermutation};
-ghost use Rattle.sx_curve.specs.Curves.{AreInOrder, AreQuotes};
+ghost use Rattle.sx_curve.specs.Curves.{AreInOrder, AreQuotes, IsPairRange};
 ghost use Rattle.sx_curve.specs.Quotes.{amounts, quotes_below, weighted_amounts};
 
+use crate::limits::count_below;
 use crate::pairs::{begins_of, place_of};
 use crate::prefixes::{Prefix, prefixes_of};
 use crate::quote::Quote;
@@ -73,6 +74,23 @@ impl Curves {
         self.number
     }
 
+    // Where the quotes of a pair begin, and where they end.
+    fn ends_of(&self, sell: AssetId, buy: AssetId) -> (usize, usize)
+        ensures { IsPairRange self.now.quotes sell buy result.0 result.1 }
+    {
+        let place = place_of(sell, buy);
+        (self.begins[place], self.begins[place + 1])
+    }
+
+    // The sums of the first quotes, as many as `count` says.
+    fn prefix(&self, count: usize) -> Prefix
+        requires { count ≤ length self.now.quotes }
+        ensures amount { result.amount ≡ amounts (take count self.now.quotes) }
+        ensures weighted { result.weighted ≡ weighted_amounts (take count self.now.quotes) }
+    {
+        self.prefixes[count]
+    }
+
     /// The sums over the quotes that sell `sell` for `buy` at a limit of at most `num` over `den`, in
     /// units of `2^-24`: over those with limit times `den` at most `num`. With a price of the sold
     /// asset times `2^24` over a price of the bought asset these are the quotes that may trade at the
@@ -85,12 +103,10 @@ impl Curves {
         ensures amount_range { result.amount ≤ 2 ^ 62 }
         ensures weighted_range { result.weighted ≤ 2 ^ 56 * result.amount }
     {
-        let place = place_of(sell, buy);
-        let begin = self.begins[place];
-        let pair = &self.sorted[begin..self.begins[place + 1]];
-        let count = pair.partition_point(|quote| u128::from(quote.limit.get()) * den <= num);
-        let before = self.prefixes[begin];
-        let through = self.prefixes[begin + count];
+        let (begin, end) = self.ends_of(sell, buy);
+        let count = count_below(&self.sorted[begin..end], num, den);
+        let before = self.prefix(begin);
+        let through = self.prefix(begin + count);
         Sums {
             amount: (through.amount - before.amount) as u64,
             weighted: through.weighted - before.weighted,

@@ -35,6 +35,7 @@
 
 mod curves;
 mod laws;
+mod limits;
 mod pairs;
 mod prefixes;
 mod quote;

@@ -16,6 +16,7 @@ const PAIRS: usize = 1024;
 pub(crate) fn place_of(sell: AssetId, buy: AssetId) -> usize
     ensures place { result ≡ place_of_pair sell buy }
     ensures in_range { result < 1024 }
+    ensures buy { buy < 32 }
 {
     usize::from(sell.get()) * 32 + usize::from(buy.get())
 }
