@@ -1,5 +1,5 @@
 -- Quotes that a sort leaves are in order, and so are their pairs and the limits of each pair.
-use Rattle.std.proofs.Common.{◌≡◌, ℕ, zero, suc, ◌+◌, ◌-◌, ◌*◌, ◌<◌, ◌≤◌, Bool, true, false, cond, ltb, eqb, List, length, get_or, All, inl, inr, refl, sym, ap, ◌∙◌, arith}
+use Rattle.std.proofs.Common.{◌≡◌, ℕ, zero, suc, ◌+◌, ◌-◌, ◌*◌, ◌<◌, ◌≤◌, Bool, true, false, cond, ltb, eqb, List, length, get_or, All, inl, inr, refl, sym, subst, arith}
 use Rattle.std.specs.List.Sorted.{IsNonDecreasingBy, IsPartitionedBy, IsSorted}
 use Rattle.std.specs.declared.cmp.Ordering.{Ordering}
 use Rattle.std.specs.declared.cmp.Ordering.TheVariants.{Less, Equal, Greater}
@@ -18,15 +18,17 @@ up_to_itself quote = record { sell = omega arith; buy = λ e. omega arith; limit
 
 up_to_both : (a b c : Quote) → IsUpTo a b → IsUpTo b c → IsUpTo a c
 up_to_both a b c first second =
-    let sells = λ (e : a.sell ≡ c.sell). let s : a.sell ≡ b.sell = omega (arith, first.sell, second.sell) in s in
-    let sells' = λ (e : a.sell ≡ c.sell). let s : b.sell ≡ c.sell = omega (arith, first.sell, second.sell) in s in
+    let sell : a.sell ≡ c.sell → (a.sell ≡ b.sell) × (b.sell ≡ c.sell) =
+    λ e. (omega (arith, first.sell, second.sell), omega (arith, first.sell, second.sell)) in
+    let buy : a.sell ≡ c.sell → a.buy ≡ c.buy → (a.buy ≡ b.buy) × (b.buy ≡ c.buy) =
+    λ e f.
+      let up = first.buy (sell e).0 in
+      let up' = second.buy (sell e).1 in
+      (omega arith, omega arith) in
     record {
       sell = omega (arith, first.sell, second.sell);
-      buy = λ e. omega (arith, first.buy (sells e), second.buy (sells' e));
-      limit = λ e f.
-      let b : a.buy ≡ b.buy = omega (arith, first.buy (sells e), second.buy (sells' e)) in
-      let b' : b.buy ≡ c.buy = omega (arith, first.buy (sells e), second.buy (sells' e)) in
-      omega (arith, first.limit (sells e) b, second.limit (sells' e) b');
+      buy = λ e. omega (arith, first.buy (sell e).0, second.buy (sell e).1);
+      limit = λ e f. omega (arith, first.limit (sell e).0 (buy e f).0, second.limit (sell e).1 (buy e f).1);
     }
 
 -- what the first of two compared numbers says of an order by both

@@ -4,3 +4,6 @@ pub mod Digits
 pub mod SearchLaws
 pub mod SearchCases
 pub mod InOrder
+pub mod Segments
+pub mod BelowSums
+pub mod FirstSums
