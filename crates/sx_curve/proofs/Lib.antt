@@ -7,3 +7,4 @@ pub mod InOrder
 pub mod Segments
 pub mod BelowSums
 pub mod FirstSums
+pub mod Kept
