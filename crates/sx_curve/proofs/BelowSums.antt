@@ -10,6 +10,7 @@ use Rattle.std.proofs.lemmas.List.Elements.{All-filter}
 use Rattle.std.proofs.lemmas.List.Sorted.{All-permutation}
 use Rattle.std.proofs.lemmas.List.Sums.{sum_by-le-sum_by}
 use Rattle.std.proofs.Math.Nat.{mul-le-mul_left}
+use Rattle.sx_curve.specs.declared.prefixes.Prefix.{Prefix}
 use Rattle.sx_curve.specs.declared.quote.Quote.{Quote}
 use Rattle.sx_curve.specs.Curves.{AreInOrder, AreQuotes, BeginsAt, HasLimit, IsAmong, IsPairRange, ReachesTo, place_of_pair, place_of_quote}
 use Rattle.sx_curve.specs.Quotes.{amounts, is_below, pair_of, quotes_below, sellers_of, weighted_amounts}
@@ -251,3 +252,32 @@ permuted_market assets quotes sorted h market = record {
     sum_by-filter-permuted (λ (quote : Quote). quote.amount) (λ (quote : Quote). quote.sell == asset) quotes sorted h,
   );
 }
+
+-- ---- the answer
+
+-- the sums of two fronts of a list differ by those of the quotes of a pair up to a limit
+pub record DifferBy (quotes : List Quote) (sell buy num den : ℕ) (before through : Prefix) : Type 0 where
+  pub amount : before.amount + amounts (quotes_below sell buy num den quotes) ≡ through.amount
+  pub weighted : before.weighted + weighted_amounts (quotes_below sell buy num den quotes) ≡ through.weighted
+  pub amount_range : amounts (quotes_below sell buy num den quotes) ≤ 2 ^ 62
+  pub weighted_range :
+    weighted_amounts (quotes_below sell buy num den quotes) ≤ 2 ^ 56 * amounts (quotes_below sell buy num den quotes)
+
+-- the sums of the first quotes, as many as count says
+pub record AreSumsOf (quotes : List Quote) (count : ℕ) (sums : Prefix) : Type 0 where
+  pub amount : sums.amount ≡ amounts (take count quotes)
+  pub weighted : sums.weighted ≡ weighted_amounts (take count quotes)
+
+pub differ_by : (assets : ℕ) (quotes : List Quote) (market : AreQuotes assets quotes) (in_order : AreInOrder quotes)
+    → All HasLimit quotes → (sell buy begin end num den count : ℕ) (range : IsPairRange quotes sell buy begin end)
+    → ReachesTo (slice_range quotes begin end) num den count → (before through : Prefix)
+    → AreSumsOf quotes begin before → AreSumsOf quotes (begin + count) through
+    → DifferBy quotes sell buy num den before through
+differ_by assets quotes market in_order limits sell buy begin end num den count range reaches before through first last =
+    let is = below_is assets quotes market in_order sell buy begin end range num den count reaches in
+    record {
+      amount = omega (arith, is (λ quote. quote.amount), first.amount, last.amount);
+      weighted = omega (arith, is (λ quote. quote.amount * quote.limit), first.weighted, last.weighted);
+      amount_range = below_fits assets quotes market sell buy num den;
+      weighted_range = below_weight_fits quotes limits sell buy num den;
+    }

@@ -76,7 +76,9 @@ impl Curves {
 
     // Where the quotes of a pair begin, and where they end.
     fn ends_of(&self, sell: AssetId, buy: AssetId) -> (usize, usize)
-        ensures { IsPairRange self.now.quotes sell buy result.0 result.1 }
+        ensures range { IsPairRange self.now.quotes sell buy result.0 result.1 }
+        ensures ordered { result.0 ≤ result.1 }
+        ensures within { result.1 ≤ length self.now.quotes }
     {
         let place = place_of(sell, buy);
         (self.begins[place], self.begins[place + 1])
