@@ -46,10 +46,10 @@ of_other sell buy quote apart =
       apart (omega arith))
 
 masked_no : (p : Quote → Bool) (f : Quote → ℕ) (quote : Quote) → p quote ≡ false → masked p f quote ≡ 0
-masked_no p f quote no = rw no refl
+masked_no p f quote fails = rw fails refl
 
 masked_yes : (p : Quote → Bool) (f : Quote → ℕ) (quote : Quote) → p quote ≡ true → masked p f quote ≡ f quote
-masked_yes p f quote yes = rw yes refl
+masked_yes p f quote passes = rw passes refl
 
 -- ---- the stretch
 
@@ -116,24 +116,24 @@ module _ (assets : ℕ) (quotes : List Quote) (market : AreQuotes assets quotes)
         λ k d low high.
           let at = get_or-between quotes begin end (k - begin) d (omega arith) in
           let place : begin + (k - begin) ≡ k = omega arith in
-          let yes : is_below num den (get_or quotes k d) ≡ true =
+          let passes : is_below num den (get_or quotes k d) ≡ true =
           ap (λ (n : ℕ). is_below num den (get_or quotes n d)) (sym place)
           ∙ ap (is_below num den) (sym at) ∙ reaches.below (k - begin) d (omega arith) (omega arith) in
           masked_yes (is_of sell buy) (masked (is_below num den) f) (get_or quotes k d)
           (inside k d low (omega arith))
-          ∙ masked_yes (is_below num den) f (get_or quotes k d) yes in
+          ∙ masked_yes (is_below num den) f (get_or quotes k d) passes in
         let after : AllWithin (λ x. g x ≡ 0) quotes (begin + count) (length quotes) =
         λ k d low high.
           elim (cases_lt k end) [
             | inl in_pair ↦
                 let at = get_or-between quotes begin end (k - begin) d (omega arith) in
                 let place : begin + (k - begin) ≡ k = omega arith in
-                let no : is_below num den (get_or quotes k d) ≡ false =
+                let fails : is_below num den (get_or quotes k d) ≡ false =
                 ap (λ (n : ℕ). is_below num den (get_or quotes n d)) (sym place)
                 ∙ ap (is_below num den) (sym at) ∙ reaches.above (k - begin) d (omega arith) (omega arith) in
                 masked_yes (is_of sell buy) (masked (is_below num den) f) (get_or quotes k d)
                 (inside k d (omega arith) in_pair)
-                ∙ masked_no (is_below num den) f (get_or quotes k d) no
+                ∙ masked_no (is_below num den) f (get_or quotes k d) fails
             | inr past ↦ let up = range.ends.after k d past high in other k d (λ e. omega arith)
           ] in
         omega (

@@ -25,7 +25,7 @@ pub segment : {X : Type 0} (f g : X → ℕ) (xs : List X) (d : X) (from end : �
     → AllWithin (λ x. g x ≡ 0) xs end (length xs)
     → sum_by g xs + sum_by f (take from xs) ≡ sum_by f (take end xs)
 segment {X} f g xs d from end order le before inside after =
-    let nothing = λ (x : X). 0 in
+    let nothing : X → ℕ = λ x. 0 in
     let none = λ (ys : List X). sum_by-zero nothing ys (λ k e lt. refl) in
     let first = stretch g nothing xs d 0 from from (omega arith) (omega arith) before in
     let middle = stretch g f xs d from (end - from) end (omega arith) le inside in
