@@ -40,10 +40,10 @@ of_other : (sell buy : ℕ) (quote : Quote) → (place_of_quote quote ≡ place_
 of_other sell buy quote apart =
     false_from_ne_true (is_of sell buy quote)
     (λ e.
-      let parts = and_parts (quote.sell == sell) (quote.buy == buy) e in
-      let sells = eqb-true quote.sell sell parts.0 in
-      let buys = eqb-true quote.buy buy parts.1 in
-      apart (omega arith))
+    let parts = and_parts (quote.sell == sell) (quote.buy == buy) e in
+    let sells = eqb-true quote.sell sell parts.0 in
+    let buys = eqb-true quote.buy buy parts.1 in
+    apart (omega arith))
 
 masked_no : (p : Quote → Bool) (f : Quote → ℕ) (quote : Quote) → p quote ≡ false → masked p f quote ≡ 0
 masked_no p f quote fails = rw fails refl
@@ -114,28 +114,28 @@ module _ (assets : ℕ) (quotes : List Quote) (market : AreQuotes assets quotes)
         λ k d low high. let down = range.begins.before k d low high in other k d (λ e. omega arith) in
         let within : AllWithin (λ x. g x ≡ f x) quotes begin (begin + count) =
         λ k d low high.
-          let at = get_or-between quotes begin end (k - begin) d (omega arith) in
-          let place : begin + (k - begin) ≡ k = omega arith in
-          let passes : is_below num den (get_or quotes k d) ≡ true =
-          ap (λ (n : ℕ). is_below num den (get_or quotes n d)) (sym place)
-          ∙ ap (is_below num den) (sym at) ∙ reaches.below (k - begin) d (omega arith) (omega arith) in
-          masked_yes (is_of sell buy) (masked (is_below num den) f) (get_or quotes k d)
-          (inside k d low (omega arith))
-          ∙ masked_yes (is_below num den) f (get_or quotes k d) passes in
+        let at = get_or-between quotes begin end (k - begin) d (omega arith) in
+        let place : begin + (k - begin) ≡ k = omega arith in
+        let passes : is_below num den (get_or quotes k d) ≡ true =
+        ap (λ (n : ℕ). is_below num den (get_or quotes n d)) (sym place)
+        ∙ ap (is_below num den) (sym at) ∙ reaches.below (k - begin) d (omega arith) (omega arith) in
+        masked_yes (is_of sell buy) (masked (is_below num den) f) (get_or quotes k d)
+        (inside k d low (omega arith))
+        ∙ masked_yes (is_below num den) f (get_or quotes k d) passes in
         let after : AllWithin (λ x. g x ≡ 0) quotes (begin + count) (length quotes) =
         λ k d low high.
-          elim (cases_lt k end) [
-            | inl in_pair ↦
-                let at = get_or-between quotes begin end (k - begin) d (omega arith) in
-                let place : begin + (k - begin) ≡ k = omega arith in
-                let fails : is_below num den (get_or quotes k d) ≡ false =
-                ap (λ (n : ℕ). is_below num den (get_or quotes n d)) (sym place)
-                ∙ ap (is_below num den) (sym at) ∙ reaches.above (k - begin) d (omega arith) (omega arith) in
-                masked_yes (is_of sell buy) (masked (is_below num den) f) (get_or quotes k d)
-                (inside k d (omega arith) in_pair)
-                ∙ masked_no (is_below num den) f (get_or quotes k d) fails
-            | inr past ↦ let up = range.ends.after k d past high in other k d (λ e. omega arith)
-          ] in
+        elim (cases_lt k end) [
+          | inl in_pair ↦
+              let at = get_or-between quotes begin end (k - begin) d (omega arith) in
+              let place : begin + (k - begin) ≡ k = omega arith in
+              let fails : is_below num den (get_or quotes k d) ≡ false =
+              ap (λ (n : ℕ). is_below num den (get_or quotes n d)) (sym place)
+              ∙ ap (is_below num den) (sym at) ∙ reaches.above (k - begin) d (omega arith) (omega arith) in
+              masked_yes (is_of sell buy) (masked (is_below num den) f) (get_or quotes k d)
+              (inside k d (omega arith) in_pair)
+              ∙ masked_no (is_below num den) f (get_or quotes k d) fails
+          | inr past ↦ let up = range.ends.after k d past high in other k d (λ e. omega arith)
+        ] in
         omega (
           arith,
           sum_by-filter_twice f (is_below num den) (is_of sell buy) quotes,
@@ -155,8 +155,8 @@ for_sale_fits assets quotes market asset =
           let sells = λ (quote : Quote). quote.sell == asset in
           let none = sum_by-zero (masked sells units) quotes
           (λ k d lt.
-            let here = market.among k d lt in
-            masked_no sells units (get_or quotes k d) (ne_eqb _ asset (λ e. omega (arith, here.sell)))) in
+          let here = market.among k d lt in
+          masked_no sells units (get_or quotes k d) (ne_eqb _ asset (λ e. omega (arith, here.sell)))) in
           omega (arith, sum_by-filter units sells quotes)
     ]
 
@@ -173,7 +173,7 @@ below_fits assets quotes market sell buy num den =
     let sells = λ (quote : Quote). quote.sell == sell in
     let less = sum_by-le-sum_by (masked (is_of sell buy) (masked (is_below num den) units)) (masked sells units) quotes
     (λ quote. cond_le (is_of sell buy quote) (is_below num den quote) (sells quote) quote.amount
-      (λ e. (and_parts _ _ e).0)) in
+    (λ e. (and_parts _ _ e).0)) in
     omega (
       arith,
       sum_by-filter_twice units (is_below num den) (is_of sell buy) quotes,
@@ -215,7 +215,7 @@ assets_fit assets quotes market zero =
     omega (
       arith,
       sum_by-zero (masked (λ quote. nat_lt quote.sell 0) units) quotes
-      (λ k d lt. masked_no (λ quote. nat_lt quote.sell 0) units (get_or quotes k d) (le-ltb _ 0 (omega arith))),
+          (λ k d lt. masked_no (λ quote. nat_lt quote.sell 0) units (get_or quotes k d) (le-ltb _ 0 (omega arith))),
     )
 assets_fit assets quotes market (suc m) =
     let units = λ (quote : Quote). quote.amount in
@@ -236,8 +236,8 @@ all_fit assets quotes market =
     let under = λ (quote : Quote). nat_lt quote.sell assets in
     let same = sum_by-parts (masked under units) units (λ quote. 0) quotes
     (λ k d lt.
-      let here = market.among k d lt in
-      masked_yes under units (get_or quotes k d) (lt-ltb _ assets here.sell) ∙ no_more (get_or quotes k d).amount) in
+    let here = market.among k d lt in
+    masked_yes under units (get_or quotes k d) (lt-ltb _ assets here.sell) ∙ no_more (get_or quotes k d).amount) in
     omega (arith, assets_fit assets quotes market assets, market.few)
 
 pub permuted_market : (assets : ℕ) (quotes sorted : List Quote) → IsPermutation quotes sorted → AreQuotes assets quotes
@@ -261,7 +261,7 @@ pub record DifferBy (quotes : List Quote) (sell buy num den : ℕ) (before throu
   pub weighted : before.weighted + weighted_amounts (quotes_below sell buy num den quotes) ≡ through.weighted
   pub amount_range : amounts (quotes_below sell buy num den quotes) ≤ 2 ^ 62
   pub weighted_range :
-    weighted_amounts (quotes_below sell buy num den quotes) ≤ 2 ^ 56 * amounts (quotes_below sell buy num den quotes)
+      weighted_amounts (quotes_below sell buy num den quotes) ≤ 2 ^ 56 * amounts (quotes_below sell buy num den quotes)
 
 -- the sums of the first quotes, as many as count says
 pub record AreSumsOf (quotes : List Quote) (count : ℕ) (sums : Prefix) : Type 0 where

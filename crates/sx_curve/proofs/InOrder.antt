@@ -22,9 +22,9 @@ up_to_both a b c first second =
     λ e. (omega (arith, first.sell, second.sell), omega (arith, first.sell, second.sell)) in
     let buy : a.sell ≡ c.sell → a.buy ≡ c.buy → (a.buy ≡ b.buy) × (b.buy ≡ c.buy) =
     λ e f.
-      let up = first.buy (sell e).0 in
-      let up' = second.buy (sell e).1 in
-      (omega arith, omega arith) in
+    let up = first.buy (sell e).0 in
+    let up' = second.buy (sell e).1 in
+    (omega arith, omega arith) in
     record {
       sell = omega (arith, first.sell, second.sell);
       buy = λ e. omega (arith, first.buy (sell e).0, second.buy (sell e).1);
@@ -55,8 +55,8 @@ up_to_from one next not_less =
       sell = sell.0;
       buy = λ e. (then_step next.buy one.buy _ (sell.1 (sym e))).0;
       limit = λ e f.
-      let buy = then_step next.buy one.buy _ (sell.1 (sym e)) in
-      (then_step next.limit one.limit _ (buy.1 (sym f))).0;
+          let buy = then_step next.buy one.buy _ (sell.1 (sym e)) in
+          (then_step next.limit one.limit _ (buy.1 (sym f))).0;
     }
 
 -- ---- lists of quotes

@@ -21,12 +21,13 @@ range_read quotes begins pairs sell buy place begin end asset is lt first next =
   asset = asset;
   begins = subst (λ (p : ℕ). BeginsAt quotes p begin) is (begin_read quotes begins pairs place begin (omega arith) first);
   ends = subst (λ (p : ℕ). BeginsAt quotes (p + 1) end) is
-  (begin_read quotes begins pairs (place + 1) end (omega arith) next);
+      (begin_read quotes begins pairs (place + 1) end (omega arith) next);
 }
 
 pub prefix_read : (quotes : List Quote) (prefixes : List Prefix) → ArePrefixSums quotes prefixes
     → (count : ℕ) (entry : Prefix) → count ≤ length quotes → entry ≡ get_or prefixes count entry
     → (entry.amount ≡ amounts (take count quotes)) × (entry.weighted ≡ weighted_amounts (take count quotes))
-prefix_read quotes prefixes sums count entry le is =
-    (ap (λ (p : Prefix). p.amount) is ∙ sums.amount count entry le,
-    ap (λ (p : Prefix). p.weighted) is ∙ sums.weighted count entry le)
+prefix_read quotes prefixes sums count entry le is = (
+  ap (λ (p : Prefix). p.amount) is ∙ sums.amount count entry le,
+  ap (λ (p : Prefix). p.weighted) is ∙ sums.weighted count entry le,
+)

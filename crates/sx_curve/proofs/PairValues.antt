@@ -38,8 +38,8 @@ mid_is_covered quotes sell_price buy_price j =
     let bounded = sum_by-bounded (λ (quote : Quote). quote.amount * quote.limit) units units buy_price
     (sell_price * 2 ^ 24) 0 (filter (mid_at sell_price buy_price j) quotes)
     (λ k d lt.
-      let passes = filter_passes (mid_at sell_price buy_price j) quotes k d lt in
-      covered _ _ buy_price (sell_price * 2 ^ 24) (leb-true _ _ (and_parts _ _ passes).0)) in
+    let passes = filter_passes (mid_at sell_price buy_price j) quotes k d lt in
+    covered _ _ buy_price (sell_price * 2 ^ 24) (leb-true _ _ (and_parts _ _ passes).0)) in
     omega arith
 
 -- a limit above a rate that is cut by its p-th part, where the rate is price * (p * q): the rest is at most price * q
@@ -72,15 +72,15 @@ mid_is_near quotes sell_price buy_price j le =
     (sell_price * (2 ^ j * 2 ^ (24 - j))) buy_price (sell_price * 2 ^ (24 - j))
     (filter (mid_at sell_price buy_price j) quotes)
     (λ k d lt.
-      let quote : Quote = get_or (filter (mid_at sell_price buy_price j) quotes) k d in
-      let passes = filter_passes (mid_at sell_price buy_price j) quotes k d lt in
-      let above = leb-false _ _ (not-true _ (and_parts _ _ passes).1) in
-      near_amount quote.amount quote.limit buy_price sell_price (2 ^ j) (2 ^ (24 - j)) (pow_pos j)
-      (subst (λ (n : ℕ). sell_price * n * (2 ^ j - 1) < quote.limit * buy_price * 2 ^ j) whole above)) in
+    let quote : Quote = get_or (filter (mid_at sell_price buy_price j) quotes) k d in
+    let passes = filter_passes (mid_at sell_price buy_price j) quotes k d lt in
+    let above = leb-false _ _ (not-true _ (and_parts _ _ passes).1) in
+    near_amount quote.amount quote.limit buy_price sell_price (2 ^ j) (2 ^ (24 - j)) (pow_pos j)
+    (subst (λ (n : ℕ). sell_price * n * (2 ^ j - 1) < quote.limit * buy_price * 2 ^ j) whole above)) in
     subst
     (λ (n : ℕ). sell_price * n * e_mid sell_price buy_price j quotes
-      ≤ buy_price * m_mid sell_price buy_price j quotes
-      + sell_price * 2 ^ (24 - j) * e_mid sell_price buy_price j quotes)
+    ≤ buy_price * m_mid sell_price buy_price j quotes
+    + sell_price * 2 ^ (24 - j) * e_mid sell_price buy_price j quotes)
     (sym whole) bounded
 
 -- a quotient of a difference

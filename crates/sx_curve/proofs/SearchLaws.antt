@@ -132,7 +132,7 @@ module _ (xs ys : List Quote) (h : IsPermutation xs ys) where
   trial_permuted j held =
       λ i. map
       (λ asset. moved_price held.exponent (price_of held.prices asset) (net_permuted held.prices j asset i)
-        (volume_permuted held.prices j asset i))
+      (volume_permuted held.prices j asset i))
       (assets_of held.prices)
 
   after_permuted : (j : ℕ) (held : Held) → after_trial ys j held ≡ after_trial xs j held

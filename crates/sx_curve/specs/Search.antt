@@ -30,8 +30,8 @@ abbrev pub moved_price : ℕ → ℕ → ℤ → ℕ → ℕ
 moved_price k price net volume =
     if volume == 0 then price
     else cut_to_range
-      (if int_lt (pos 0) net then price + price_change k price (unsigned_abs net) volume
-       else price - price_change k price (unsigned_abs net) volume)
+    (if int_lt (pos 0) net then price + price_change k price (unsigned_abs net) volume
+    else price - price_change k price (unsigned_abs net) volume)
 
 -- ---- trials
 
@@ -45,7 +45,7 @@ unfoldable pub trial_prices : List Quote → ℕ → Held → List ℕ
 trial_prices quotes j held =
     map
     (λ asset. moved_price held.exponent (price_of held.prices asset) (net_of quotes held.prices j asset)
-      (volume_of quotes held.prices j asset))
+    (volume_of quotes held.prices j asset))
     (assets_of held.prices)
 
 -- a trial with less imbalance is held and the next step is greater, and after any other it is smaller

@@ -16,9 +16,9 @@ count_below-count-requires c =
     c.args.buy c.ends_of-begin.result.0 c.ends_of-begin.result.1 range in
     record {
       in_order = subst
-      (λ (quotes : List Quote). IsNonDecreasingBy (λ quote. quote.limit)
-        (slice_range quotes c.ends_of-begin.result.0 c.ends_of-begin.result.1))
-      (sym (c.deref.ensures.value ∙ same)) rise;
+          (λ (quotes : List Quote). IsNonDecreasingBy (λ quote. quote.limit)
+          (slice_range quotes c.ends_of-begin.result.0 c.ends_of-begin.result.1))
+          (sym (c.deref.ensures.value ∙ same)) rise;
       den = c.requires;
     }
 
@@ -29,7 +29,7 @@ prefix-through-requires c =
     let range = c.ends_of-begin.ensures.range in
     let reaches = subst
     (λ (quotes : List Quote). ReachesTo (slice_range quotes c.ends_of-begin.result.0 c.ends_of-begin.result.1)
-      c.args.num c.args.den c.count_below-count.result)
+    c.args.num c.args.den c.count_below-count.result)
     (c.deref.ensures.value ∙ same) c.count_below-count.ensures in
     let fits = count_fits c.self.inside.number c.args.self.now.quotes
     (subst (AreQuotes c.self.inside.number) same kept.market) (subst AreInOrder same kept.in_order) c.args.sell
@@ -44,7 +44,7 @@ overflow_sub-result c =
     let same : c.self.inside.sorted.items ≡ c.args.self.now.quotes = ap (λ (m : Market). m.quotes) c.self.view_is in
     let reaches = subst
     (λ (quotes : List Quote). ReachesTo (slice_range quotes c.ends_of-begin.result.0 c.ends_of-begin.result.1)
-      c.args.num c.args.den c.count_below-count.result)
+    c.args.num c.args.den c.count_below-count.result)
     (c.deref.ensures.value ∙ same) c.count_below-count.ensures in
     let before = c.prefix-before.ensures in
     let through = c.prefix-through.ensures in
@@ -63,7 +63,7 @@ overflow_sub-result-2 c =
     let same : c.self.inside.sorted.items ≡ c.args.self.now.quotes = ap (λ (m : Market). m.quotes) c.self.view_is in
     let reaches = subst
     (λ (quotes : List Quote). ReachesTo (slice_range quotes c.ends_of-begin.result.0 c.ends_of-begin.result.1)
-      c.args.num c.args.den c.count_below-count.result)
+    c.args.num c.args.den c.count_below-count.result)
     (c.deref.ensures.value ∙ same) c.count_below-count.ensures in
     let before = c.prefix-before.ensures in
     let through = c.prefix-through.ensures in
@@ -82,7 +82,7 @@ overflow_cast-result c =
     let same : c.self.inside.sorted.items ≡ c.args.self.now.quotes = ap (λ (m : Market). m.quotes) c.self.view_is in
     let reaches = subst
     (λ (quotes : List Quote). ReachesTo (slice_range quotes c.ends_of-begin.result.0 c.ends_of-begin.result.1)
-      c.args.num c.args.den c.count_below-count.result)
+    c.args.num c.args.den c.count_below-count.result)
     (c.deref.ensures.value ∙ same) c.count_below-count.ensures in
     let before = c.prefix-before.ensures in
     let through = c.prefix-through.ensures in
@@ -101,7 +101,7 @@ returns c =
     let same : c.self.inside.sorted.items ≡ c.args.self.now.quotes = ap (λ (m : Market). m.quotes) c.self.view_is in
     let reaches = subst
     (λ (quotes : List Quote). ReachesTo (slice_range quotes c.ends_of-begin.result.0 c.ends_of-begin.result.1)
-      c.args.num c.args.den c.count_below-count.result)
+    c.args.num c.args.den c.count_below-count.result)
     (c.deref.ensures.value ∙ same) c.count_below-count.ensures in
     let before = c.prefix-before.ensures in
     let through = c.prefix-through.ensures in

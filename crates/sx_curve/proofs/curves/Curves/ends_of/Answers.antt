@@ -16,9 +16,9 @@ returns c =
     c.index.ensures c.index-2.ensures in
     record {
       range = subst
-      (λ (quotes : List Quote). IsPairRange quotes c.args.sell c.args.buy c.index.result.now c.index-2.result.now)
-      same range;
+          (λ (quotes : List Quote). IsPairRange quotes c.args.sell c.args.buy c.index.result.now c.index-2.result.now)
+          same range;
       ordered = ends_follow inside.number inside.sorted.items kept.market kept.in_order c.args.sell c.args.buy
-      c.index.result.now c.index-2.result.now range;
+          c.index.result.now c.index-2.result.now range;
       within = subst (λ (quotes : List Quote). c.index-2.result.now ≤ length quotes) same range.ends.within;
     }
