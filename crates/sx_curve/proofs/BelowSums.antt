@@ -100,7 +100,8 @@ module _ (assets : ℕ) (quotes : List Quote) (market : AreQuotes assets quotes)
         omega (arith, reaches.within, length-between quotes begin end range.ends.within)
 
     pub below_is : (f : Quote → ℕ)
-        → sum_by f (quotes_below sell buy num den quotes) + sum_by f (take begin quotes) ≡ sum_by f (take (begin + count) quotes)
+        → sum_by f (quotes_below sell buy num den quotes) + sum_by f (take begin quotes)
+        ≡ sum_by f (take (begin + count) quotes)
     below_is f =
         let order = ends_follow in
         let fits = count_fits in
@@ -273,7 +274,8 @@ pub differ_by : (assets : ℕ) (quotes : List Quote) (market : AreQuotes assets 
     → ReachesTo (slice_range quotes begin end) num den count → (before through : Prefix)
     → AreSumsOf quotes begin before → AreSumsOf quotes (begin + count) through
     → DifferBy quotes sell buy num den before through
-differ_by assets quotes market in_order limits sell buy begin end num den count range reaches before through first last =
+differ_by assets quotes market in_order limits sell buy begin end num den count range reaches before through first
+    last =
     let is = below_is assets quotes market in_order sell buy begin end range num den count reaches in
     record {
       amount = omega (arith, is (λ quote. quote.amount), first.amount, last.amount);

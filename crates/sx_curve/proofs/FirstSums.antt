@@ -50,14 +50,16 @@ first_more quotes prefixes after last next count quote so_far lt is amount weigh
       full = rw pushed (omega (arith, length_push prefixes next));
       amount = λ k d le.
           elim (cases_lt k (count + 1)) [
-            | inl old ↦ rw (pushed, get_or_append_left prefixes (next ∷ []) d k (omega arith)) (so_far.amount k d (omega arith))
+            | inl old ↦ rw (pushed, get_or_append_left prefixes (next ∷ []) d k (omega arith))
+                (so_far.amount k d (omega arith))
             | inr new ↦
                 let last_place : k ≡ count + 1 = omega arith in
                 rw (pushed, get_or_push prefixes next d k (omega arith), last_place) next_amount
           ];
       weighted = λ k d le.
           elim (cases_lt k (count + 1)) [
-            | inl old ↦ rw (pushed, get_or_append_left prefixes (next ∷ []) d k (omega arith)) (so_far.weighted k d (omega arith))
+            | inl old ↦ rw (pushed, get_or_append_left prefixes (next ∷ []) d k (omega arith))
+                (so_far.weighted k d (omega arith))
             | inr new ↦
                 let last_place : k ≡ count + 1 = omega arith in
                 rw (pushed, get_or_push prefixes next d k (omega arith), last_place) next_weighted
@@ -69,7 +71,8 @@ first_more quotes prefixes after last next count quote so_far lt is amount weigh
     }
 
 pub first_all : (quotes : List Quote) (prefixes : List Prefix) (last : Prefix) (count : ℕ)
-    → AreFirstSums quotes prefixes last count → count ≡ length quotes → ArePrefixSums quotes prefixes × All HasLimit quotes
+    → AreFirstSums quotes prefixes last count → count ≡ length quotes
+    → ArePrefixSums quotes prefixes × All HasLimit quotes
 first_all quotes prefixes last count so_far all = (
   record {
     full = omega (arith, so_far.full);

@@ -19,7 +19,8 @@ pub range_read : (quotes : List Quote) (begins : List ℕ) → AreBegins quotes 
     → IsPairRange quotes sell buy begin end
 range_read quotes begins pairs sell buy place begin end asset is lt first next = record {
   asset = asset;
-  begins = subst (λ (p : ℕ). BeginsAt quotes p begin) is (begin_read quotes begins pairs place begin (omega arith) first);
+  begins = subst (λ (p : ℕ). BeginsAt quotes p begin) is
+      (begin_read quotes begins pairs place begin (omega arith) first);
   ends = subst (λ (p : ℕ). BeginsAt quotes (p + 1) end) is
       (begin_read quotes begins pairs (place + 1) end (omega arith) next);
 }

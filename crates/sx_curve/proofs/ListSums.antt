@@ -12,7 +12,8 @@ abbrev pub masked : {X : Type 0} → (X → Bool) → (X → ℕ) → X → ℕ
 masked p f x = cond (p x) (f x) 0
 
 -- a sum over what passes is a sum over all
-pub sum_by-filter : {X : Type 0} (f : X → ℕ) (p : X → Bool) (xs : List X) → sum_by f (filter p xs) ≡ sum_by (masked p f) xs
+pub sum_by-filter : {X : Type 0} (f : X → ℕ) (p : X → Bool) (xs : List X)
+    → sum_by f (filter p xs) ≡ sum_by (masked p f) xs
 sum_by-filter f p [] = refl
 sum_by-filter {X} f p (x ∷ xs) =
     let rest : sum_by f (filter p xs) ≡ sum_by (masked p f) xs = sum_by-filter f p xs in

@@ -75,12 +75,14 @@ alone_searched = refl
 abbrev at_rate : List Quote
 at_rate = quote 0 1 one 100 ∷ quote 1 0 (2 ^ 23) 50 ∷ []
 
-at_rate_searched : held_after at_rate 10 3 (record { prices = ones; exponent = 4 }) ≡ record { prices = ones; exponent = 7 }
+at_rate_searched : held_after at_rate 10 3 (record { prices = ones; exponent = 4 })
+    ≡ record { prices = ones; exponent = 7 }
 unfolding sold_value value_into value_out imbalance count_leading_zeros trial_prices after_trial held_after
 at_rate_searched = refl
 
 -- at the exponent 40 one more trial is made, which changes nothing and is not held, and at 41 none
-last_trial : (held_after at_rate 10 5 (record { prices = ones; exponent = 40 }) ≡ record { prices = ones; exponent = 41 })
+last_trial :
+    (held_after at_rate 10 5 (record { prices = ones; exponent = 40 }) ≡ record { prices = ones; exponent = 41 })
     × (held_after at_rate 10 5 (record { prices = ones; exponent = 41 }) ≡ record { prices = ones; exponent = 41 })
 unfolding sold_value value_into value_out imbalance count_leading_zeros trial_prices after_trial held_after
 last_trial = (refl, refl)

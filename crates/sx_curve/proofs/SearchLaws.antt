@@ -27,7 +27,8 @@ kept quotes j P step (suc trials) held start =
 
 -- what is held after a trial is the trial where it has less imbalance, and what was held else
 either : (quotes : List Quote) (j : ℕ) (P : List ℕ → Type 0) (held : Held)
-    → (imbalance quotes (trial_prices quotes j held) j < imbalance quotes held.prices j → P (trial_prices quotes j held))
+    → (imbalance quotes (trial_prices quotes j held) j < imbalance quotes held.prices j
+    → P (trial_prices quotes j held))
     → P held.prices
     → P (after_trial quotes j held).prices
 unfolding after_trial

@@ -35,7 +35,9 @@ pub record IsUpTo (one other : Quote) : Type 0 where
 
 -- no quote stands after one that comes later
 abbrev pub AreInOrder : List Quote → Type 0
-AreInOrder quotes = (i j : ℕ) (d : Quote) → i ≤ j → j < length quotes → IsUpTo (slice_index_or quotes i d) (slice_index_or quotes j d)
+AreInOrder quotes =
+    (i j : ℕ) (d : Quote) → i ≤ j → j < length quotes →
+    IsUpTo (slice_index_or quotes i d) (slice_index_or quotes j d)
 
 -- the place of a pair among all that there may be
 abbrev pub place_of_pair : ℕ → ℕ → ℕ
@@ -53,8 +55,10 @@ HasLimit quote = quote.limit < 2 ^ 56
 -- the sums of the first k quotes, at the place k
 pub record ArePrefixSums (quotes : List Quote) (prefixes : List Prefix) : Type 0 where
   pub full : length prefixes ≡ length quotes + 1
-  pub amount : (k : ℕ) (d : Prefix) → k ≤ length quotes → (slice_index_or prefixes k d).amount ≡ amounts (take k quotes)
-  pub weighted : (k : ℕ) (d : Prefix) → k ≤ length quotes → (slice_index_or prefixes k d).weighted ≡ weighted_amounts (take k quotes)
+  pub amount : (k : ℕ) (d : Prefix) → k ≤ length quotes →
+      (slice_index_or prefixes k d).amount ≡ amounts (take k quotes)
+  pub weighted : (k : ℕ) (d : Prefix) → k ≤ length quotes →
+      (slice_index_or prefixes k d).weighted ≡ weighted_amounts (take k quotes)
 
 -- the pairs before a place are those of the quotes before this index
 pub record BeginsAt (quotes : List Quote) (place begin : ℕ) : Type 0 where
