@@ -8,3 +8,4 @@ pub mod Segments
 pub mod BelowSums
 pub mod FirstSums
 pub mod Kept
+pub mod SmallMarket

@@ -1,6 +1,7 @@
 //! Curves of a few quotes, worked out by hand.
 
-ghost use Rattle.std.specs.Prelude.{◌≡◌, ◌≤◌, ◌^◌, All, IfSome, IsTrue, ◌↔◌};
+ghost use Rattle.std.specs.Prelude.{◌≤◌, ◌^◌, All};
+ghost use Rattle.std.specs.Bool.{OnTrue};
 ghost use Rattle.sx_curve.specs.Curves.{IsAmong};
 
 use super::*;
@@ -26,7 +27,7 @@ fn quote(sell: u8, buy: u8, limit: u64, amount: u64) -> Option<Quote> {
 
 // Whether a quote is of two of three assets and has a small amount.
 fn is_small(quote: &Quote) -> bool
-    ensures { IsTrue result → IsAmong 3 quote.now × (quote.now.amount ≤ 2 ^ 59) }
+    ensures { OnTrue result (IsAmong 3 quote.now × (quote.now.amount ≤ 2 ^ 59)) }
 {
     quote.sell.get() < 3
         && quote.buy.get() < 3
@@ -34,9 +35,22 @@ fn is_small(quote: &Quote) -> bool
         && quote.amount.get() <= MOST
 }
 
+fn are_small(quotes: &[Quote]) -> bool
+    ensures { OnTrue result (All (λ quote. IsAmong 3 quote × (quote.amount ≤ 2 ^ 59)) quotes.now) }
+{
+    for quote in quotes {
+        let small = is_small(quote);
+        if !small {
+            return false;
+        }
+    }
+    true
+}
+
 // The curves of at most eight quotes among three assets, if all are small.
 fn curves_of(alloc: Global, quotes: &[Quote]) -> Option<Curves> {
-    if quotes.len() > 8 || !quotes.iter().all(|quote| is_small(quote)) {
+    let small = are_small(quotes);
+    if quotes.len() > 8 || !small {
         return None;
     }
     Curves::build(alloc, 3, quotes).ok()
