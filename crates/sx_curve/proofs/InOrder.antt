@@ -1,14 +1,14 @@
 -- Quotes that a sort leaves are in order, and so are their pairs and the limits of each pair.
-use Rattle.std.proofs.Common.{◌≡◌, ℕ, zero, suc, ◌+◌, ◌-◌, ◌*◌, ◌<◌, ◌≤◌, Bool, true, false, cond, ltb, eqb, List, length, get_or, All, inl, inr, refl, sym, subst, arith}
+use Rattle.std.proofs.Common.{◌≡◌, ℕ, zero, suc, ◌+◌, ◌-◌, ◌<◌, ◌≤◌, false, List, length, get_or, inl, inr, refl, sym, subst, arith}
 use Rattle.std.specs.List.Sorted.{IsNonDecreasingBy, IsPartitionedBy, IsSorted}
 use Rattle.std.specs.declared.cmp.Ordering.{Ordering}
-use Rattle.std.specs.declared.cmp.Ordering.TheVariants.{Less, Equal, Greater}
+use Rattle.std.specs.declared.cmp.Ordering.TheVariants.{Less, Equal}
 use Rattle.std.specs.Ordering.{is_lt, nat_cmp, ordering_then}
 use Rattle.std.proofs.lemmas.Bool.{cases_order, eq-eqb, le-leb, le-ltb, leb-true, lt-ltb}
 use Rattle.std.proofs.Math.Nat.{mul-le-mul_right}
 use Rattle.sx_curve.specs.contracts.quote.QuoteOrd.TheImpl as derived
 use Rattle.sx_curve.specs.declared.quote.Quote.{Quote}
-use Rattle.sx_curve.specs.Curves.{AreInOrder, AreQuotes, IsAmong, IsUpTo, place_of_quote}
+use Rattle.sx_curve.specs.Curves.{AreInOrder, AreQuotes, IsUpTo, place_of_quote}
 use Rattle.sx_curve.specs.Quotes.{is_below}
 
 -- ---- two quotes

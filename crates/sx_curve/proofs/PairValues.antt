@@ -1,17 +1,15 @@
 -- What a pair sells.
-use Rattle.std.proofs.Common.{◌≡◌, ℕ, suc, zero, ◌+◌, ◌-◌, ◌*◌, ◌/◌, ◌^◌, ◌<◌, ◌≤◌, true, false, not, ◌&&◌, List, get_or, refl, sym, ap, subst, ◌∙◌, ◌==◌, arith}
+use Rattle.std.proofs.Common.{◌≡◌, ℕ, suc, zero, ◌+◌, ◌-◌, ◌*◌, ◌/◌, ◌^◌, ◌<◌, ◌≤◌, ◌&&◌, List, get_or, sym, ap, subst, ◌∙◌, ◌==◌, arith}
 use Rattle.std.specs.List.{filter}
 use Rattle.std.specs.Prelude.{nat_le}
-use Rattle.std.specs.List.Sorted.{IsPermutation}
 use Rattle.std.proofs.lemmas.Bool.{and_parts, leb-false, leb-true, not-true}
 use Rattle.std.proofs.lemmas.List.Elements.{filter_passes}
 use Rattle.std.proofs.lemmas.Nat.{pow-add, pow_pos}
 use Rattle.std.proofs.Math.Nat.{div-le_of_le-mul, lt_of_mul-lt-mul_left, mul-le-mul_left, mul-add, mul_assoc}
-use Rattle.sx_price.specs.Limits.{IsExponent, may_trade, must_trade}
 use Rattle.sx_price.proofs.Decided.{must_is_may}
 use Rattle.sx_curve.specs.declared.quote.Quote.{Quote}
-use Rattle.sx_curve.specs.Demand.{e_mid, e_must, m_mid, may_at, mid_at, mid_gain, must_at, pair_value, price_of, sold_value}
-use Rattle.sx_curve.specs.Laws.{MayAreBelow, MidIsCovered, MustAndMid, MustAreBelow, SoldPermuted, ValueWithinBounds}
+use Rattle.sx_curve.specs.Demand.{e_mid, e_must, m_mid, may_at, mid_at, must_at, price_of, sold_value}
+use Rattle.sx_curve.specs.Laws.{MidIsCovered, MustAndMid, MustAreBelow, SoldPermuted, ValueWithinBounds}
 use Rattle.sx_curve.specs.Quotes.{amounts, pair_of}
 use Rattle.sx_curve.proofs.ListSums.{sum_by-bounded, sum_by-stricter, sum_by-twice-permuted}
 

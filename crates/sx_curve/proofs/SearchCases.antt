@@ -3,7 +3,7 @@ use Rattle.std.proofs.Common.{◌≡◌, ℕ, ◌+◌, ◌-◌, ◌*◌, ◌^◌
 use lib.Count.{count_leading_zeros}
 use Rattle.sx_curve.specs.declared.quote.Quote.{Quote}
 use Rattle.sx_curve.specs.Demand.{imbalance, net_of, pair_value, sold_value, value_into, value_out, volume_of}
-use Rattle.sx_curve.specs.Search.{Held, after_trial, binary_digits, held_after, moved_price, price_change, searched_prices, trial_prices}
+use Rattle.sx_curve.specs.Search.{after_trial, held_after, moved_price, price_change, searched_prices, trial_prices}
 
 abbrev one : ℕ
 one = 2 ^ 24

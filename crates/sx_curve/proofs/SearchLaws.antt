@@ -1,10 +1,10 @@
 -- What the search keeps, and what it mends.
-use Rattle.std.proofs.Common.{◌≡◌, ℕ, zero, suc, ◌+◌, ◌-◌, ◌<◌, ◌≤◌, min, max, Bool, true, false, cond, not, ◌&&◌, ◌==◌, List, map, length, get_or, All, sum_by, ℤ, pos, ◌-ℤ◌, nat_lt, nat_le, unsigned_abs, int_lt, refl, sym, ap, subst, ◌∙◌, arith}
+use Rattle.std.proofs.Common.{◌≡◌, ℕ, zero, suc, ◌+◌, ◌-◌, ◌<◌, ◌≤◌, max, false, cond, not, ◌&&◌, ◌==◌, List, map, length, get_or, All, sum_by, ℤ, pos, ◌-ℤ◌, nat_lt, nat_le, unsigned_abs, int_lt, refl, sym, ap, subst, ◌∙◌, arith}
 use Rattle.std.specs.List.{range_with_len}
 use Rattle.std.specs.List.Sorted.{IsPermutation}
 use Rattle.std.proofs.lemmas.Bool.{and_left, cond-false, cond_both, eq-eqb, ltb-true, not_from_true}
 use Rattle.std.proofs.lemmas.List.FromFn.{get_or-map-range_with_len, length-map-range_with_len}
-use Rattle.sx_price.specs.Limits.{IsPrice, least_price, most_price}
+use Rattle.sx_price.specs.Limits.{IsPrice}
 use Rattle.sx_curve.specs.declared.quote.Quote.{Quote}
 use Rattle.sx_curve.specs.Demand.{assets_of, imbalance, net_of, price_of, value_into, value_out, volume_of}
 use Rattle.sx_curve.specs.Laws.{BalancedStays, NoRoundsStay, SearchKeepsLength, SearchKeepsRange, SearchMends, SearchPermuted}

@@ -1,6 +1,5 @@
 -- A few quotes of small amounts among three assets.
-use Rattle.std.proofs.Common.{ℕ, ◌*◌, ◌^◌, ◌≤◌, ◌==◌, List, length, All, arith}
-use Rattle.std.specs.List.{filter}
+use Rattle.std.proofs.Common.{◌^◌, ◌≤◌, ◌==◌, List, length, All, arith}
 use Rattle.std.proofs.lemmas.List.Elements.{All-filter}
 use Rattle.std.proofs.lemmas.List.Sums.{count_by-le-length, length-filter, sum_by-le}
 use Rattle.sx_curve.specs.declared.quote.Quote.{Quote}

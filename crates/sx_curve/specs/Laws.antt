@@ -5,7 +5,7 @@ use Rattle.std.specs.List.Sorted.{IsPermutation}
 use Rattle.sx_price.specs.Limits.{IsExponent, IsPrice}
 use Rattle.sx_curve.specs.declared.quote.Quote.{Quote}
 use Rattle.sx_curve.specs.Quotes.{amounts, pair_of, quotes_below}
-use Rattle.sx_curve.specs.Demand.{e_mid, e_must, imbalance, m_mid, may_at, must_at, pair_value, price_of, sold_value}
+use Rattle.sx_curve.specs.Demand.{e_mid, e_must, imbalance, m_mid, may_at, must_at, pair_value, sold_value}
 use Rattle.sx_curve.specs.Search.{binary_digits, searched_prices}
 
 -- ---- what a pair sells

@@ -1,4 +1,3 @@
-use Rattle.sx_curve.proofs.SearchCases as cases
 use Rattle.sx_curve.proofs.Digits.{digits_are_least}
 use Rattle.sx_curve.proofs.SearchLaws.{balanced_stays, no_rounds_stay, search_keeps_length, search_keeps_range, search_mends, search_permuted}
 use Rattle.sx_curve.proofs.laws.search_laws.Goals as goal

@@ -1,4 +1,3 @@
-use Rattle.std.proofs.Common.{◌≤◌, ◌*◌, ◌^◌}
 use Rattle.sx_curve.proofs.FirstSums.{AreFirstSums}
 use Rattle.sx_curve.proofs.prefixes.prefixes_of.Given as goal
 

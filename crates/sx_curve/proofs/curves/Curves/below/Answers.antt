@@ -1,9 +1,9 @@
-use Rattle.std.proofs.Common.{◌≡◌, ◌+◌, ◌≤◌, All, List, ap, arith, length, subst, sym, ◌∙◌}
+use Rattle.std.proofs.Common.{◌≡◌, All, List, ap, arith, subst, sym, ◌∙◌}
 use Rattle.std.specs.List.{slice_range}
 use Rattle.std.specs.List.Sorted.{IsNonDecreasingBy}
 use Rattle.sx_curve.specs.declared.quote.Quote.{Quote}
 use Rattle.sx_curve.specs.Curves.{AreInOrder, AreQuotes, HasLimit, Market, ReachesTo}
-use Rattle.sx_curve.proofs.BelowSums.{DifferBy, count_fits, differ_by, limits_rise}
+use Rattle.sx_curve.proofs.BelowSums.{count_fits, differ_by, limits_rise}
 use Rattle.sx_curve.proofs.curves.Curves.below.Goals as goal
 
 pub count_below-count-requires : goal.count_below-count-requires
