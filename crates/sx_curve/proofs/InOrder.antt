@@ -1,0 +1,96 @@
+-- Quotes that a sort leaves are in order, and so are their pairs and the limits of each pair.
+use Rattle.std.proofs.Common.{◌≡◌, ℕ, zero, suc, ◌+◌, ◌-◌, ◌<◌, ◌≤◌, false, List, length, get_or, inl, inr, refl, sym, subst, arith}
+use Rattle.std.specs.List.Sorted.{IsNonDecreasingBy, IsPartitionedBy, IsSorted}
+use Rattle.std.specs.declared.cmp.Ordering.{Ordering}
+use Rattle.std.specs.declared.cmp.Ordering.TheVariants.{Less, Equal}
+use Rattle.std.specs.Ordering.{is_lt, nat_cmp, ordering_then}
+use Rattle.std.proofs.lemmas.Bool.{cases_order, eq-eqb, le-leb, le-ltb, leb-true, lt-ltb}
+use Rattle.std.proofs.Math.Nat.{mul-le-mul_right}
+use Rattle.sx_curve.specs.contracts.quote.QuoteOrd.TheImpl as derived
+use Rattle.sx_curve.specs.declared.quote.Quote.{Quote}
+use Rattle.sx_curve.specs.Curves.{AreInOrder, AreQuotes, IsUpTo, place_of_quote}
+use Rattle.sx_curve.specs.Quotes.{is_below}
+
+-- ---- two quotes
+
+up_to_itself : (quote : Quote) → IsUpTo quote quote
+up_to_itself quote = record { sell = omega arith; buy = λ e. omega arith; limit = λ e f. omega arith }
+
+up_to_both : (a b c : Quote) → IsUpTo a b → IsUpTo b c → IsUpTo a c
+up_to_both a b c first second =
+    let sell : a.sell ≡ c.sell → (a.sell ≡ b.sell) × (b.sell ≡ c.sell) =
+    λ e. (omega (arith, first.sell, second.sell), omega (arith, first.sell, second.sell)) in
+    let buy : a.sell ≡ c.sell → a.buy ≡ c.buy → (a.buy ≡ b.buy) × (b.buy ≡ c.buy) =
+    λ e f.
+    let up = first.buy (sell e).0 in
+    let up' = second.buy (sell e).1 in
+    (omega arith, omega arith) in
+    record {
+      sell = omega (arith, first.sell, second.sell);
+      buy = λ e. omega (arith, first.buy (sell e).0, second.buy (sell e).1);
+      limit = λ e f. omega (arith, first.limit (sell e).0 (buy e f).0, second.limit (sell e).1 (buy e f).1);
+    }
+
+-- what the first of two compared numbers says of an order by both
+then_step : (x y : ℕ) (rest : Ordering) → is_lt (ordering_then (nat_cmp x y) rest) ≡ false
+    → (y ≤ x) × (x ≡ y → is_lt rest ≡ false)
+then_step x y rest not_less =
+    elim (cases_order x y) [
+      | inl same ↦
+          let level : nat_cmp x y ≡ Equal = rw (le-ltb x y (omega arith), eq-eqb x y same) refl in
+          (omega arith, λ e. rw level at not_less)
+      | inr apart ↦ elim apart [
+        | inl less ↦
+            let down : nat_cmp x y ≡ Less = rw (lt-ltb x y less) refl in
+            let never : is_lt Less ≡ false = rw down at not_less in
+            absurd cc
+        | inr more ↦ (omega arith, λ e. absurd (omega arith))
+      ]
+    ]
+
+up_to_from : (one next : Quote) → is_lt (derived.ghosts.cmp next one) ≡ false → IsUpTo one next
+up_to_from one next not_less =
+    let sell = then_step next.sell one.sell _ not_less in
+    record {
+      sell = sell.0;
+      buy = λ e. (then_step next.buy one.buy _ (sell.1 (sym e))).0;
+      limit = λ e f.
+          let buy = then_step next.buy one.buy _ (sell.1 (sym e)) in
+          (then_step next.limit one.limit _ (buy.1 (sym f))).0;
+    }
+
+-- ---- lists of quotes
+
+rises : (quotes : List Quote) → IsSorted derived.ghosts.cmp quotes → (d : Quote) (i n : ℕ) → i + n < length quotes
+    → IsUpTo (get_or quotes i d) (get_or quotes (i + n) d)
+rises quotes sorted d i zero lt = let same : i + 0 ≡ i = omega arith in rw same (up_to_itself (get_or quotes i d))
+rises quotes sorted d i (suc n) lt =
+    let next : i + suc n ≡ i + n + 1 = omega arith in
+    rw next
+    (up_to_both (get_or quotes i d) (get_or quotes (i + n) d) (get_or quotes (i + n + 1) d)
+    (rises quotes sorted d i n (omega arith))
+    (up_to_from (get_or quotes (i + n) d) (get_or quotes (i + n + 1) d)
+    (sorted (i + n) d (omega arith) (omega arith))))
+
+pub in_order_from_sort : (quotes : List Quote) → IsSorted derived.ghosts.cmp quotes → AreInOrder quotes
+in_order_from_sort quotes sorted i j d le lt =
+    let end : i + (j - i) ≡ j = omega arith in
+    let rise = rises quotes sorted d i (j - i) (omega arith) in
+    subst (λ (k : ℕ). IsUpTo (get_or quotes i d) (get_or quotes k d)) end rise
+
+pub places_rise : (assets : ℕ) (quotes : List Quote) → AreQuotes assets quotes → AreInOrder quotes
+    → IsNonDecreasingBy place_of_quote quotes
+places_rise assets quotes market in_order i j d le lt =
+    let up = in_order i j d le lt in
+    let here = market.among i d (omega arith) in
+    let small : (get_or quotes i d).buy < 32 = omega (arith, here.buy, market.few) in
+    elim (cases_order (get_or quotes i d).sell (get_or quotes j d).sell) [
+      | inl same ↦ omega (arith, up.buy same)
+      | inr apart ↦ omega (arith, up.sell)
+    ]
+
+pub limits_part : (pair : List Quote) (num den : ℕ) → IsNonDecreasingBy (λ quote. quote.limit) pair
+    → IsPartitionedBy (is_below num den) pair
+limits_part pair num den rise i j d le lt below =
+    let less = mul-le-mul_right den (rise i j d le lt) in
+    le-leb _ _ (omega (arith, leb-true _ _ below))

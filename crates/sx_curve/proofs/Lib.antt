@@ -1,0 +1,11 @@
+pub mod ListSums
+pub mod PairValues
+pub mod Digits
+pub mod SearchLaws
+pub mod SearchCases
+pub mod InOrder
+pub mod Segments
+pub mod BelowSums
+pub mod FirstSums
+pub mod Kept
+pub mod SmallMarket

@@ -1,0 +1,5 @@
+pub mod Quotes
+pub mod Curves
+pub mod Demand
+pub mod Search
+pub mod Laws

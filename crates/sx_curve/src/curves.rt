@@ -1,0 +1,117 @@
+//! The supply curve of each pair.
+
+ghost use Rattle.std.specs.Prelude.{◌≡◌, ◌*◌, ◌≤◌, ◌^◌, length, take, IfOk};
+ghost use Rattle.std.specs.List.Sorted.{IsPermutation};
+ghost use Rattle.sx_curve.specs.Curves.{AreInOrder, AreQuotes, IsPairRange};
+ghost use Rattle.sx_curve.specs.Quotes.{amounts, quotes_below, weighted_amounts};
+
+use crate::limits::count_below;
+use crate::pairs::{begins_of, place_of};
+use crate::prefixes::{Prefix, prefixes_of};
+use crate::quote::Quote;
+use crate::sums::Sums;
+use std::alloc::Global;
+use std::marker::Model;
+use sx_base::AssetId;
+use sx_bytes::NoMemory;
+
+/// The quotes of a market in order, with their sums, ready for [`Curves::below`]. Contracts see the
+/// number of assets and the list of the quotes.
+#[derive(Debug, Drop)]
+pub struct Curves {
+    number: u32,
+    sorted: Vec<Quote>,
+    prefixes: Vec<Prefix>,
+    begins: Vec<usize>,
+}
+
+impl Model for Curves {
+    ghost use Rattle.sx_curve.specs.Curves.{AreCurves, Market};
+
+    ghost Value = { Market };
+
+    ghost view = { λ c. record { assets = c.number; quotes = c.sorted.items } };
+
+    ghost invariant = { λ c. AreCurves c.number c.sorted.items c.prefixes.items c.begins.items };
+}
+
+// The quotes in order.
+fn sorted(alloc: Global, quotes: &[Quote]) -> Result<Vec<Quote>, NoMemory>
+    ensures all { IfOk result (λ sorted. IsPermutation quotes.now sorted.items) }
+    ensures in_order { IfOk result (λ sorted. AreInOrder sorted.items) }
+{
+    let mut sorted = quotes.to_vec(alloc)?;
+    sorted.sort_unstable();
+    Ok(sorted)
+}
+
+impl Curves {
+    /// The curves of these quotes among so many assets, 1 to 32. Each quote sells an asset below
+    /// that number for another one, and the amounts that sell an asset add up to at most `2^62`.
+    /// `NoMemory` is the only error. It sorts a copy of the quotes, of which the order is free, and
+    /// goes over it once: n log n for n quotes.
+    pub fn build(alloc: Global, assets: u32, quotes: &[Quote]) -> Result<Curves, NoMemory>
+        requires { AreQuotes assets quotes.now }
+        ensures assets { IfOk result (λ curves. curves.assets ≡ assets) }
+        ensures quotes { IfOk result (λ curves. IsPermutation quotes.now curves.quotes) }
+    {
+        let sorted = sorted(alloc, quotes)?;
+        let prefixes = prefixes_of(alloc, &sorted)?;
+        let begins = begins_of(alloc, &sorted)?;
+        Ok(Curves {
+            number: assets,
+            sorted,
+            prefixes,
+            begins,
+        })
+    }
+
+    /// The number of assets.
+    pub fn assets(&self) -> u32
+        ensures assets { result ≡ self.now.assets }
+        ensures quotes { AreQuotes self.now.assets self.now.quotes }
+    {
+        self.number
+    }
+
+    // Where the quotes of a pair begin, and where they end.
+    fn ends_of(&self, sell: AssetId, buy: AssetId) -> (usize, usize)
+        ensures range { IsPairRange self.now.quotes sell buy result.0 result.1 }
+        ensures ordered { result.0 ≤ result.1 }
+        ensures within { result.1 ≤ length self.now.quotes }
+    {
+        let place = place_of(sell, buy);
+        (self.begins[place], self.begins[place + 1])
+    }
+
+    // The sums of the first quotes, as many as `count` says.
+    fn prefix(&self, count: usize) -> Prefix
+        requires { count ≤ length self.now.quotes }
+        ensures amount { result.amount ≡ amounts (take count self.now.quotes) }
+        ensures weighted { result.weighted ≡ weighted_amounts (take count self.now.quotes) }
+    {
+        self.prefixes[count]
+    }
+
+    /// The sums over the quotes that sell `sell` for `buy` at a limit of at most `num` over `den`, in
+    /// units of `2^-24`: over those with limit times `den` at most `num`. With a price of the sold
+    /// asset times `2^24` over a price of the bought asset these are the quotes that may trade at the
+    /// two prices. It takes as many steps as the number of the pair's quotes has binary digits, and no
+    /// memory.
+    pub fn below(&self, sell: AssetId, buy: AssetId, num: u128, den: u128) -> Sums
+        requires { den ≤ 2 ^ 60 }
+        ensures amount { result.amount ≡ amounts (quotes_below sell buy num den self.now.quotes) }
+        ensures weighted { result.weighted ≡ weighted_amounts (quotes_below sell buy num den self.now.quotes) }
+        ensures amount_range { result.amount ≤ 2 ^ 62 }
+        ensures weighted_range { result.weighted ≤ 2 ^ 56 * result.amount }
+    {
+        let (begin, end) = self.ends_of(sell, buy);
+        let count = count_below(&self.sorted[begin..end], num, den);
+        let before = self.prefix(begin);
+        let through = self.prefix(begin + count);
+        Sums {
+            amount: (through.amount - before.amount) as u64,
+            weighted: through.weighted - before.weighted,
+        }
+    }
+}

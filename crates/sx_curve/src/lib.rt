@@ -1,0 +1,50 @@
+//! The supply of every pair of assets as a curve, and what the search for prices means.
+//!
+//! A [`Quote`] is what an offer says of price and amount: so much of one asset is for sale for
+//! another at a limit price or better. The quotes of one pair in order of their limits make a supply
+//! curve: at a rate r, all that is quoted at r or below is for sale. In this drawing 30 is quoted at
+//! the limit 1, 20 at 2 and 40 at 4.
+//!
+//! ```text
+//!     amount
+//!       90 |                  +-------
+//!          |                  |
+//!       50 |        +---------+
+//!       30 |    +---+
+//!          |    |
+//!        0 +----+---+----+----+-------  rate
+//!               1   2    3    4
+//! ```
+//!
+//! [`Curves::build`] sorts the quotes of all pairs once and keeps the sums of the first of them, and
+//! where each pair begins. [`Curves::below`] then tells, by one binary search and without memory, the
+//! sums over a pair's quotes up to any limit: of their amounts, at most `2^62`, and of each amount
+//! times its limit, at most `2^118`. The sums that it keeps are below `2^68` and `2^124`.
+//!
+//! `specs/Demand` says what all pairs sell at given prices, and by how much more of each asset is
+//! wanted than sold; `specs/Search` says which prices the search ends at, whatever finds them. Both
+//! speak of lists of quotes and prices alone. [`value_laws`] and [`search_laws`] state what follows.
+//!
+//! Not here: computing that demand and that search. Nothing says that a search balances the market,
+//! or that its prices are good.
+//!
+//! Source: Ramseyer, Goel and Mazières, "SPEEDEX: A Scalable, Parallelizable, and Economically
+//! Efficient Decentralized EXchange" (NSDI 2023), for the demand of a batch, its interpolation by μ
+//! and the search by tâtonnement. The rule in whole numbers is this project's own.
+#![tactic(auto)]
+
+mod curves;
+mod laws;
+mod limits;
+mod pairs;
+mod prefixes;
+mod quote;
+mod sums;
+
+pub use curves::Curves;
+pub use laws::{search_laws, value_laws};
+pub use quote::Quote;
+pub use sums::Sums;
+
+#[cfg(test)]
+mod tests;
