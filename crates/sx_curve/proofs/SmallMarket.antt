@@ -15,13 +15,13 @@ small_market quotes few small = record {
   few = omega arith;
   among = λ k d lt. (small k d lt).0;
   for_sale = λ asset below.
-  let sells = λ (quote : Quote). quote.sell == asset in
-  let each : All (λ (quote : Quote). quote.amount ≤ 2 ^ 59) (sellers_of asset quotes) =
-  All-filter sells (λ (quote : Quote). quote.amount ≤ 2 ^ 59) quotes (λ k d lt. (small k d lt).1) in
-  omega (
-    arith,
-    sum_by-le (λ (quote : Quote). quote.amount) (2 ^ 59) (sellers_of asset quotes) each,
-    length-filter sells quotes,
-    count_by-le-length sells quotes,
-  );
+      let sells = λ (quote : Quote). quote.sell == asset in
+      let each : All (λ (quote : Quote). quote.amount ≤ 2 ^ 59) (sellers_of asset quotes) =
+      All-filter sells (λ (quote : Quote). quote.amount ≤ 2 ^ 59) quotes (λ k d lt. (small k d lt).1) in
+      omega (
+        arith,
+        sum_by-le (λ (quote : Quote). quote.amount) (2 ^ 59) (sellers_of asset quotes) each,
+        length-filter sells quotes,
+        count_by-le-length sells quotes,
+      );
 }
