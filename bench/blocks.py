@@ -241,7 +241,7 @@ def chain(draw):
 
 
 def sparse_payments_on(ledger, draw, count):
-    """One payment each of so many accounts drawn."""
+    """One payment each of `count` accounts drawn."""
     ids = sorted(ledger.accounts)
     txs = []
     for id in sorted(draw.sample(ids, count)):
