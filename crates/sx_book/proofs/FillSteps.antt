@@ -1,5 +1,6 @@
 -- One fill after the other, along a list.
-use Rattle.std.proofs.Common.{◌≡◌, ℕ, zero, suc, ◌+◌, ◌-◌, ◌<◌, ◌≤◌, List, [], ◌∷◌, ◌++◌, length, map, take, drop, set, get_or, Option, Some, None, slice_get, IsSomeAnd, refl, sym, ap, subst, ◌∙◌, arith}
+use Rattle.std.proofs.Common.{◌≡◌, ℕ, zero, suc, ◌+◌, ◌-◌, ◌<◌, ◌≤◌, List, [], ◌∷◌, ◌++◌, length, map, take, drop}
+use Rattle.std.proofs.Common.{set, get_or, Option, Some, None, slice_get, IsSomeAnd, refl, sym, ap, subst, ◌∙◌, arith}
 use Rattle.std.specs.List.{AllByRecursion}
 use Rattle.std.specs.List.Sorted.{IsStrictlySortedBy}
 use Rattle.std.specs.Option.{option_map}
@@ -7,11 +8,13 @@ use Rattle.std.specs.declared.cmp.Ordering.TheVariants.{Less}
 use Rattle.std.specs.Ordering.{nat_cmp}
 use Rattle.std.proofs.lemmas.Bool.Decides.{nat_tests}
 use Rattle.std.proofs.lemmas.Grind.{common_steps}
-use Rattle.std.proofs.lemmas.List.{append_assoc, drop-drop, drop-map, get_or-set_same, length-append, map-append, set-get_or, set-set, take-map}
+use Rattle.std.proofs.lemmas.List.{append_assoc, drop-drop, drop-map, get_or-set_same, length-append, map-append}
+use Rattle.std.proofs.lemmas.List.{set-get_or, set-set, take-map}
 use Rattle.std.proofs.lemmas.Option.{same_Some, slice_get-map, slice_get_within}
 use Rattle.sx_book.specs.declared.store.Store.{Store}
 use Rattle.sx_book.specs.Books.{Fits, left_by, left_from, most_offers, places}
-use Rattle.sx_book.specs.Store.{Has, IsReduced, IsSound, SoFar, given_by, left_node, list_of, nodes_of, offers_in, offers_of}
+use Rattle.sx_book.specs.Store.{Has, IsReduced, IsSound, SoFar, given_by, left_node, list_of, nodes_of, offers_in}
+use Rattle.sx_book.specs.Store.{offers_of}
 use Rattle.sx_book.proofs.Fills.{left_at, left_nil, left_of_node, left_one}
 use Rattle.sx_book.proofs.Flat.{ahead, beyond, flat_around, flat_set}
 use Rattle.sx_book.proofs.Lists.{all_drop, all_from, all_parts, all_unmapped, all_weaker}

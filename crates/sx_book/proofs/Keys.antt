@@ -1,5 +1,6 @@
 -- The order of keys: by pairs first, and of lists that are sorted by it.
-use Rattle.std.proofs.Common.{◌≡◌, ℕ, zero, suc, ◌+◌, ◌*◌, ◌<◌, ◌≤◌, Bool, true, false, IsTrue, List, [], ◌∷◌, ◌++◌, map, Option, Some, None, inl, inr, refl, sym, ap, ◌∙◌, arith}
+use Rattle.std.proofs.Common.{◌≡◌, ℕ, zero, suc, ◌+◌, ◌*◌, ◌<◌, ◌≤◌, Bool, true, false, IsTrue, List, [], ◌∷◌, ◌++◌}
+use Rattle.std.proofs.Common.{map, Option, Some, None, inl, inr, refl, sym, ap, ◌∙◌, arith}
 use Rattle.std.specs.List.{AllByRecursion}
 use Rattle.std.specs.List.Sorted.{IsStrictlySortedBy}
 use Rattle.std.specs.declared.cmp.Ordering.{Ordering}
@@ -16,7 +17,8 @@ use Rattle.sx_book.proofs.Lists.{all_unmapped, all_weaker}
 use Rattle.sx_ledger.specs.declared.key.Key.{Key}
 use Rattle.sx_ledger.specs.contracts.key.KeyOrd.TheImpl as derived
 use Rattle.sx_ledger.specs.Order.{key_before, key_cmp, same_key}
-use Rattle.sx_ledger.proofs.KeyOrder.{key_cmp_total, key_cmp_derived, same_key_is, same_key_from, equal_is, equal_from, before_both, before_differs}
+use Rattle.sx_ledger.proofs.KeyOrder.{key_cmp_total, key_cmp_derived, same_key_is, same_key_from, equal_is}
+use Rattle.sx_ledger.proofs.KeyOrder.{equal_from, before_both, before_differs}
 
 -- the derived comparison is the order of keys
 pub cmp_same : derived.ghosts.cmp ≡ key_cmp

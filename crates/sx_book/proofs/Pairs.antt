@@ -1,5 +1,6 @@
 -- The offers of a pair are those of its list.
-use Rattle.std.proofs.Common.{◌≡◌, ◌≢◌, ℕ, zero, suc, ◌+◌, ◌<◌, List, [], ◌∷◌, ◌++◌, length, map, take, drop, get_or, Option, Some, None, slice_get, refl, sym, ap, subst, ◌∙◌, arith}
+use Rattle.std.proofs.Common.{◌≡◌, ◌≢◌, ℕ, zero, suc, ◌+◌, ◌<◌, List, [], ◌∷◌, ◌++◌, length, map, take, drop, get_or}
+use Rattle.std.proofs.Common.{Option, Some, None, slice_get, refl, sym, ap, subst, ◌∙◌, arith}
 use Rattle.std.specs.List.{AllByRecursion}
 use Rattle.std.specs.Option.{option_map}
 use Rattle.std.proofs.lemmas.List.{append-nil, map-append, map_more, take-append-drop}
@@ -8,7 +9,8 @@ use Rattle.std.proofs.lemmas.Option.{get_or_from_slice_get, slice_get-map, slice
 use Rattle.sx_book.specs.declared.store.Store.{Store}
 use Rattle.sx_book.specs.Store.{IsSound, list_of, nodes_of, offers_in, offers_of}
 use Rattle.sx_book.proofs.Flat.{ahead, beyond, flat_around}
-use Rattle.sx_book.proofs.Placed.{IsAhead, IsBeyond, is_pair, pair_ahead, pair_beyond, pair_here, placed_ahead, placed_beyond}
+use Rattle.sx_book.proofs.Placed.{IsAhead, IsBeyond, is_pair, pair_ahead, pair_beyond, pair_here, placed_ahead}
+use Rattle.sx_book.proofs.Placed.{placed_beyond}
 use Rattle.sx_book.proofs.Sound.{listed_at}
 use Rattle.sx_ledger.specs.declared.offer.Offer.{Offer}
 use Rattle.sx_ledger.specs.Bounds.{pair_of}

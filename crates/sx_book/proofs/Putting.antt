@@ -1,5 +1,7 @@
 -- What an offer that is put at its place makes of a store.
-use Rattle.std.proofs.Common.{◌≡◌, ℕ, zero, suc, ◌+◌, ◌<◌, ◌≤◌, Bool, true, false, List, [], ◌∷◌, ◌++◌, length, map, take, drop, set, get_or, Option, Some, None, slice_get, refl, sym, ap, subst, ◌∙◌, arith}
+use Rattle.std.proofs.Common.{◌≡◌, ℕ, zero, suc, ◌+◌, ◌<◌, ◌≤◌, Bool, true, false, List, [], ◌∷◌, ◌++◌, length, map}
+use Rattle.std.proofs.Common.{take, drop, set, get_or, Option, Some, None, slice_get, refl, sym, ap, subst, ◌∙◌}
+use Rattle.std.proofs.Common.{arith}
 use Rattle.std.specs.List.{AllByRecursion, insert}
 use Rattle.std.specs.List.Sorted.{IsStrictlySortedBy}
 use Rattle.std.specs.BTreeMap.{IsOrdered, insert_entry}
@@ -7,7 +9,8 @@ use Rattle.std.specs.declared.cmp.Ordering.TheVariants.{Less, Greater}
 use Rattle.std.proofs.lemmas.List.{length-append, length-map}
 use Rattle.sx_book.specs.declared.store.Store.{Store}
 use Rattle.sx_book.specs.Books.{most_offers}
-use Rattle.sx_book.specs.Store.{ArePlaced, Gap, IsAfter, IsIn, IsSound, entry_of, list_count, list_of, nodes_of, offers_in, offers_of}
+use Rattle.sx_book.specs.Store.{ArePlaced, Gap, IsAfter, IsIn, IsSound, entry_of, list_count, list_of, nodes_of}
+use Rattle.sx_book.specs.Store.{offers_in, offers_of}
 use Rattle.sx_book.proofs.Flat.{back, beyond, cut, cut_set, flat, front}
 use Rattle.sx_book.proofs.Keys.{cmp_same, greater_from, less_from, not_back}
 use Rattle.sx_book.proofs.Lists.{all_append, all_drop, all_parts, all_take}

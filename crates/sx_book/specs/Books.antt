@@ -1,5 +1,6 @@
 -- What a contract sees of `Books`, and what the calls make of it.
-use Rattle.std.specs.Prelude.{◌≡◌, ◌≢◌, ℕ, suc, ◌-◌, ◌^◌, ◌<◌, ◌≤◌, IsTrue, not, List, [], ◌∷◌, length, map, None, nat_lt, slice_get, IsSomeAnd, ◌==◌, if◌then◌else◌}
+use Rattle.std.specs.Prelude.{◌≡◌, ◌≢◌, ℕ, suc, ◌-◌, ◌^◌, ◌<◌, ◌≤◌, IsTrue, not, List, [], ◌∷◌, length, map, None}
+use Rattle.std.specs.Prelude.{nat_lt, slice_get, IsSomeAnd, ◌==◌, if◌then◌else◌}
 use Rattle.std.specs.List.{All, Contains, filter, sum_by}
 use Rattle.sx_base.specs.Ranges.{most_assets}
 use Rattle.sx_bytes.specs.Grammar.{in_order}

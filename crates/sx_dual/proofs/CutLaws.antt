@@ -17,7 +17,8 @@ both_sides true false x = omega arith
 both_sides false true x = omega arith
 both_sides false false x = refl
 
-pub in_is_out : (n set : ℕ) (y : ℕ → ℕ → ℕ) → ((asset : ℕ) → asset < n → IsBalanced n y asset) → sum_in n y set ≡ sum_out n y set
+pub in_is_out : (n set : ℕ) (y : ℕ → ℕ → ℕ) → ((asset : ℕ) → asset < n → IsBalanced n y asset) →
+    sum_in n y set ≡ sum_out n y set
 in_is_out n set y balanced =
     let w = λ (asset : ℕ). weight (is_in set asset) in
     let same = pair_sum-same n
@@ -39,8 +40,10 @@ pub cut_refutes : (n : ℕ) (low high : ℕ → ℕ → ℕ) (set : ℕ) → IsC
 cut_refutes n low high set cut y circulation =
     let least : sum_in n low set ≤ sum_in n y set =
     pair_sum-le n (λ s b. cond (goes_in set s b) (low s b) 0) (λ s b. cond (goes_in set s b) (y s b) 0)
-    (λ s b s_lt b_lt different. let at = circulation.within s b s_lt b_lt different in cond_le (goes_in set s b) (low s b) (y s b) at.at_least) in
+    (λ s b s_lt b_lt different. let at = circulation.within s b s_lt b_lt different in
+    cond_le (goes_in set s b) (low s b) (y s b) at.at_least) in
     let most : sum_out n y set ≤ sum_out n high set =
     pair_sum-le n (λ s b. cond (goes_out set s b) (y s b) 0) (λ s b. cond (goes_out set s b) (high s b) 0)
-    (λ s b s_lt b_lt different. let at = circulation.within s b s_lt b_lt different in cond_le (goes_out set s b) (y s b) (high s b) at.at_most) in
+    (λ s b s_lt b_lt different. let at = circulation.within s b s_lt b_lt different in
+    cond_le (goes_out set s b) (y s b) (high s b) at.at_most) in
     omega (arith, in_is_out n set y circulation.balanced)

@@ -6,7 +6,8 @@ use Rattle.std.proofs.Math.Nat.{mul-le-mul_right}
 use Rattle.sx_dual.specs.Circulation.{IsBalanced, IsGreatest, bought, sold, traded_value}
 use Rattle.sx_dual.specs.Fit.{Fits, gain_of}
 use Rattle.sx_dual.specs.Sums.{between, pair_sum, sum_below}
-use Rattle.sx_dual.proofs.SumLaws.{between-other, between-self, pair_sum-add, pair_sum-le, sum_below-same, sum_below-swap, sum_below-times}
+use Rattle.sx_dual.proofs.SumLaws.{between-other, between-self, pair_sum-add, pair_sum-le, sum_below-same}
+use Rattle.sx_dual.proofs.SumLaws.{sum_below-swap, sum_below-times}
 
 between-times_sold : (w : ℕ → ℕ) (y : ℕ → ℕ → ℕ) (s b : ℕ) → between (λ s b. w s * y s b) s b ≡ w s * between y s b
 between-times_sold w y s b =
@@ -28,11 +29,14 @@ pub weighed : (n : ℕ) (w : ℕ → ℕ) (y : ℕ → ℕ → ℕ) → ((asset 
 weighed n w y balanced =
     let by_sold : pair_sum n (λ s b. w s * y s b) ≡ sum_below n (λ s. w s * sold n y s) =
     sum_below-same n (λ s. sum_below n (λ b. between (λ s b. w s * y s b) s b)) (λ s. w s * sold n y s) (λ s lt.
-    sum_below-same n (λ b. between (λ s b. w s * y s b) s b) (λ b. w s * between y s b) (λ b b_lt. between-times_sold w y s b)
+    sum_below-same n (λ b. between (λ s b. w s * y s b) s b) (λ b. w s * between y s b)
+    (λ b b_lt. between-times_sold w y s b)
     ∙ sum_below-times n (w s) (λ b. between y s b)) in
-    let by_bought : sum_below n (λ b. sum_below n (λ s. between (λ s b. w b * y s b) s b)) ≡ sum_below n (λ b. w b * bought n y b) =
+    let by_bought : sum_below n (λ b. sum_below n (λ s. between (λ s b. w b * y s b) s b)) ≡ sum_below n
+    (λ b. w b * bought n y b) =
     sum_below-same n (λ b. sum_below n (λ s. between (λ s b. w b * y s b) s b)) (λ b. w b * bought n y b) (λ b lt.
-    sum_below-same n (λ s. between (λ s b. w b * y s b) s b) (λ s. w b * between y s b) (λ s s_lt. between-times_bought w y s b)
+    sum_below-same n (λ s. between (λ s b. w b * y s b) s b) (λ s. w b * between y s b)
+    (λ s s_lt. between-times_bought w y s b)
     ∙ sum_below-times n (w b) (λ s. between y s b)) in
     by_sold
     ∙ sum_below-same n (λ s. w s * sold n y s) (λ s. w s * bought n y s) (λ s lt. ap (λ x. w s * x) (balanced s lt))
@@ -75,13 +79,15 @@ gained : (ℕ → ℕ) → (ℕ → ℕ → ℕ) → (ℕ → ℕ → ℕ) → �
 gained w y other s b = y s b + w s * y s b + w b * other s b
 
 gained_sum : (n : ℕ) (w : ℕ → ℕ) (y other : ℕ → ℕ → ℕ)
-    → pair_sum n (gained w y other) ≡ traded_value n y + pair_sum n (λ s b. w s * y s b) + pair_sum n (λ s b. w b * other s b)
+    → pair_sum n (gained w y other) ≡ traded_value n y + pair_sum n (λ s b. w s * y s b) + pair_sum n
+    (λ s b. w b * other s b)
 unfolding gained
 gained_sum n w y other =
     pair_sum-add n (λ s b. y s b + w s * y s b) (λ s b. w b * other s b)
     ∙ ap (λ x. x + pair_sum n (λ s b. w b * other s b)) (pair_sum-add n y (λ s b. w s * y s b))
 
-pub fit_is_greatest : (n : ℕ) (low high y : ℕ → ℕ → ℕ) (potential : ℕ → ℕ) → Fits n low high y potential → IsGreatest n low high y
+pub fit_is_greatest : (n : ℕ) (low high y : ℕ → ℕ → ℕ) (potential : ℕ → ℕ) → Fits n low high y potential →
+    IsGreatest n low high y
 unfolding gained
 fit_is_greatest n low high y potential fits =
     record {
@@ -92,8 +98,15 @@ fit_is_greatest n low high y potential fits =
           let mine = fits.circulation.within s b s_lt b_lt different in
           let its = circulation.within s b s_lt b_lt different in
           let tight = fits.tight s b s_lt b_lt different in
-          tight_le (potential s) (potential b) (low s b) (high s b) (y s b) (other s b) mine.at_least mine.at_most its.at_least its.at_most
+          tight_le (potential s) (potential b) (low s b) (high s b) (y s b) (other s b) mine.at_least mine.at_most
+          its.at_least its.at_most
           (λ lt. tight.gaining (gain_above potential s b lt)) (λ lt. tight.losing (gain_below potential s b lt)))
           in
-          omega (arith, gained_sum n potential y other, gained_sum n potential other y, weighed n potential y fits.circulation.balanced, weighed n potential other circulation.balanced);
+          omega (
+            arith,
+            gained_sum n potential y other,
+            gained_sum n potential other y,
+            weighed n potential y fits.circulation.balanced,
+            weighed n potential other circulation.balanced,
+          );
     }

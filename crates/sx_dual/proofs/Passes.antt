@@ -5,7 +5,8 @@ use Rattle.sx_dual.specs.Fit.{Fits, IsTight}
 use Rattle.sx_dual.specs.Sums.{EachPair}
 
 pub fits_from : (n m : ℕ) (low high y : ℕ → ℕ → ℕ) (potential : ℕ → ℕ) → m ≡ n
-    → EachPair n (IsWithin low high y) → ((asset : ℕ) → asset < m → IsBalanced m y asset) → EachPair n (IsTight low high y potential)
+    → EachPair n (IsWithin low high y) → ((asset : ℕ) → asset < m → IsBalanced m y asset) →
+    EachPair n (IsTight low high y potential)
     → Fits n low high y potential
 fits_from n m low high y potential same within balanced tight =
     record {

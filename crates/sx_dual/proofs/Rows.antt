@@ -2,7 +2,8 @@
 use Rattle.std.proofs.Common.{◌≡◌, ◌≢◌, ℕ, ◌<◌, ◌≤◌, pos, ◌<ℤ◌, [], ◌∷◌, inl, inr, refl, arith}
 use Rattle.std.proofs.lemmas.Bool.{cases_eq}
 use Rattle.std.proofs.lemmas.Int.{ints}
-use Rattle.sx_dual.specs.Circulation.{HaveNoCirculation, IsBalanced, IsCirculation, IsWithin, bought, sold, traded_value}
+use Rattle.sx_dual.specs.Circulation.{HaveNoCirculation, IsBalanced, IsCirculation, IsWithin, bought, sold}
+use Rattle.sx_dual.specs.Circulation.{traded_value}
 use Rattle.sx_dual.specs.Cuts.{IsCut, sum_in, sum_out}
 use Rattle.sx_dual.specs.Fit.{Fits, IsTight, gain_of}
 use Rattle.sx_dual.specs.Sums.{EachPair, sum_below}
@@ -47,7 +48,8 @@ each_pair_of_three P a_b a_c b_a b_c c_a c_b sell buy sell_lt buy_lt =
     (each_of_three (λ b. 2 ≢ b → P 2 b) (λ _. c_a) (λ _. c_b) (λ other. absurd (other refl)) buy buy_lt)
     sell sell_lt
 
-within : (low high y : ℕ → ℕ → ℕ) (sell buy : ℕ) → low sell buy ≤ y sell buy → y sell buy ≤ high sell buy → IsWithin low high y sell buy
+within : (low high y : ℕ → ℕ → ℕ) (sell buy : ℕ) → low sell buy ≤ y sell buy → y sell buy ≤ high sell buy →
+    IsWithin low high y sell buy
 within low high y sell buy least most = record { at_least = least; at_most = most }
 
 -- ---- an offer that trades in part: A for B may trade 100, and B for A must trade 60
@@ -55,7 +57,9 @@ within low high y sell buy least most = record { at_least = least; at_most = mos
 sixty : IsCirculation 2 (two 0 60) (two 100 60) (two 60 60)
 unfolding sum_below
 sixty = record {
-  within = each_pair_of_two (IsWithin (two 0 60) (two 100 60) (two 60 60)) (record { at_least = omega arith; at_most = omega arith }) (record { at_least = omega arith; at_most = omega arith });
+  within = each_pair_of_two (IsWithin (two 0 60) (two 100 60) (two 60 60))
+      (record { at_least = omega arith; at_most = omega arith })
+      (record { at_least = omega arith; at_most = omega arith });
   balanced = each_of_two (IsBalanced 2 (two 60 60)) refl refl;
 }
 
@@ -136,9 +140,12 @@ greedy_circulates : IsCirculation 3 none most greedy
 unfolding sum_below
 greedy_circulates = record {
   within = each_pair_of_three (IsWithin none most greedy)
-      (within none most greedy 0 1 (omega arith) (omega arith)) (within none most greedy 0 2 (omega arith) (omega arith))
-      (within none most greedy 1 0 (omega arith) (omega arith)) (within none most greedy 1 2 (omega arith) (omega arith))
-      (within none most greedy 2 0 (omega arith) (omega arith)) (within none most greedy 2 1 (omega arith) (omega arith));
+      (within none most greedy 0 1 (omega arith) (omega arith))
+      (within none most greedy 0 2 (omega arith) (omega arith))
+      (within none most greedy 1 0 (omega arith) (omega arith))
+      (within none most greedy 1 2 (omega arith) (omega arith))
+      (within none most greedy 2 0 (omega arith) (omega arith))
+      (within none most greedy 2 1 (omega arith) (omega arith));
   balanced = each_of_three (IsBalanced 3 greedy) refl refl refl;
 }
 
@@ -179,7 +186,8 @@ unfolding sum_below
 fifteen_fits = record {
   circulation = record {
     within = each_pair_of_two (IsWithin (two 0 0) (two 15 16) (two 15 15))
-        (within (two 0 0) (two 15 16) (two 15 15) 0 1 (omega arith) (omega arith)) (within (two 0 0) (two 15 16) (two 15 15) 1 0 (omega arith) (omega arith));
+        (within (two 0 0) (two 15 16) (two 15 15) 0 1 (omega arith) (omega arith))
+        (within (two 0 0) (two 15 16) (two 15 15) 1 0 (omega arith) (omega arith));
     balanced = each_of_two (IsBalanced 2 (two 15 15)) refl refl;
   };
   tight = each_pair_of_two (IsTight (two 0 0) (two 15 16) (two 15 15) (potential_of (1 ∷ 0 ∷ [])))

@@ -42,7 +42,8 @@ sum_below-times zero w f = omega arith
 sum_below-times (suc n) w f = omega (arith, sum_below-times n w f, mul-add w (sum_below n f) (f n))
 
 -- two sums, in either order
-pub sum_below-swap : (n m : ℕ) (f : ℕ → ℕ → ℕ) → sum_below n (λ i. sum_below m (λ j. f i j)) ≡ sum_below m (λ j. sum_below n (λ i. f i j))
+pub sum_below-swap : (n m : ℕ) (f : ℕ → ℕ → ℕ) →
+    sum_below n (λ i. sum_below m (λ j. f i j)) ≡ sum_below m (λ j. sum_below n (λ i. f i j))
 unfolding sum_below
 sum_below-swap zero m f = sym (sum_below-zero m)
 sum_below-swap (suc n) m f =
@@ -75,18 +76,34 @@ pair_sum-le n f g le =
 
 pub pair_sum-same : (n : ℕ) (f g : ℕ → ℕ → ℕ) → EachPair n (λ s b. f s b ≡ g s b) → pair_sum n f ≡ pair_sum n g
 pair_sum-same n f g same =
-    omega (arith, pair_sum-le n f g (λ s b s_lt b_lt other. omega (arith, same s b s_lt b_lt other)), pair_sum-le n g f (λ s b s_lt b_lt other. omega (arith, same s b s_lt b_lt other)))
+    omega (
+      arith,
+      pair_sum-le n f g (λ s b s_lt b_lt other. omega (arith, same s b s_lt b_lt other)),
+      pair_sum-le n g f (λ s b s_lt b_lt other. omega (arith, same s b s_lt b_lt other)),
+    )
 
 between-add : (f g : ℕ → ℕ → ℕ) (s b : ℕ) → between (λ s b. f s b + g s b) s b ≡ between f s b + between g s b
 between-add f g s b =
     elim (cases_eq s b) [
-      | inl same ↦ omega (arith, between-self (λ s b. f s b + g s b) s b same, between-self f s b same, between-self g s b same)
-      | inr other ↦ omega (arith, between-other (λ s b. f s b + g s b) s b other, between-other f s b other, between-other g s b other)
+      | inl same ↦ omega (
+        arith,
+        between-self (λ s b. f s b + g s b) s b same,
+        between-self f s b same,
+        between-self g s b same,
+      )
+      | inr other ↦ omega (
+        arith,
+        between-other (λ s b. f s b + g s b) s b other,
+        between-other f s b other,
+        between-other g s b other,
+      )
     ]
 
 pub pair_sum-add : (n : ℕ) (f g : ℕ → ℕ → ℕ) → pair_sum n (λ s b. f s b + g s b) ≡ pair_sum n f + pair_sum n g
 pair_sum-add n f g =
-    sum_below-same n (λ s. sum_below n (λ b. between (λ s b. f s b + g s b) s b)) (λ s. sum_below n (λ b. between f s b) + sum_below n (λ b. between g s b))
-    (λ s lt. sum_below-same n (λ b. between (λ s b. f s b + g s b) s b) (λ b. between f s b + between g s b) (λ b b_lt. between-add f g s b)
+    sum_below-same n (λ s. sum_below n (λ b. between (λ s b. f s b + g s b) s b))
+    (λ s. sum_below n (λ b. between f s b) + sum_below n (λ b. between g s b))
+    (λ s lt. sum_below-same n (λ b. between (λ s b. f s b + g s b) s b) (λ b. between f s b + between g s b)
+    (λ b b_lt. between-add f g s b)
     ∙ sum_below-add n (λ b. between f s b) (λ b. between g s b))
     ∙ sum_below-add n (λ s. sum_below n (λ b. between f s b)) (λ s. sum_below n (λ b. between g s b))

@@ -54,4 +54,5 @@ pub record AreBounds (bounds : BoundsTable) : Type 0 where
   pub assets : IsAssetCount bounds.assets
   pub low : IsTable bounds.assets bounds.low
   pub high : IsTable bounds.assets bounds.high
-  pub ordered : (sell buy : ℕ) → sell < bounds.assets → buy < bounds.assets → low_of bounds sell buy ≤ high_of bounds sell buy
+  pub ordered : (sell buy : ℕ) → sell < bounds.assets → buy < bounds.assets →
+      low_of bounds sell buy ≤ high_of bounds sell buy

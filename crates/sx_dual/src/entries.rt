@@ -13,7 +13,7 @@ pub(crate) fn asset_of(number: u32) -> AssetId
     AssetId::new(number as u8).unwrap()
 }
 
-// The entry of the pair among so many assets.
+// The entry of the pair, where there are this many assets.
 pub(crate) fn entry(entries: &[u128], assets: u32, sell: AssetId, buy: AssetId) -> u128
     requires table { IsTable assets entries.now }
     requires few { assets ≤ 32 }

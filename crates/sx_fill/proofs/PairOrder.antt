@@ -1,5 +1,6 @@
 -- What an offer trades, from what those in front of it have.
-use Rattle.std.proofs.Common.{◌≡◌, ℕ, suc, ◌+◌, ◌-◌, ◌*◌, ◌^◌, ◌<◌, ◌≤◌, min, true, List, [], ◌∷◌, ◌++◌, length, take, drop, get_or, None, refl, sym, ap, subst, ◌∙◌, append_assoc, arith}
+use Rattle.std.proofs.Common.{◌≡◌, ℕ, suc, ◌+◌, ◌-◌, ◌*◌, ◌^◌, ◌<◌, ◌≤◌, min, true, List, [], ◌∷◌, ◌++◌, length, take}
+use Rattle.std.proofs.Common.{drop, get_or, None, refl, sym, ap, subst, ◌∙◌, append_assoc, arith}
 use Rattle.std.specs.List.{AllByRecursion, filter}
 use Rattle.std.proofs.Math.Nat.{mul-le-mul, mul-le-mul_left, min-eq_left}
 use Rattle.std.proofs.Math.Seq.{drop-cons}
@@ -56,7 +57,8 @@ module _ (sell buy y first : ℕ) (whole : List Offer) (ordered : in_order key_b
       sym (take-append-drop k whole) ∙ ap (λ (xs : List Offer). take k whole ++ xs) (drop-cons whole k x lt)
       ∙ ap (λ (z : Offer). take k whole ++ z ∷ drop (suc k) whole) (sym is)
 
-  more_taken : (k : ℕ) (x : Offer) → k < length whole → x ≡ get_or whole k x → take (k + 1) whole ≡ take k whole ++ x ∷ []
+  more_taken : (k : ℕ) (x : Offer) → k < length whole → x ≡ get_or whole k x →
+      take (k + 1) whole ≡ take k whole ++ x ∷ []
   more_taken k x lt is = take_more whole k x lt ∙ ap (λ (z : Offer). take k whole ++ z ∷ []) (sym is)
 
   pub more_filled : (k left value up down : ℕ) (x : Offer) → k < length whole → x ≡ get_or whole k x
@@ -66,7 +68,8 @@ module _ (sell buy y first : ℕ) (whole : List Offer) (ordered : in_order key_b
       ≡ filled (take (k + 1) whole)
   more_filled k left value up down x lt at is some value_is gives gets =
       let worth : pair_value sell y whole x ≡ value =
-      pair_value_is sell buy y whole (rising_is whole ordered) (take k whole) (drop (suc k) whole) x (parts_at k x lt at)
+      pair_value_is sell buy y whole (rising_is whole ordered) (take k whole) (drop (suc k) whole) x
+      (parts_at k x lt at)
       ∙ ap (λ (z : ℕ). min z (sell * x.amount)) (sym is) ∙ sym value_is in
       let of : ℕ → Fill =
       λ v. record { place = first + k; value = v; gives = rounded_up v sell; gets = rounded_down v buy } in
@@ -75,7 +78,8 @@ module _ (sell buy y first : ℕ) (whole : List Offer) (ordered : in_order key_b
       ap (λ (n : ℕ). record { place = first + k; value = value; gives = n; gets = down }) gives
       ∙ ap (λ (n : ℕ). record { place = first + k; value = value; gives = rounded_up value sell; gets = n }) gets in
       let same : fill ≡ pair_fill sell buy y whole (first + k) x = made ∙ ap of (sym worth) in
-      let place : first + length (take k whole) ≡ first + k = ap (λ (n : ℕ). first + n) (length-take-le k whole (omega arith)) in
+      let place : first + length (take k whole) ≡ first + k =
+      ap (λ (n : ℕ). first + n) (length-take-le k whole (omega arith)) in
       let one : trading (pair_fill sell buy y whole) (first + k) (x ∷ []) ≡ fill ∷ [] =
       ap (λ (f : Fill). kept f []) (sym same) ∙ rw (lt-ltb 0 value some) refl in
       sym (ap filled (more_taken k x lt at) ∙ trading-append (pair_fill sell buy y whole) first (take k whole) (x ∷ [])
@@ -92,12 +96,15 @@ module _ (sell buy y first : ℕ) (whole : List Offer) (ordered : in_order key_b
   pub all_filled : (k left : ℕ) → left ≡ left_after k → left ≡ 0 → filled (take k whole) ≡ filled whole
   all_filled k left is none =
       let rest : trading (pair_fill sell buy y whole) (first + length (take k whole)) (drop k whole) ≡ [] =
-      none_left sell buy y whole (rising_is whole ordered) (take k whole) (drop k whole) (first + length (take k whole)) (sym (take-append-drop k whole)) (sym is ∙ none) in
-      sym (ap filled (sym (take-append-drop k whole)) ∙ trading-append (pair_fill sell buy y whole) first (take k whole) (drop k whole)
+      none_left sell buy y whole (rising_is whole ordered) (take k whole) (drop k whole)
+      (first + length (take k whole)) (sym (take-append-drop k whole)) (sym is ∙ none) in
+      sym (ap filled (sym (take-append-drop k whole)) ∙
+      trading-append (pair_fill sell buy y whole) first (take k whole) (drop k whole)
       ∙ ap (λ (fs : List Fill). filled (take k whole) ++ fs) rest ∙ append-nil (filled (take k whole)))
 
 -- what trades where something is left is worth something
-pub some_value : (left price amount value : ℕ) → 2 ^ 8 ≤ price → 1 ≤ amount → 0 < left → value ≡ min left (price * amount)
+pub some_value : (left price amount value : ℕ) → 2 ^ 8 ≤ price → 1 ≤ amount → 0 < left →
+    value ≡ min left (price * amount)
     → 0 < value
 some_value left price amount value high some more is =
     let e : 2 ^ 8 * 1 ≤ price * amount = mul-le-mul high some in omega arith

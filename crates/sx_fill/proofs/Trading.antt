@@ -18,7 +18,8 @@ pub trading-append : (f : ℕ → Offer → Fill) (place : ℕ) (xs ys : List Of
 trading-append f place [] ys = let e : place ≡ place + 0 = omega arith in ap (λ (p : ℕ). trading f p ys) e
 trading-append f place (x ∷ xs) ys =
     let next : suc place + length xs ≡ place + suc (length xs) = omega arith in
-    ap (kept (f place x)) (trading-append f (suc place) xs ys ∙ ap (λ (p : ℕ). trading f (suc place) xs ++ trading f p ys) next)
+    ap (kept (f place x)) (trading-append f (suc place) xs ys ∙
+    ap (λ (p : ℕ). trading f (suc place) xs ++ trading f p ys) next)
     ∙ kept-append (f place x) (trading f (suc place) xs) (trading f (place + suc (length xs)) ys)
 
 -- two rules that say the same of each of these offers

@@ -7,7 +7,8 @@ use Rattle.std.proofs.lemmas.Grind.{common_steps}
 use Rattle.sx_links.specs.declared.pool.Place.{Place}
 use Rattle.sx_links.specs.declared.pool.Place.TheVariants.{Free, Front, After}
 use Rattle.sx_links.specs.declared.pool.Pool.{Pool}
-use Rattle.sx_links.specs.Pool.{next_of, before_of, slot_of, value_of, HasPlace, Mutual, IsLoose, SetsNext, Joins, Inserts, Removes, Refills, Appends}
+use Rattle.sx_links.specs.Pool.{next_of, before_of, slot_of, value_of, HasPlace, Mutual, IsLoose, SetsNext, Joins}
+use Rattle.sx_links.specs.Pool.{Inserts, Removes, Refills, Appends}
 
 -- two places are one or not
 pub cases_place : (p q : Place) → (p ≡ q) ⊎ (p ≢ q)
@@ -15,11 +16,13 @@ cases_place Free Free = inl refl
 cases_place Free (Front l) = inr (λ e. cc)
 cases_place Free (After k) = inr (λ e. cc)
 cases_place (Front l) Free = inr (λ e. cc)
-cases_place (Front l) (Front m) = elim (cases_eq l m) [ inl e ↦ inl (ap Front e) | inr n ↦ inr (λ e. n (let f = e in cc)) ]
+cases_place (Front l) (Front m) =
+    elim (cases_eq l m) [ inl e ↦ inl (ap Front e) | inr n ↦ inr (λ e. n (let f = e in cc)) ]
 cases_place (Front l) (After k) = inr (λ e. cc)
 cases_place (After k) Free = inr (λ e. cc)
 cases_place (After k) (Front l) = inr (λ e. cc)
-cases_place (After k) (After j) = elim (cases_eq k j) [ inl e ↦ inl (ap After e) | inr n ↦ inr (λ e. n (let f = e in cc)) ]
+cases_place (After k) (After j) =
+    elim (cases_eq k j) [ inl e ↦ inl (ap After e) | inr n ↦ inr (λ e. n (let f = e in cc)) ]
 
 module _ {T : Type 0} where
   -- a node that says what it stands behind is there
@@ -40,13 +43,15 @@ module _ {T : Type 0} where
   HasPlace-followed p (After k) m h = grind (arith, slice_get_past)
 
   -- a place stays where the pool keeps its size
-  pub HasPlace-same : (p r : Pool T) (q : Place) → length r.fronts.items ≡ length p.fronts.items → length r.nodes.items ≡ length p.nodes.items → HasPlace p q → HasPlace r q
+  pub HasPlace-same : (p r : Pool T) (q : Place) → length r.fronts.items ≡ length p.fronts.items →
+      length r.nodes.items ≡ length p.nodes.items → HasPlace p q → HasPlace r q
   HasPlace-same p r Free fronts nodes has = tt
   HasPlace-same p r (Front l) fronts nodes has = rw fronts has
   HasPlace-same p r (After k) fronts nodes has = rw nodes has
 
   -- a node follows the place that it says to stand behind, if any
-  pub follows_before : (p : Pool T) (q r : Place) (m : ℕ) → Mutual p → next_of p q ≡ Some m → before_of p m ≡ Some r → next_of p r ≡ Some m
+  pub follows_before : (p : Pool T) (q r : Place) (m : ℕ) → Mutual p → next_of p q ≡ Some m →
+      before_of p m ≡ Some r → next_of p r ≡ Some m
   follows_before p q r m agrees follows says =
       let f = agrees q m follows in
       let same : q ≡ r = cc in
@@ -59,7 +64,8 @@ module _ {T : Type 0} where
       let g = agrees r m second in
       cc
 
-  pub Mutual-attach : (a b c : Pool T) (n : ℕ) (p : Place) → p ≢ After n → Mutual a → IsLoose a n → Joins a b (After n) (next_of a p) → Joins b c p (Some n) → Mutual c
+  pub Mutual-attach : (a b c : Pool T) (n : ℕ) (p : Place) → p ≢ After n → Mutual a → IsLoose a n →
+      Joins a b (After n) (next_of a p) → Joins b c p (Some n) → Mutual c
   Mutual-attach a b c n p apart agrees loose first second q m h = by_place (cases_place q p) (cases_place q (After n))
     where
       by_place : (q ≡ p) ⊎ (q ≢ p) → (q ≡ After n) ⊎ (q ≢ After n) → before_of c m ≡ Some q
@@ -67,7 +73,8 @@ module _ {T : Type 0} where
           let found : ◌≡◌ {A = Option ℕ} (Some n) (Some m) = cc in
           second.back m found ∙ ap Some (sym same)
       by_place (inr other) (inl same) =
-          let found : next_of a p ≡ Some m = sym first.after ∙ sym (second.others (After n) (λ e. apart (sym e))) ∙ ap (next_of c) (sym same) ∙ h in
+          let found : next_of a p ≡ Some m = sym first.after ∙ sym (second.others (After n) (λ e. apart (sym e))) ∙
+          ap (next_of c) (sym same) ∙ h in
           let fresh : ◌≢◌ {A = Option ℕ} (Some n) (Some m) = λ e. loose p (found ∙ sym e) in
           second.backs m fresh ∙ first.back m found ∙ ap Some (sym same)
       by_place (inr other) (inr further) =
@@ -76,7 +83,8 @@ module _ {T : Type 0} where
           let unmoved : next_of a p ≢ Some m = λ e. other (one_before a q p m agrees found e) in
           second.backs m fresh ∙ first.backs m unmoved ∙ agrees q m found
 
-  pub Inserts-joins : (a b c : Pool T) (n : ℕ) (p : Place) → p ≢ After n → Mutual a → IsLoose a n → Joins a b (After n) (next_of a p) → Joins b c p (Some n) → Inserts a c n p
+  pub Inserts-joins : (a b c : Pool T) (n : ℕ) (p : Place) → p ≢ After n → Mutual a → IsLoose a n →
+      Joins a b (After n) (next_of a p) → Joins b c p (Some n) → Inserts a c n p
   Inserts-joins a b c n p apart agrees loose first second =
       record {
         agrees = Mutual-attach a b c n p apart agrees loose first second;
@@ -89,17 +97,21 @@ module _ {T : Type 0} where
         capacity = second.capacity ∙ first.capacity;
       }
 
-  module _ (a b c : Pool T) (n : ℕ) (p : Place) (agrees : Mutual a) (follows : next_of a p ≡ Some n) (apart : p ≢ After n) (first : SetsNext a b (After n) None) (second : Joins b c p (next_of a (After n))) where
+  module _ (a b c : Pool T) (n : ℕ) (p : Place) (agrees : Mutual a) (follows : next_of a p ≡ Some n)
+      (apart : p ≢ After n) (first : SetsNext a b (After n) None) (second : Joins b c p (next_of a (After n))) where
     -- where a node follows a place after the writes, that place led there before, or is p
-    cut : (q : Place) (m : ℕ) → next_of c q ≡ Some m → ((q ≡ p) × (next_of a (After n) ≡ Some m)) ⊎ ((q ≢ p) × (q ≢ After n) × (next_of a q ≡ Some m))
+    cut : (q : Place) (m : ℕ) → next_of c q ≡ Some m →
+        ((q ≡ p) × (next_of a (After n) ≡ Some m)) ⊎ ((q ≢ p) × (q ≢ After n) × (next_of a q ≡ Some m))
     cut q m h = by_place (cases_place q p) (cases_place q (After n))
       where
-        by_place : (q ≡ p) ⊎ (q ≢ p) → (q ≡ After n) ⊎ (q ≢ After n) → ((q ≡ p) × (next_of a (After n) ≡ Some m)) ⊎ ((q ≢ p) × (q ≢ After n) × (next_of a q ≡ Some m))
+        by_place : (q ≡ p) ⊎ (q ≢ p) → (q ≡ After n) ⊎ (q ≢ After n) →
+            ((q ≡ p) × (next_of a (After n) ≡ Some m)) ⊎ ((q ≢ p) × (q ≢ After n) × (next_of a q ≡ Some m))
         by_place (inl same) _ = inl (same, sym second.after ∙ ap (next_of c) (sym same) ∙ h)
         by_place (inr other) (inl same) =
             let none : next_of c q ≡ None = second.others q other ∙ ap (next_of b) same ∙ first.after in
             absurd cc
-        by_place (inr other) (inr further) = inr (other, further, sym (first.others q further) ∙ sym (second.others q other) ∙ h)
+        by_place (inr other) (inr further) =
+            inr (other, further, sym (first.others q further) ∙ sym (second.others q other) ∙ h)
 
     Mutual-detach : Mutual c
     Mutual-detach q m h =

@@ -1,5 +1,7 @@
 -- What a sound pool tells of its lists, and what each call makes of it.
-use Rattle.std.proofs.Common.{◌≡◌, ◌≢◌, ℕ, zero, suc, ◌+◌, ◌-◌, ◌^◌, ◌<◌, ◌≤◌, List, [], ◌∷◌, ◌++◌, length, take, drop, get_or, set, replicate, Option, Some, None, IsSome, slice_get, refl, sym, ap, subst, ◌∙◌, arith, add-one}
+use Rattle.std.proofs.Common.{◌≡◌, ◌≢◌, ℕ, zero, suc, ◌+◌, ◌-◌, ◌^◌, ◌<◌, ◌≤◌, List, [], ◌∷◌, ◌++◌, length, take}
+use Rattle.std.proofs.Common.{drop, get_or, set, replicate, Option, Some, None, IsSome, slice_get, refl, sym, ap}
+use Rattle.std.proofs.Common.{subst, ◌∙◌, arith, add-one}
 use Rattle.std.specs.List.{insert, remove, sum_by}
 use Rattle.std.specs.Option.{ForSome}
 use Rattle.std.proofs.lemmas.Grind.{common_steps}
@@ -11,11 +13,16 @@ use Rattle.std.proofs.lemmas.Option.{slice_get_within, slice_get_past}
 use Rattle.sx_links.specs.declared.pool.Place.{Place}
 use Rattle.sx_links.specs.declared.pool.Place.TheVariants.{Free, Front, After}
 use Rattle.sx_links.specs.declared.pool.Pool.{Pool}
-use Rattle.sx_links.specs.Lists.{Lists, list_at, node_at, rest_from, node_count, StandsAt, StandsIn, Stands, AreDisjoint}
-use Rattle.sx_links.specs.Pool.{Run, end_of, place_of, next_of, before_of, slot_of, value_of, vacant_of, IsLoose, IsLinked, HasPlace, Inserts, Removes, Refills, lists_of, Chains, Holds, IsSound}
+use Rattle.sx_links.specs.Lists.{Lists, list_at, node_at, rest_from, node_count, StandsAt, StandsIn, Stands}
+use Rattle.sx_links.specs.Lists.{AreDisjoint}
+use Rattle.sx_links.specs.Pool.{Run, end_of, place_of, next_of, before_of, slot_of, value_of, vacant_of, IsLoose}
+use Rattle.sx_links.specs.Pool.{IsLinked, HasPlace, Inserts, Removes, Refills, lists_of, Chains, Holds, IsSound}
 use Rattle.sx_links.proofs.Linking.{before_within, value_within}
-use Rattle.sx_links.proofs.Runs.{Beyond-front, Beyond-at, Simple-place, rest_from-at, end_of-take, Run-first, Run-after, Run-value, Run-before, Beyond-next}
-use Rattle.sx_links.proofs.Chains.{within_at, free_is, Front-free, Simple-list, lists_of-sound, AreDisjoint-chains, Chains-detach, Chains-detach_free, Chains-attach, Chains-attach_free, Chains-refill, Chains-revalue, Chains-moved}
+use Rattle.sx_links.proofs.Runs.{Beyond-front, Beyond-at, Simple-place, rest_from-at, end_of-take, Run-first}
+use Rattle.sx_links.proofs.Runs.{Run-after, Run-value, Run-before, Beyond-next}
+use Rattle.sx_links.proofs.Chains.{within_at, free_is, Front-free, Simple-list, lists_of-sound, AreDisjoint-chains}
+use Rattle.sx_links.proofs.Chains.{Chains-detach, Chains-detach_free, Chains-attach, Chains-attach_free}
+use Rattle.sx_links.proofs.Chains.{Chains-refill, Chains-revalue, Chains-moved}
 
 module _ {T : Type 0} where
   -- a place of a node is within the list
@@ -23,7 +30,8 @@ module _ {T : Type 0} where
   placed lists l i n stands = grind (arith, slice_get_past)
 
   -- and the nodes up to it end behind it
-  pub end_named : (lists : List (List (ℕ × T))) (l i n : ℕ) → StandsAt lists l i n → end_of (Front l) (take (i + 1) (list_at lists l)) ≡ After n
+  pub end_named : (lists : List (List (ℕ × T))) (l i n : ℕ) → StandsAt lists l i n →
+      end_of (Front l) (take (i + 1) (list_at lists l)) ≡ After n
   end_named lists l i n stands = rw add-one (end_of-take (Front l) (list_at lists l) i n stands)
 
   module _ (p : Pool T) (lists : List (List (ℕ × T))) (spare : ℕ) (sound : IsSound p lists spare) where
@@ -31,20 +39,28 @@ module _ {T : Type 0} where
     disjoint = AreDisjoint-chains p lists sound.holds.free sound.holds.chains
 
     pub first_is : (l : ℕ) → l < length lists → next_of p (Front l) ≡ node_at (list_at lists l) 0
-    first_is l within = Run-first (next_of p) (value_of p) (Front l) (list_at lists l) (sound.holds.chains.listed l within)
+    first_is l within = Run-first (next_of p) (value_of p) (Front l) (list_at lists l)
+        (sound.holds.chains.listed l within)
 
     pub next_is : (l i n : ℕ) → StandsAt lists l i n → next_of p (After n) ≡ node_at (list_at lists l) (i + 1)
-    next_is l i n stands = rw add-one (Run-after (next_of p) (value_of p) (Front l) (list_at lists l) i n (sound.holds.chains.listed l (within_at lists l i n stands)) stands)
+    next_is l i n stands = rw add-one
+        (Run-after (next_of p) (value_of p) (Front l) (list_at lists l) i n
+        (sound.holds.chains.listed l (within_at lists l i n stands)) stands)
 
     -- what is left of a list from a place on
-    pub rest_is : (l i : ℕ) (o : Option ℕ) → l < length lists → o ≡ node_at (list_at lists l) i → rest_from o (list_at lists l) ≡ drop i (list_at lists l)
+    pub rest_is : (l i : ℕ) (o : Option ℕ) → l < length lists → o ≡ node_at (list_at lists l) i →
+        rest_from o (list_at lists l) ≡ drop i (list_at lists l)
     rest_is l i o within here =
-        ap (λ q. rest_from q (list_at lists l)) here ∙ rest_from-at (list_at lists l) i (Simple-list p lists sound.holds.free sound.holds.chains l within)
+        ap (λ q. rest_from q (list_at lists l)) here ∙
+        rest_from-at (list_at lists l) i (Simple-list p lists sound.holds.free sound.holds.chains l within)
 
-    found : (l i n : ℕ) → StandsAt lists l i n → (v : T) × (slice_get (list_at lists l) i ≡ Some (n, v)) × (value_of p n ≡ Some v)
-    found l i n stands = Run-value (next_of p) (value_of p) (Front l) (list_at lists l) i n (sound.holds.chains.listed l (within_at lists l i n stands)) stands
+    found : (l i n : ℕ) → StandsAt lists l i n → (v : T) × (slice_get (list_at lists l) i ≡ Some (n, v)) ×
+        (value_of p n ≡ Some v)
+    found l i n stands = Run-value (next_of p) (value_of p) (Front l) (list_at lists l) i n
+        (sound.holds.chains.listed l (within_at lists l i n stands)) stands
 
-    pub value_is : (l i n : ℕ) (v : T) → StandsAt lists l i n → value_of p n ≡ Some v → slice_get (list_at lists l) i ≡ Some (n, v)
+    pub value_is : (l i n : ℕ) (v : T) → StandsAt lists l i n → value_of p n ≡ Some v →
+        slice_get (list_at lists l) i ≡ Some (n, v)
     value_is l i n v stands has =
         let f = found l i n stands in
         let g = f.2 in
@@ -71,8 +87,11 @@ module _ {T : Type 0} where
         record {
           place = end_of (Front l) (take i xs);
           follows = follows;
-          apart = λ e. (let again : node_at xs (suc i) ≡ Some n = sym (Run-after (next_of p) (value_of p) (Front l) xs i n run stands.2) ∙ ap (next_of p) (sym e) ∙ follows in
-              let same = Simple-place xs i (suc i) n (Simple-list p lists sound.holds.free sound.holds.chains l within) stands.2 again in
+          apart = λ e. (let again : node_at xs (suc i) ≡ Some n =
+              sym (Run-after (next_of p) (value_of p) (Front l) xs i n run stands.2) ∙ ap (next_of p) (sym e) ∙
+              follows in
+              let same = Simple-place xs i (suc i) n
+              (Simple-list p lists sound.holds.free sound.holds.chains l within) stands.2 again in
               omega arith);
         }
 
@@ -80,15 +99,19 @@ module _ {T : Type 0} where
     pub free_some : 0 < spare → IsSome (next_of p Free)
     free_some room = by_free sound.holds.free sound.holds.counted sound.holds.chains.freed
       where
-        by_free : (free : List (ℕ × Unit {0})) → length free ≡ spare → Run (next_of p) (vacant_of p) Free free → IsSome (next_of p Free)
+        by_free : (free : List (ℕ × Unit {0})) → length free ≡ spare → Run (next_of p) (vacant_of p) Free free →
+            IsSome (next_of p Free)
         by_free [] counted run = absurd (omega arith)
         by_free (x ∷ xs) counted run = rw run.0 refl
 
   -- the first free node, and the others
-  pub first_free : (p : Pool T) (lists : List (List (ℕ × T))) (spare n : ℕ) → Holds p lists spare → next_of p Free ≡ Some n → (free : List (ℕ × Unit {0})) × Chains p lists ((n, tt) ∷ free) × (length free + 1 ≡ spare)
+  pub first_free : (p : Pool T) (lists : List (List (ℕ × T))) (spare n : ℕ) → Holds p lists spare →
+      next_of p Free ≡ Some n → (free : List (ℕ × Unit {0})) × Chains p lists ((n, tt) ∷ free) ×
+      (length free + 1 ≡ spare)
   first_free p lists spare n holds follows = by_free holds.free holds.counted holds.chains
     where
-      by_free : (free : List (ℕ × Unit {0})) → length free ≡ spare → Chains p lists free → (rest : List (ℕ × Unit {0})) × Chains p lists ((n, tt) ∷ rest) × (length rest + 1 ≡ spare)
+      by_free : (free : List (ℕ × Unit {0})) → length free ≡ spare → Chains p lists free →
+          (rest : List (ℕ × Unit {0})) × Chains p lists ((n, tt) ∷ rest) × (length rest + 1 ≡ spare)
       by_free [] counted chains =
           let none = chains.freed in
           absurd cc
@@ -103,16 +126,20 @@ module _ {T : Type 0} where
     fresh follows l i stands =
         let chains = sound.holds.chains in
         let run = chains.listed l (within_at lists l i n stands) in
-        Beyond-at n (list_at lists l) i (Beyond-next (next_of p) (value_of p) (before_of p) chains.agrees (Front l) (list_at lists l) Free n run (λ e. Front-free l (sym e)) (Beyond-front Free (list_at lists l) free_is) follows) stands
+        Beyond-at n (list_at lists l) i
+        (Beyond-next (next_of p) (value_of p) (before_of p) chains.agrees (Front l) (list_at lists l) Free n run
+        (λ e. Front-free l (sym e)) (Beyond-front Free (list_at lists l) free_is) follows) stands
 
     -- the place that a call names is there, and is not behind the first free node
-    pub HasPlace-named : (l : ℕ) (after : Option ℕ) → l < length lists → ForSome after (StandsIn lists l) → HasPlace p (place_of l after)
+    pub HasPlace-named : (l : ℕ) (after : Option ℕ) → l < length lists → ForSome after (StandsIn lists l) →
+        HasPlace p (place_of l after)
     HasPlace-named l None within stands = omega (arith, sound.holds.chains.fronts)
     HasPlace-named l (Some m) within stands =
         let at = stands m refl in
         is_within p lists spare sound m (l, at.0, at.1)
 
-    pub apart_named : next_of p Free ≡ Some n → (l : ℕ) (after : Option ℕ) → ForSome after (StandsIn lists l) → place_of l after ≢ After n
+    pub apart_named : next_of p Free ≡ Some n → (l : ℕ) (after : Option ℕ) → ForSome after (StandsIn lists l) →
+        place_of l after ≢ After n
     apart_named follows l None stands e = absurd cc
     apart_named follows l (Some m) stands e =
         let at = stands m refl in
@@ -123,7 +150,8 @@ module _ {T : Type 0} where
     IsLinked-free follows = record { place = Free; follows = follows; apart = free_is n }
 
     -- what `unlink` leaves
-    pub IsSound-unlink : (a b c : Pool T) (l i : ℕ) → StandsAt lists l i n → Removes p a n → Refills a b n None → Inserts b c n Free → IsSound c (set lists l (remove (list_at lists l) i)) (spare + 1)
+    pub IsSound-unlink : (a b c : Pool T) (l i : ℕ) → StandsAt lists l i n → Removes p a n → Refills a b n None →
+        Inserts b c n Free → IsSound c (set lists l (remove (list_at lists l) i)) (spare + 1)
     IsSound-unlink a b c l i stands cut fill put =
         let within = within_at lists l i n stands in
         let xs = list_at lists l in
@@ -145,7 +173,8 @@ module _ {T : Type 0} where
         }
 
     -- what `set_value` leaves
-    pub IsSound-set : (r : Pool T) (l i : ℕ) (v : T) → StandsAt lists l i n → Refills p r n (Some v) → IsSound r (set lists l (set (list_at lists l) i (n, v))) spare
+    pub IsSound-set : (r : Pool T) (l i : ℕ) (v : T) → StandsAt lists l i n → Refills p r n (Some v) →
+        IsSound r (set lists l (set (list_at lists l) i (n, v))) spare
     IsSound-set r l i v stands fill =
         let within = within_at lists l i n stands in
         let xs = list_at lists l in
@@ -163,7 +192,10 @@ module _ {T : Type 0} where
         }
 
     -- what `push_after` leaves
-    pub IsSound-push : (a b c : Pool T) (l i : ℕ) (v : T) (place : Place) → next_of p Free ≡ Some n → l < length lists → i ≤ length (list_at lists l) → end_of (Front l) (take i (list_at lists l)) ≡ place → Removes p a n → Refills a b n (Some v) → Inserts b c n place → IsSound c (set lists l (insert (list_at lists l) i (n, v))) (spare - 1)
+    pub IsSound-push : (a b c : Pool T) (l i : ℕ) (v : T) (place : Place) → next_of p Free ≡ Some n →
+        l < length lists → i ≤ length (list_at lists l) → end_of (Front l) (take i (list_at lists l)) ≡ place →
+        Removes p a n → Refills a b n (Some v) → Inserts b c n place →
+        IsSound c (set lists l (insert (list_at lists l) i (n, v))) (spare - 1)
     IsSound-push a b c l i v place follows within at_most at_end cut fill put =
         let xs = list_at lists l in
         let ys = insert xs i (n, v) in
@@ -176,7 +208,8 @@ module _ {T : Type 0} where
         record {
           holds = record {
             free = free.0;
-            chains = Chains-attach b c lists n free.0 l i v second loose (subst (λ q. Inserts b c n q) (sym at_end) put) (rw fill.here refl) within;
+            chains = Chains-attach b c lists n free.0 l i v second loose
+                (subst (λ q. Inserts b c n q) (sym at_end) put) (rw fill.here refl) within;
             counted = omega (arith, free.2);
           };
           total = omega (arith, sound.total, free.2, cut.nodes, fill.nodes, put.nodes);
@@ -184,22 +217,26 @@ module _ {T : Type 0} where
         }
 
   -- the place that a call names is the end of some front of the list
-  pub spot : (lists : List (List (ℕ × T))) (l : ℕ) (after : Option ℕ) → ForSome after (StandsIn lists l) → (i : ℕ) × (i ≤ length (list_at lists l)) × (end_of (Front l) (take i (list_at lists l)) ≡ place_of l after)
+  pub spot : (lists : List (List (ℕ × T))) (l : ℕ) (after : Option ℕ) → ForSome after (StandsIn lists l) → (i : ℕ) ×
+      (i ≤ length (list_at lists l)) × (end_of (Front l) (take i (list_at lists l)) ≡ place_of l after)
   spot lists l None stands = (0, omega arith, refl)
   spot lists l (Some n) stands =
       let at = stands n refl in
       (at.0 + 1, placed lists l at.0 n at.1, end_named lists l at.0 n at.1)
 
   -- a sound pool is so with the lists that it is walked to
-  pub settled : (p : Pool T) (lists : List (List (ℕ × T))) (spare : ℕ) → IsSound p lists spare → IsSound p (lists_of p) spare
+  pub settled : (p : Pool T) (lists : List (List (ℕ × T))) (spare : ℕ) → IsSound p lists spare →
+      IsSound p (lists_of p) spare
   settled p lists spare sound = subst (λ ls. IsSound p ls spare) (sym (lists_of-sound p lists spare sound)) sound
 
   -- and is seen as those lists
-  pub seen : (p : Pool T) (lists : List (List (ℕ × T))) (spare : ℕ) → IsSound p lists spare → ◌≡◌ {A = Lists T} (record { lists = lists_of p; spare = spare }) (record { lists = lists; spare = spare })
+  pub seen : (p : Pool T) (lists : List (List (ℕ × T))) (spare : ℕ) → IsSound p lists spare →
+      ◌≡◌ {A = Lists T} (record { lists = lists_of p; spare = spare }) (record { lists = lists; spare = spare })
   seen p lists spare sound = ap (λ ls. record { lists = ls; spare = spare }) (lists_of-sound p lists spare sound)
 
   -- a pool without nodes
-  pub IsSound-new : (p : Pool T) (n : ℕ) → p.free ≡ None → p.fronts.items ≡ replicate n None → p.nodes.items ≡ [] → IsSound p (replicate n []) 0
+  pub IsSound-new : (p : Pool T) (n : ℕ) → p.free ≡ None → p.fronts.items ≡ replicate n None → p.nodes.items ≡ [] →
+      IsSound p (replicate n []) 0
   unfolding next_of
   IsSound-new p n free fronts nodes =
       let none : List (ℕ × T) = [] in
@@ -233,7 +270,8 @@ module _ {T : Type 0} where
           cc
 
   -- the same nodes elsewhere in memory
-  pub IsSound-moved : (p r : Pool T) (lists : List (List (ℕ × T))) (spare : ℕ) → r.free ≡ p.free → r.fronts.items ≡ p.fronts.items → r.nodes.items ≡ p.nodes.items → IsSound p lists spare → IsSound r lists spare
+  pub IsSound-moved : (p r : Pool T) (lists : List (List (ℕ × T))) (spare : ℕ) → r.free ≡ p.free →
+      r.fronts.items ≡ p.fronts.items → r.nodes.items ≡ p.nodes.items → IsSound p lists spare → IsSound r lists spare
   IsSound-moved p r lists spare first fronts nodes sound =
       record {
         holds = record {
@@ -246,7 +284,9 @@ module _ {T : Type 0} where
       }
 
   -- more free nodes
-  pub IsSound-grown : (p r : Pool T) (lists : List (List (ℕ × T))) (spare missing all : ℕ) → IsSound p lists spare → Holds r lists (spare + missing) → length r.nodes.items ≡ length p.nodes.items + missing → spare + missing ≡ all → node_count lists + all < 2 ^ 32 - 1 → IsSound r lists all
+  pub IsSound-grown : (p r : Pool T) (lists : List (List (ℕ × T))) (spare missing all : ℕ) → IsSound p lists spare →
+      Holds r lists (spare + missing) → length r.nodes.items ≡ length p.nodes.items + missing →
+      spare + missing ≡ all → node_count lists + all < 2 ^ 32 - 1 → IsSound r lists all
   IsSound-grown p r lists spare missing all sound holds nodes sum few =
       record {
         holds = subst (λ n. Holds r lists n) sum holds;

@@ -1,5 +1,6 @@
 -- How the pool of `Links` keeps its lists. No public clause cites this module.
-use Rattle.std.specs.Prelude.{◌≡◌, ◌≢◌, ℕ, zero, suc, ◌+◌, ◌<◌, ◌-◌, ◌^◌, List, [], ◌∷◌, length, map, Option, Some, None, slice_get, slice_index_or, vec_capacity, if◌then◌else◌}
+use Rattle.std.specs.Prelude.{◌≡◌, ◌≢◌, ℕ, zero, suc, ◌+◌, ◌<◌, ◌-◌, ◌^◌, List, [], ◌∷◌, length, map, Option, Some}
+use Rattle.std.specs.Prelude.{None, slice_get, slice_index_or, vec_capacity, if◌then◌else◌}
 use Rattle.std.specs.Option.{option_map, option_map_or, option_and_then, option_flatten, is_none}
 use Rattle.std.specs.List.{range_with_len, sum_by}
 use Rattle.sx_links.specs.declared.pool.Place.{Place}
@@ -138,7 +139,8 @@ module _ {T : Type 0} where
   -- the lists of the pool, each walked from its front
   unfoldable pub lists_of : Pool T → List (List (ℕ × T))
   lists_of p =
-      map (λ list. walk (next_of p) (value_of p) (length p.nodes.items) (Front list)) (range_with_len 0 (length p.fronts.items))
+      map (λ list. walk (next_of p) (value_of p) (length p.nodes.items) (Front list))
+      (range_with_len 0 (length p.fronts.items))
 
   -- the indexes agree, and lead through these lists and these free nodes
   pub record Chains (p : Pool T) (lists : List (List (ℕ × T))) (free : List (ℕ × Unit {0})) : Type 0 where

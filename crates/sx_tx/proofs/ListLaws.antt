@@ -1,5 +1,6 @@
 -- Decoding a list of transactions, or a payload of them, inverts encoding it.
-use Rattle.std.proofs.Common.{◌≡◌, ℕ, ◌*◌, ◌≤◌, cond, eqb, List, [], ◌∷◌, ◌++◌, length, Result, Ok, Err, refl, sym, ap, subst, ◌∙◌, append_assoc, arith}
+use Rattle.std.proofs.Common.{◌≡◌, ℕ, ◌*◌, ◌≤◌, cond, eqb, List, [], ◌∷◌, ◌++◌, length, Result, Ok, Err, refl, sym}
+use Rattle.std.proofs.Common.{ap, subst, ◌∙◌, append_assoc, arith}
 use Rattle.std.specs.Prelude.{IfOk}
 use Rattle.std.specs.List.{flat_map}
 use Rattle.std.proofs.lemmas.Bool.{eqb-true, eq-eqb}
@@ -26,19 +27,26 @@ use Rattle.sx_tx.proofs.TxLaws.{tx_takes, tx_again, length-tx_bytes}
 pub list_takes : TakesAll list_at list_bytes IsTxList
 unfolding list_at
 list_takes c next x bytes e =
-    let n = bind_ok (field_at 4 (between 0 most_transactions) form.TooMany c) (λ count. many_at tx_at count.0 count.1) (x, next) e in
+    let n = bind_ok (field_at 4 (between 0 most_transactions) form.TooMany c)
+    (λ count. many_at tx_at count.0 count.1) (x, next) e in
     let t0 = range_takes 4 0 most_transactions form.TooMany c n.0.1 n.0.0 bytes n.1 in
-    let t1 = many_takes tx_at tx_bytes IsTx tx_takes n.0.0 n.0.1 next x (bytes_after c n.0.1 (big_bytes 4 n.0.0) t0.0 bytes) n.2 in
-    let count : Takes c (big_bytes 4 (length x)) n.0.1 = subst (λ (m : ℕ). Takes c (big_bytes 4 m) n.0.1) (sym t1.1) t0.0 in
-    let few : length x ≤ most_transactions = subst (λ (m : ℕ). m ≤ most_transactions) (sym t1.1) t0.2 in
-    (Takes-then c n.0.1 next (big_bytes 4 (length x)) (flat_map tx_bytes x) count t1.0, record { few = few; each = All-from_recursion IsTx x t1.2 })
+    let t1 = many_takes tx_at tx_bytes IsTx tx_takes n.0.0 n.0.1 next x
+    (bytes_after c n.0.1 (big_bytes 4 n.0.0) t0.0 bytes) n.2 in
+    let count : Takes c (big_bytes 4 (length x)) n.0.1 =
+    subst (λ (m : ℕ). Takes c (big_bytes 4 m) n.0.1) (sym t1.1) t0.0 in
+    let few : length x ≤ most_transactions = subst (λ (m : ℕ). m ≤ most_transactions) (sym t1.1) t0.2 in (
+      Takes-then c n.0.1 next (big_bytes 4 (length x)) (flat_map tx_bytes x) count t1.0,
+      record { few = few; each = All-from_recursion IsTx x t1.2 },
+    )
 
 pub list_again : ReadsAgain list_at list_bytes IsTxList
 unfolding list_at
 list_again c x after is within e =
     let few = is.few in
-    let a = range_again 4 0 most_transactions form.TooMany c (length x) (flat_map tx_bytes x ++ after) (omega arith) (omega arith) few within (e ∙ append_assoc (big_bytes 4 (length x)) (flat_map tx_bytes x) after) in
-    again_then (field_at 4 (between 0 most_transactions) form.TooMany c) (λ count. many_at tx_at count.0 count.1) c (length x) x (flat_map tx_bytes x ++ after) after a
+    let a = range_again 4 0 most_transactions form.TooMany c (length x) (flat_map tx_bytes x ++ after) (omega arith)
+    (omega arith) few within (e ∙ append_assoc (big_bytes 4 (length x)) (flat_map tx_bytes x) after) in
+    again_then (field_at 4 (between 0 most_transactions) form.TooMany c) (λ count. many_at tx_at count.0 count.1) c
+    (length x) x (flat_map tx_bytes x ++ after) after a
     (many_again tx_at tx_bytes IsTx tx_again x a.next after (recursion_from_All IsTx x is.each) a.within a.rest_is)
 
 -- ---- a whole payload
@@ -49,7 +57,8 @@ start bytes = record { bytes = bytes; place = 0 }
 abbrev at_end : List Tx × Cursor → Result (List Tx) FormFault
 at_end txs = cond (eqb (left txs.1) 0) (Ok txs.0) (Err (record { at = txs.1.place; fault = form.Rest }))
 
-pub candidates_take : (bytes : List ℕ) (x : List Tx) → AreBytes bytes → candidates_at bytes ≡ Ok x → IsTxList x × (bytes ≡ list_bytes x)
+pub candidates_take : (bytes : List ℕ) (x : List Tx) → AreBytes bytes → candidates_at bytes ≡ Ok x → IsTxList x ×
+    (bytes ≡ list_bytes x)
 unfolding candidates_at
 candidates_take bytes x are e =
     let a = bind_ok (list_at (start bytes)) at_end x e in
@@ -57,7 +66,8 @@ candidates_take bytes x are e =
     let g = guard_ok (eqb (left a.0.1) 0) a.0.0 x (record { at = a.0.1.place; fault = form.Rest }) a.2 in
     let ended : left a.0.1 ≡ 0 = eqb-true (left a.0.1) 0 g.0 in
     let none : rest a.0.1 ≡ [] = nil_from_length (rest a.0.1) (length-rest a.0.1 ∙ ended) in
-    let text : bytes ≡ list_bytes a.0.0 = t.0.parts ∙ ap (λ (r : List ℕ). list_bytes a.0.0 ++ r) none ∙ append-nil (list_bytes a.0.0) in
+    let text : bytes ≡ list_bytes a.0.0 = t.0.parts ∙ ap (λ (r : List ℕ). list_bytes a.0.0 ++ r) none ∙
+    append-nil (list_bytes a.0.0) in
     subst (λ (y : List Tx). IsTxList y × (bytes ≡ list_bytes y)) g.1 (t.1, text)
 
 pub candidates_again : (x : List Tx) → IsTxList x → candidates_at (list_bytes x) ≡ Ok x
@@ -69,12 +79,16 @@ candidates_again x is =
 
 -- ---- what the reader answers
 
-pub found_in : (bytes : List ℕ) (r : Result (List Tx) ReadError) → AreBytes bytes → Gives (λ txs. txs) r (candidates_at bytes) → IfOk r (λ txs. IsTxList txs × (bytes ≡ list_bytes txs))
+pub found_in : (bytes : List ℕ) (r : Result (List Tx) ReadError) → AreBytes bytes →
+    Gives (λ txs. txs) r (candidates_at bytes) → IfOk r (λ txs. IsTxList txs × (bytes ≡ list_bytes txs))
 found_in bytes (Ok txs) are e = candidates_take bytes txs are e
 found_in bytes (Err error) are e = tt
 
-pub only_in : (bytes : List ℕ) (r : Result (List Tx) ReadError) (txs : List Tx) → Gives (λ txs. txs) r (candidates_at bytes) → IsTxList txs → bytes ≡ list_bytes txs → Gives (λ txs. txs) r (Ok txs)
-only_in bytes r txs given is e = subst (λ (read : Result (List Tx) FormFault). Gives (λ txs. txs) r read) (ap candidates_at e ∙ candidates_again txs is) given
+pub only_in : (bytes : List ℕ) (r : Result (List Tx) ReadError) (txs : List Tx) →
+    Gives (λ txs. txs) r (candidates_at bytes) → IsTxList txs → bytes ≡ list_bytes txs → Gives (λ txs. txs) r (Ok txs)
+only_in bytes r txs given is e =
+    subst (λ (read : Result (List Tx) FormFault). Gives (λ txs. txs) r read)
+    (ap candidates_at e ∙ candidates_again txs is) given
 
 -- ---- lengths
 

@@ -15,9 +15,11 @@ loop-sell-init c = record {
 pub loop-sell-preserved : goal.loop-sell-preserved
 loop-sell-preserved c =
     let f = value_of c.args.flow.now in
-    let read = between_read f c.asset_of.result c.args.asset c.at-value.result c.at-value.ensures.value c.at-value.ensures.itself in
+    let read = between_read f c.asset_of.result c.args.asset c.at-value.result c.at-value.ensures.value
+    c.at-value.ensures.itself in
     record {
-      sum = sum_more c.loop-sell.sell (λ s. between f s c.args.asset) c.loop-sell.value c.at-value.result c.loop-sell.invariant.sum (rw c.asset_of.ensures at read);
+      sum = sum_more c.loop-sell.sell (λ s. between f s c.args.asset) c.loop-sell.value c.at-value.result
+          c.loop-sell.invariant.sum (rw c.asset_of.ensures at read);
       bound = omega arith;
     }
 
@@ -25,5 +27,6 @@ pub returns-clause-in_range : goal.returns-clause-in_range
 returns-clause-in_range c =
     let flow = c.args.flow.now in
     let all : c.loop-sell.sell ≡ flow.assets = omega arith in
-    let sum : c.loop-sell.value ≡ bought flow.assets (value_of flow) c.args.asset = rw all at c.loop-sell.invariant.sum in
+    let sum : c.loop-sell.value ≡ bought flow.assets (value_of flow) c.args.asset =
+    rw all at c.loop-sell.invariant.sum in
     omega (arith, bought_range flow c.assets-sell-end.ensures.flow c.args.asset c.requires)

@@ -15,9 +15,11 @@ loop-buy-init c = record {
 pub loop-buy-preserved : goal.loop-buy-preserved
 loop-buy-preserved c =
     let f = value_of c.args.flow.now in
-    let read = between_read f c.args.asset c.asset_of.result c.at-value.result c.at-value.ensures.value c.at-value.ensures.itself in
+    let read = between_read f c.args.asset c.asset_of.result c.at-value.result c.at-value.ensures.value
+    c.at-value.ensures.itself in
     record {
-      sum = sum_more c.loop-buy.buy (λ b. between f c.args.asset b) c.loop-buy.value c.at-value.result c.loop-buy.invariant.sum (rw c.asset_of.ensures at read);
+      sum = sum_more c.loop-buy.buy (λ b. between f c.args.asset b) c.loop-buy.value c.at-value.result
+          c.loop-buy.invariant.sum (rw c.asset_of.ensures at read);
       bound = omega arith;
     }
 

@@ -11,4 +11,5 @@ returns-clause-greatest c =
     let y = value_of c.args.flow.now in
     let potential = potential_of c.args.potentials.now in
     fit_is_greatest n low high y potential
-    (fits_from n c.args.flow.now.assets low high y potential c.requires.flow c.in_default.ensures.none c.in_default-first_unbalanced.ensures.none c.in_default-first_slack.ensures.none)
+    (fits_from n c.args.flow.now.assets low high y potential c.requires.flow c.in_default.ensures.none
+    c.in_default-first_unbalanced.ensures.none c.in_default-first_slack.ensures.none)

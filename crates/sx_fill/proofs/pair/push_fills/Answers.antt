@@ -1,4 +1,5 @@
-use Rattle.std.proofs.Common.{◌≡◌, ℕ, ◌+◌, ◌-◌, ◌*◌, ◌<◌, ◌++◌, List, [], ◌∷◌, min, take, ap, ap₂, ◌∙◌, append_assoc, arith, rules}
+use Rattle.std.proofs.Common.{◌≡◌, ℕ, ◌+◌, ◌-◌, ◌*◌, ◌<◌, ◌++◌, List, [], ◌∷◌, min, take, ap, ap₂, ◌∙◌, append_assoc}
+use Rattle.std.proofs.Common.{arith, rules}
 use Rattle.sx_fill.specs.PairFills.{pair_fill, trading}
 use Rattle.sx_fill.proofs.PairOrder.{all_filled, less_left, more_filled, some_value}
 use Rattle.sx_fill.proofs.pair.push_fills.Goals as goal
@@ -8,7 +9,8 @@ pub returns-then-left-eq0-clause-appended : goal.returns-then-left-eq0-clause-ap
 returns-then-left-eq0-clause-appended c =
     c.loop-place.invariant.fills
     ∙ ap (λ (fs : List Fill). c.args.fills.now.items ++ fs)
-    (all_filled c.args.sell c.args.buy c.args.y c.args.first c.args.offers.now c.requires.in_book_order c.loop-place.place c.loop-place.left c.loop-place.invariant.left c.if-left-eq0.true)
+    (all_filled c.args.sell c.args.buy c.args.y c.args.first c.args.offers.now c.requires.in_book_order
+    c.loop-place.place c.loop-place.left c.loop-place.invariant.left c.if-left-eq0.true)
 
 pub loop-place-preserved : goal.loop-place-preserved
 loop-place-preserved c =
@@ -36,7 +38,10 @@ loop-place-preserved c =
       fills = pushed ∙ ap (λ (fs : List Fill). fs ++ fill ∷ []) at.fills
           ∙ append_assoc c.args.fills.now.items before (fill ∷ [])
           ∙ ap (λ (fs : List Fill). c.args.fills.now.items ++ fs)
-          (more_filled c.args.sell c.args.buy c.args.y c.args.first c.args.offers.now c.requires.in_book_order k left c.min-traded.result c.units_up.result c.units_down.result x c.loop-place-test.true c.index-offers-place.is at.left some value c.units_up.ensures.quotient c.units_down.ensures.quotient);
+          (more_filled c.args.sell c.args.buy c.args.y c.args.first c.args.offers.now c.requires.in_book_order k
+          left c.min-traded.result c.units_up.result c.units_down.result x c.loop-place-test.true
+          c.index-offers-place.is at.left some value c.units_up.ensures.quotient c.units_down.ensures.quotient);
       left = ap (λ (v : ℕ). left - v) value
-          ∙ less_left c.args.sell c.args.buy c.args.y c.args.first c.args.offers.now c.requires.in_book_order k left x c.loop-place-test.true c.index-offers-place.is at.left;
+          ∙ less_left c.args.sell c.args.buy c.args.y c.args.first c.args.offers.now c.requires.in_book_order k left
+          x c.loop-place-test.true c.index-offers-place.is at.left;
     }

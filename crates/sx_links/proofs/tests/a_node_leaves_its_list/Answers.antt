@@ -6,11 +6,15 @@ abbrev with_spare : Lists ℕ → ℕ → Lists ℕ
 with_spare s n = record s { spare = n }
 
 -- what is left of the lists without q
-left : (s t : Lists ℕ) (p q r : ℕ) → s ≡ record { lists = ((p, 112) ∷ (q, 113) ∷ (r, 114) ∷ []) ∷ [] ∷ []; spare = 0 } → ((l i : ℕ) → StandsAt s.lists l i q → t ≡ without_node s l i) → t ≡ record { lists = ((p, 112) ∷ (r, 114) ∷ []) ∷ [] ∷ []; spare = 1 }
+left : (s t : Lists ℕ) (p q r : ℕ) →
+    s ≡ record { lists = ((p, 112) ∷ (q, 113) ∷ (r, 114) ∷ []) ∷ [] ∷ []; spare = 0 } →
+    ((l i : ℕ) → StandsAt s.lists l i q → t ≡ without_node s l i) →
+    t ≡ record { lists = ((p, 112) ∷ (r, 114) ∷ []) ∷ [] ∷ []; spare = 1 }
 left s t p q r is taken = taken 0 1 (rw is refl) ∙ ap (λ u. without_node u 0 1) is
 
 -- two empty lists, with room for three nodes
-reserved : (s t : Lists ℕ) → s ≡ record { lists = [] ∷ [] ∷ []; spare = 0 } → t ≡ record s { spare = max s.spare 3 } → t ≡ record { lists = [] ∷ [] ∷ []; spare = 3 }
+reserved : (s t : Lists ℕ) → s ≡ record { lists = [] ∷ [] ∷ []; spare = 0 } →
+    t ≡ record s { spare = max s.spare 3 } → t ≡ record { lists = [] ∷ [] ∷ []; spare = 3 }
 reserved s t is more = more ∙ ap (λ u. with_spare u (max u.spare 3)) is
 
 pub reserve-requires : goal.reserve-requires

@@ -1,4 +1,5 @@
-use Rattle.sx_record.proofs.Encoding.{decodes_only_records, decodes_every_record, are_records_prefix_free, ends_only_at_end}
+use Rattle.sx_record.proofs.Encoding.{decodes_only_records, decodes_every_record, are_records_prefix_free}
+use Rattle.sx_record.proofs.Encoding.{ends_only_at_end}
 use Rattle.sx_record.proofs.laws.record_laws.Goals as goal
 
 pub returns-clause-encoding : goal.returns-clause-encoding

@@ -1,4 +1,5 @@
-use Rattle.std.proofs.Common.{◌≡◌, ◌<◌, ℕ, ◌+◌, List, [], ◌∷◌, ◌++◌, length, map, take, drop, Option, Some, None, slice_get, sym, ap, ◌∙◌, arith}
+use Rattle.std.proofs.Common.{◌≡◌, ◌<◌, ℕ, ◌+◌, List, [], ◌∷◌, ◌++◌, length, map, take, drop, Option, Some, None}
+use Rattle.std.proofs.Common.{slice_get, sym, ap, ◌∙◌, arith}
 use Rattle.sx_book.specs.Store.{list_of, offers_in}
 use Rattle.sx_book.proofs.Pairs.{nothing_left, pair_is, seen_more}
 use Rattle.sx_links.specs.Lists.{list_at, rest_from}

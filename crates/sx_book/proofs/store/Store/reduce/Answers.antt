@@ -1,4 +1,5 @@
-use Rattle.std.proofs.Common.{◌≡◌, ℕ, suc, ◌+◌, ◌-◌, ◌<◌, ◌≤◌, List, [], ◌∷◌, length, drop, set, get_or, Option, Some, None, slice_get, refl, sym, ap, subst, ◌∙◌, arith}
+use Rattle.std.proofs.Common.{◌≡◌, ℕ, suc, ◌+◌, ◌-◌, ◌<◌, ◌≤◌, List, [], ◌∷◌, length, drop, set, get_or, Option, Some}
+use Rattle.std.proofs.Common.{None, slice_get, refl, sym, ap, subst, ◌∙◌, arith}
 use Rattle.std.specs.List.{AllByRecursion}
 use Rattle.std.proofs.lemmas.List.{drop_all, drop_more}
 use Rattle.std.proofs.lemmas.List.Elements.{recursion_from_All}
@@ -6,7 +7,8 @@ use Rattle.std.proofs.lemmas.Map.Keys.{sorted_from_strictly_increasing}
 use Rattle.std.proofs.lemmas.Option.{same_Some, slice_get_within}
 use Rattle.sx_book.specs.Books.{Fits, places}
 use Rattle.sx_book.specs.Store.{IsSound, SoFar, given_by, list_of, offers_of}
-use Rattle.sx_book.proofs.FillSteps.{amounts_at, at_now, fit, got_is, has_units, list_short, next_is, node_is, reduced_is, so_far_first, so_far_next}
+use Rattle.sx_book.proofs.FillSteps.{amounts_at, at_now, fit, got_is, has_units, list_short, next_is, node_is}
+use Rattle.sx_book.proofs.FillSteps.{reduced_is, so_far_first, so_far_next}
 use Rattle.sx_book.proofs.Pairs.{pair_is}
 use Rattle.sx_book.proofs.store.Store.reduce.Goals as goal
 use Rattle.sx_book.proofs.store.Store.reduce.Goals.{in-Some, in_default}

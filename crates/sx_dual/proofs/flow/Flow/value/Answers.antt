@@ -14,6 +14,7 @@ pub loop-sell-preserved : goal.loop-sell-preserved
 loop-sell-preserved c =
     let flow = c.args.self.now in
     record {
-      sum = sum_more c.loop-sell.sell (sold flow.assets (value_of flow)) c.loop-sell.value c.value_sold-value.result c.loop-sell.invariant.sum (rw c.asset_of.ensures at c.value_sold-value.ensures.value);
+      sum = sum_more c.loop-sell.sell (sold flow.assets (value_of flow)) c.loop-sell.value c.value_sold-value.result
+          c.loop-sell.invariant.sum (rw c.asset_of.ensures at c.value_sold-value.ensures.value);
       bound = omega arith;
     }

@@ -8,12 +8,15 @@ next-requires g c = is_within _ _ _ c.self.invariant c.args.node (rw (← c.self
 
 pub returns-clause-next : goal.returns-clause-next
 returns-clause-next g c =
-    rw (← c.self.view_is) (λ list place stands. c.next.ensures ∙ next_is _ _ _ c.self.invariant list place c.args.node stands)
+    rw (← c.self.view_is) (λ list place stands. c.next.ensures ∙
+    next_is _ _ _ c.self.invariant list place c.args.node stands)
 
 pub returns-clause-rest : goal.returns-clause-rest
 returns-clause-rest g c =
     rw (← c.self.view_is)
-    (λ list place stands. rest_is _ _ _ c.self.invariant list (place + 1) c.next.result (within_at _ list place c.args.node stands) (c.next.ensures ∙ next_is _ _ _ c.self.invariant list place c.args.node stands))
+    (λ list place stands. rest_is _ _ _ c.self.invariant list (place + 1) c.next.result
+    (within_at _ list place c.args.node stands)
+    (c.next.ensures ∙ next_is _ _ _ c.self.invariant list place c.args.node stands))
 
 pub returns-clause-disjoint : goal.returns-clause-disjoint
 returns-clause-disjoint g c = rw (← c.self.view_is) (disjoint _ _ _ c.self.invariant)

@@ -7,7 +7,8 @@ value-requires g c = has_value _ _ _ c.self.invariant c.args.node (rw (← c.sel
 
 pub returns-clause-value : goal.returns-clause-value
 returns-clause-value g c =
-    rw (← c.self.view_is) (λ list place stands. value_is _ _ _ c.self.invariant list place c.args.node c.value.result.now stands c.value.ensures)
+    rw (← c.self.view_is) (λ list place stands. value_is _ _ _ c.self.invariant list place c.args.node
+    c.value.result.now stands c.value.ensures)
 
 pub returns-clause-disjoint : goal.returns-clause-disjoint
 returns-clause-disjoint g c = rw (← c.self.view_is) (disjoint _ _ _ c.self.invariant)

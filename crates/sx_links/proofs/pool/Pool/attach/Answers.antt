@@ -8,4 +8,5 @@ link-requires-clause-next_in g c m e =
     omega (arith, c.args.self.now.nodes.ok.0)
 
 pub returns : goal.returns
-returns g c = Inserts-joins _ _ _ _ _ c.requires.apart c.requires.agrees c.requires.loose (rw (← c.next-next.ensures) c.link.ensures) c.link-2.ensures
+returns g c = Inserts-joins _ _ _ _ _ c.requires.apart c.requires.agrees c.requires.loose
+    (rw (← c.next-next.ensures) c.link.ensures) c.link-2.ensures

@@ -13,4 +13,5 @@ pub returns : goal.returns
 returns c =
     let top = highest_of c.args.map c.if-map-eq0.false c.ranges.map.fits in
     let same : c.from-bit_length.result ≡ bit_length 64 c.args.map = c.from-bit_length.ensures ∙ top.3 ∙ sym top.4 in
-    rw (ne_eqb c.args.map 0 c.if-map-eq0.false) (ap (λ (n : ℕ). record { last = c.args.self.now.last + n; used = 0 }) same)
+    rw (ne_eqb c.args.map 0 c.if-map-eq0.false)
+    (ap (λ (n : ℕ). record { last = c.args.self.now.last + n; used = 0 }) same)
