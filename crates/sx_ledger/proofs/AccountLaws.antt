@@ -1,5 +1,6 @@
 -- Prices, units and accounts: decoding inverts encoding, and back.
-use Rattle.std.proofs.Common.{◌≡◌, ℕ, zero, suc, ◌+◌, ◌-◌, ◌^◌, ◌<◌, ◌≤◌, true, List, [], ◌∷◌, ◌++◌, length, Option, Some, None, Ok, All, refl, sym, ap, subst, arith}
+use Rattle.std.proofs.Common.{◌≡◌, ℕ, zero, suc, ◌+◌, ◌-◌, ◌^◌, ◌<◌, ◌≤◌, true, List, [], ◌∷◌, ◌++◌, length, Option}
+use Rattle.std.proofs.Common.{Some, None, Ok, All, refl, sym, ap, subst, arith}
 use Rattle.std.specs.Prelude.{nat_lt}
 use Rattle.std.specs.List.{flat_map}
 use Rattle.std.specs.List.Sorted.{IsStrictlyIncreasing}
@@ -21,8 +22,10 @@ use Rattle.sx_ledger.specs.declared.account.Account.{Account}
 use Rattle.sx_price.specs.Limits.{IsPrice}
 use Rattle.sx_ledger.specs.Ledger.{ids, IsAccount}
 use Rattle.sx_ledger.specs.Encoding.{account_bytes}
-use Rattle.sx_ledger.specs.Decoding.{price_at, units_field_at, last_at, account_at, next_account_at, accounts_at, account_list_at}
-use Rattle.sx_ledger.proofs.DependentParts.{AreNumbers, numbers_take, numbers_again, guard_takes, guard_again, chained_takes, chained_again}
+use Rattle.sx_ledger.specs.Decoding.{price_at, units_field_at, last_at, account_at, next_account_at, accounts_at}
+use Rattle.sx_ledger.specs.Decoding.{account_list_at}
+use Rattle.sx_ledger.proofs.DependentParts.{AreNumbers, numbers_take, numbers_again, guard_takes, guard_again}
+use Rattle.sx_ledger.proofs.DependentParts.{chained_takes, chained_again}
 use Rattle.sx_ledger.proofs.EntriesInOrder.{IsTaken, each_takes, each_again}
 
 -- no more than 2 ^ 62 units

@@ -1,22 +1,27 @@
 -- The accounts after the body of a block: their windows, their order, and whose sequence numbers are used.
-use Rattle.std.proofs.Common.{◌≡◌, ◌≢◌, ℕ, zero, suc, ◌+◌, ◌-◌, ◌^◌, ◌<◌, ◌≤◌, true, false, cond, ◌==◌, ◌&&◌, List, [], ◌∷◌, length, get_or, map, replicate, All, Some, Ok, inl, inr, refl, sym, ap, ◌∙◌, subst, arith}
+use Rattle.std.proofs.Common.{◌≡◌, ◌≢◌, ℕ, zero, suc, ◌+◌, ◌-◌, ◌^◌, ◌<◌, ◌≤◌, true, false, cond, ◌==◌, ◌&&◌, List}
+use Rattle.std.proofs.Common.{[], ◌∷◌, length, get_or, map, replicate, All, Some, Ok, inl, inr, refl, sym, ap, ◌∙◌}
+use Rattle.std.proofs.Common.{subst, arith}
 use Rattle.std.specs.Prelude.{◌⊎◌, nat_eq, nat_le, nat_lt, slice_get}
 use Rattle.std.specs.List.{AllByRecursion, IsDistinct, list_any, cons_option}
 use Rattle.std.specs.List.Sorted.{IsStrictlyIncreasing}
 use Rattle.std.specs.Option.{option_map}
-use Rattle.std.proofs.lemmas.Bool.{and_from, cases_Bool, cases_eq, eq-eqb, eqb-false, eqb-true, le-leb, leb-false, lt-ltb, ltb-false, ne_eqb, or_parts}
+use Rattle.std.proofs.lemmas.Bool.{and_from, cases_Bool, cases_eq, eq-eqb, eqb-false, eqb-true, le-leb, leb-false}
+use Rattle.std.proofs.lemmas.Bool.{lt-ltb, ltb-false, ne_eqb, or_parts}
 use Rattle.std.proofs.lemmas.List.Elements.{All-from_get_or, All-from_recursion, All-head, All-tail, recursion_from_All}
 use Rattle.std.proofs.lemmas.Map.Keys.{IsDistinct-head, IsDistinct-tail}
 use Rattle.std.proofs.lemmas.Option.{get_or_from_slice_get, slice_get-get_or, slice_get-map, slice_get_within}
 use Rattle.sx_ledger.specs.declared.account.Account.{Account}
 use Rattle.sx_ledger.specs.declared.offer.Offer.{Offer}
 use Rattle.sx_ledger.specs.declared.parts.Parts.{Parts}
-use Rattle.sx_ledger.specs.Body.{account_after, accounts_after, balances_after, created, created_by, new_account, used_numbers}
+use Rattle.sx_ledger.specs.Body.{account_after, accounts_after, balances_after, created, created_by, new_account}
+use Rattle.sx_ledger.specs.Body.{used_numbers}
 use Rattle.sx_ledger.specs.EffectLaws.{InWindow, greatest_number}
 use Rattle.sx_ledger.specs.Ledger.{IsAccount, IsLedger, assets_of, has_owner, ids}
 use Rattle.sx_ledger.specs.Static.{has_account, last_of}
 use Rattle.sx_ledger.proofs.AccountLaws.{increasing_from_order, order_from_increasing}
-use Rattle.sx_ledger.proofs.Insertion.{Apart, AreApart, all_mapped, all_put_all, any_put_all, id_of, put_accounts_are, put_all_in_order, put_all}
+use Rattle.sx_ledger.proofs.Insertion.{Apart, AreApart, all_mapped, all_put_all, any_put_all, id_of, put_accounts_are}
+use Rattle.sx_ledger.proofs.Insertion.{put_all_in_order, put_all}
 use Rattle.sx_ledger.proofs.LastNumbers.{last_is_greatest}
 use Rattle.sx_ledger.proofs.Lookup.{any_true, entry_at, last_is}
 use Rattle.sx_ledger.proofs.PlacesOfIds.{stands}
@@ -111,7 +116,8 @@ ids_apart new id differ not_before =
     let ne : new ≢ id = eqb-false new id differ in
     lt-ltb id new (omega arith)
 
-module _ (parts : Parts) (txs : List Tx) (keeps : IsLedger parts) (in_range : All IsTx txs) (passing : All (Passes parts) txs) where
+module _ (parts : Parts) (txs : List Tx) (keeps : IsLedger parts) (in_range : All IsTx txs)
+    (passing : All (Passes parts) txs) where
   abbrev after : Account → Account
   after = account_after parts txs
 

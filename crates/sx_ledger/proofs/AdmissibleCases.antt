@@ -1,5 +1,6 @@
 -- Bodies that are admissible, and bodies of which one part alone is not.
-use Rattle.std.proofs.Common.{◌≡◌, ◌≢◌, ℕ, ◌+◌, ◌^◌, ◌<◌, ◌≤◌, true, false, ◌==◌, List, [], ◌∷◌, length, Ok, All, inl, inr, refl, subst, arith}
+use Rattle.std.proofs.Common.{◌≡◌, ◌≢◌, ℕ, ◌+◌, ◌^◌, ◌<◌, ◌≤◌, true, false, ◌==◌, List, [], ◌∷◌, length, Ok, All, inl}
+use Rattle.std.proofs.Common.{inr, refl, subst, arith}
 use Rattle.std.specs.List.{IsDistinct}
 use Rattle.std.proofs.lemmas.Bool.{cases_Bool, eqb-true}
 use Rattle.std.proofs.lemmas.List.Elements.{All-from_recursion}
@@ -47,24 +48,26 @@ all_paid = record {
         ]
 
 -- the last account that there is room for, and one too many
-module _ (parts : Parts) (few : length parts.offers ≤ 262144) (passes : static_of parts (tx 1 1 (create 9)) ≡ Ok tt) where
-  last_account : length parts.accounts ≡ 65535 → IsAdmissible parts (tx 1 1 (create 9) ∷ [])
-  unfolding IsDistinct
-  last_account room = record {
-    ordered = refl;
-    passes = passing parts (tx 1 1 (create 9)) passes;
-    cancels_once = tt;
-    creates_once = (tt, tt);
-    accounts_fit = omega arith;
-    offers_fit = omega arith;
-    covered = λ account asset. omega arith;
-  }
+module _ (parts : Parts) (few : length parts.offers ≤ 262144) (passes : static_of parts (tx 1 1 (create 9)) ≡ Ok tt)
+  where
+    last_account : length parts.accounts ≡ 65535 → IsAdmissible parts (tx 1 1 (create 9) ∷ [])
+    unfolding IsDistinct
+    last_account room = record {
+      ordered = refl;
+      passes = passing parts (tx 1 1 (create 9)) passes;
+      cancels_once = tt;
+      creates_once = (tt, tt);
+      accounts_fit = omega arith;
+      offers_fit = omega arith;
+      covered = λ account asset. omega arith;
+    }
 
-  one_account_too_many : length parts.accounts ≡ 65536 → IsAdmissible parts (tx 1 1 (create 9) ∷ []) → ⊥
-  one_account_too_many full is = let fit = is.accounts_fit in omega arith
+    one_account_too_many : length parts.accounts ≡ 65536 → IsAdmissible parts (tx 1 1 (create 9) ∷ []) → ⊥
+    one_account_too_many full is = let fit = is.accounts_fit in omega arith
 
 -- the last offer that there is room for, and one too many
-module _ (parts : Parts) (few : length parts.accounts ≤ 65536) (passes : static_of parts (tx 1 1 (sell_for 0 1 one 5)) ≡ Ok tt)
+module _ (parts : Parts) (few : length parts.accounts ≤ 65536)
+    (passes : static_of parts (tx 1 1 (sell_for 0 1 one 5)) ≡ Ok tt)
     (covered : (account asset : ℕ)
     → debits (tx 1 1 (sell_for 0 1 one 5) ∷ []) account asset ≤ holding_of parts.accounts account asset) where
   last_offer : length parts.offers ≡ 262143 → IsAdmissible parts (tx 1 1 (sell_for 0 1 one 5) ∷ [])

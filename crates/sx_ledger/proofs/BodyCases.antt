@@ -5,7 +5,8 @@ use Rattle.sx_ledger.specs.Body.{body_after, cancelled, holding_of, made}
 use Rattle.sx_ledger.specs.EffectLaws.{greatest_number, names}
 use Rattle.sx_ledger.specs.Effects.{credits, debits}
 use Rattle.sx_ledger.specs.Ledger.{total_of}
-use Rattle.sx_ledger.proofs.CaseWords.{account, cancel, create, offer, one, opening, pay, sell_for, state, tx, with_offer}
+use Rattle.sx_ledger.proofs.CaseWords.{account, cancel, create, offer, one, opening, pay, sell_for, state, tx}
+use Rattle.sx_ledger.proofs.CaseWords.{with_offer}
 use Rattle.sx_tx.specs.declared.tx.Tx.{Tx}
 use Rattle.sx_tx.specs.Window.{bit_length}
 

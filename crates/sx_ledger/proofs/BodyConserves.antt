@@ -1,5 +1,6 @@
 -- The body of a block makes and loses nothing.
-use Rattle.std.proofs.Common.{◌≡◌, ℕ, zero, suc, ◌+◌, ◌-◌, ◌<◌, ◌≤◌, false, List, [], ◌∷◌, length, get_or, map, replicate, All, sum_by, inl, inr, refl, sym, ◌∙◌, arith}
+use Rattle.std.proofs.Common.{◌≡◌, ℕ, zero, suc, ◌+◌, ◌-◌, ◌<◌, ◌≤◌, false, List, [], ◌∷◌, length, get_or, map}
+use Rattle.std.proofs.Common.{replicate, All, sum_by, inl, inr, refl, sym, ◌∙◌, arith}
 use Rattle.std.specs.List.{AllByRecursion}
 use Rattle.std.proofs.lemmas.Bool.{cases_Bool}
 use Rattle.std.specs.Prelude.{nat_lt}
@@ -9,13 +10,15 @@ use Rattle.std.proofs.lemmas.List.Sums.{sum_by-cons}
 use Rattle.sx_ledger.specs.declared.account.Account.{Account}
 use Rattle.sx_ledger.specs.declared.offer.Offer.{Offer}
 use Rattle.sx_ledger.specs.declared.parts.Parts.{Parts}
-use Rattle.sx_ledger.specs.Body.{IsAdmissible, account_after, accounts_after, balances_after, cancelled, cancelled_by, created, kept_offers, made, made_by, new_account, put_account, put_accounts}
+use Rattle.sx_ledger.specs.Body.{IsAdmissible, account_after, accounts_after, balances_after, cancelled, cancelled_by}
+use Rattle.sx_ledger.specs.Body.{created, kept_offers, made, made_by, new_account, put_account, put_accounts}
 use Rattle.sx_ledger.specs.Effects.{credit, credit_of, credits, debit, debit_of, debits}
 use Rattle.sx_ledger.specs.EffectLaws.{BodyConserves}
 use Rattle.sx_ledger.specs.Ledger.{IsLedger, assets_of, balance_at, offered}
 use Rattle.sx_ledger.specs.Static.{has_account}
 use Rattle.sx_ledger.proofs.ListSums.{counted, sum_by-add, sum_by-filter_map, sum_by-moved, sum_by-same}
-use Rattle.sx_ledger.proofs.PostingTotals.{Passes, created_absent, credits_elsewhere, credits_in_all, credits_there, debits_in_all, debits_there, passes, units_of}
+use Rattle.sx_ledger.proofs.PostingTotals.{Passes, created_absent, credits_elsewhere, credits_in_all, credits_there}
+use Rattle.sx_ledger.proofs.PostingTotals.{debits_in_all, debits_there, passes, units_of}
 use Rattle.sx_ledger.proofs.OfferTotals.{freed, kept_sum, put_all}
 use Rattle.sx_ledger.proofs.PlacesOfIds.{holding_at}
 use Rattle.sx_tx.specs.declared.kind.Kind.{Kind}

@@ -1,5 +1,6 @@
 -- The ledger after the body of a block is a ledger.
-use Rattle.std.proofs.Common.{◌≡◌, ℕ, ◌+◌, ◌^◌, ◌<◌, ◌≤◌, true, not, List, [], ◌∷◌, length, get_or, map, All, Some, None, inl, inr, refl, sym, ap, ◌∙◌, subst, arith}
+use Rattle.std.proofs.Common.{◌≡◌, ℕ, ◌+◌, ◌^◌, ◌<◌, ◌≤◌, true, not, List, [], ◌∷◌, length, get_or, map, All, Some}
+use Rattle.std.proofs.Common.{None, inl, inr, refl, sym, ap, ◌∙◌, subst, arith}
 use Rattle.std.specs.List.{AllByRecursion, filter, list_any, sum_by}
 use Rattle.std.proofs.lemmas.Bool.{cases_Bool}
 use Rattle.std.proofs.lemmas.List.{length-map}
@@ -9,14 +10,16 @@ use Rattle.sx_bytes.specs.Grammar.{in_order}
 use Rattle.sx_ledger.specs.declared.account.Account.{Account}
 use Rattle.sx_ledger.specs.declared.offer.Offer.{Offer}
 use Rattle.sx_ledger.specs.declared.parts.Parts.{Parts}
-use Rattle.sx_ledger.specs.Body.{IsAdmissible, account_after, accounts_after, body_after, cancelled, created, kept_offers, made, new_account, offers_after, tx_before}
+use Rattle.sx_ledger.specs.Body.{IsAdmissible, account_after, accounts_after, body_after, cancelled, created}
+use Rattle.sx_ledger.specs.Body.{kept_offers, made, new_account, offers_after, tx_before}
 use Rattle.sx_ledger.specs.EffectLaws.{BodyKeepsLedger, greatest_number}
 use Rattle.sx_ledger.specs.Ledger.{IsAccount, IsLedger, IsOffer, assets_of, balance_at, has_owner, keys, total_of}
 use Rattle.sx_ledger.specs.Order.{key_before, key_of, same_key}
 use Rattle.sx_ledger.specs.Static.{has_account, last_of}
 use Rattle.sx_ledger.proofs.AccountsAfter.{HasShape, by_id_after, greatest_reaches, owner_after, shapes}
 use Rattle.sx_ledger.proofs.BodyConserves.{body_conserves}
-use Rattle.sx_ledger.proofs.Insertion.{AreApart, all_put_all, filter_in_order, id_of, length-put_all, put_accounts_are, put_all_in_order, put_all, put_offers_are}
+use Rattle.sx_ledger.proofs.Insertion.{AreApart, all_put_all, filter_in_order, id_of, length-put_all}
+use Rattle.sx_ledger.proofs.Insertion.{put_accounts_are, put_all_in_order, put_all, put_offers_are}
 use Rattle.sx_ledger.proofs.KeyOrder.{before_both}
 use Rattle.sx_ledger.proofs.OffersAfter.{IsMade, all_made, made_apart, owner_there, owner_used}
 use Rattle.sx_ledger.proofs.PostingTotals.{Passes, passes}
@@ -52,7 +55,8 @@ module _ (parts : Parts) (txs : List Tx) (keeps : IsLedger parts) (body : IsAdmi
       ordered in
       rw offers_put whole
 
-module _ (parts : Parts) (txs : List Tx) (keeps : IsLedger parts) (in_range : All IsTx txs) (body : IsAdmissible parts txs) where
+module _ (parts : Parts) (txs : List Tx) (keeps : IsLedger parts) (in_range : All IsTx txs)
+    (body : IsAdmissible parts txs) where
   all_pass : All (Passes parts) txs
   all_pass = passing parts txs keeps body
 

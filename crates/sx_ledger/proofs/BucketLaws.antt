@@ -1,5 +1,6 @@
 -- What the buckets of an index say of the ids.
-use Rattle.std.proofs.Common.{◌≡◌, ◌≢◌, ℕ, zero, suc, ◌+◌, ◌-◌, ◌*◌, ◌/◌, ◌^◌, ◌<◌, ◌≤◌, List, Result, Err, length, take, drop, get_or, Some, inl, inr, sym, ap, subst, min, ◌∙◌, arith}
+use Rattle.std.proofs.Common.{◌≡◌, ◌≢◌, ℕ, zero, suc, ◌+◌, ◌-◌, ◌*◌, ◌/◌, ◌^◌, ◌<◌, ◌≤◌, List, Result, Err, length}
+use Rattle.std.proofs.Common.{take, drop, get_or, Some, inl, inr, sym, ap, subst, min, ◌∙◌, arith}
 use Rattle.std.specs.Prelude.{slice_get, Contains}
 use Rattle.std.specs.Ordering.{nat_cmp}
 use Rattle.std.specs.List.Sorted.{IsStrictlyIncreasing, IsSearchInRange, IsBinarySearchResult}

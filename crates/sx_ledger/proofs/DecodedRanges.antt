@@ -1,5 +1,6 @@
 -- What is known of what is read, whatever the bytes are.
-use Rattle.std.proofs.Common.{◌≡◌, ℕ, zero, suc, ◌-◌, ◌^◌, ◌≤◌, Bool, true, cond, List, [], ◌∷◌, length, map, Option, Some, None, Ok, Err, sym, ap, subst, ◌∙◌, arith}
+use Rattle.std.proofs.Common.{◌≡◌, ℕ, zero, suc, ◌-◌, ◌^◌, ◌≤◌, Bool, true, cond, List, [], ◌∷◌, length, map, Option}
+use Rattle.std.proofs.Common.{Some, None, Ok, Err, sym, ap, subst, ◌∙◌, arith}
 use Rattle.std.specs.Prelude.{nat_lt}
 use Rattle.std.specs.List.Sorted.{IsStrictlyIncreasing}
 use Rattle.std.proofs.lemmas.Bool.{and_from}
@@ -12,7 +13,8 @@ use Rattle.sx_bytes.proofs.Parts.{Reading, made_is}
 use Rattle.sx_bytes.proofs.DecodingSteps.{between_is}
 use Rattle.sx_ledger.specs.declared.account.Account.{Account}
 use Rattle.sx_ledger.specs.Ledger.{ids}
-use Rattle.sx_ledger.specs.Decoding.{price_at, units_field_at, each_at, account_at, next_account_at, accounts_at, account_list_at, head_at}
+use Rattle.sx_ledger.specs.Decoding.{price_at, units_field_at, each_at, account_at, next_account_at, accounts_at}
+use Rattle.sx_ledger.specs.Decoding.{account_list_at, head_at}
 use Rattle.sx_ledger.proofs.AccountLaws.{increasing_from_order}
 use Rattle.sx_ledger.proofs.DependentParts.{guard_takes}
 use Rattle.sx_ledger.proofs.EntriesInOrder.{Entry}

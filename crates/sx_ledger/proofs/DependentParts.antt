@@ -1,5 +1,6 @@
 -- A part of a format by which the part after it is decoded, and a part that is tested once it is decoded.
-use Rattle.std.proofs.Common.{◌≡◌, ℕ, Bool, true, List, ◌++◌, length, Result, Ok, refl, sym, ap, subst, ◌∙◌, append_assoc}
+use Rattle.std.proofs.Common.{◌≡◌, ℕ, Bool, true, List, ◌++◌, length, Result, Ok, refl, sym, ap, subst, ◌∙◌}
+use Rattle.std.proofs.Common.{append_assoc}
 use Rattle.std.specs.List.{flat_map}
 use Rattle.std.specs.Prelude.{All}
 use Rattle.std.proofs.lemmas.List.Elements.{All-from_recursion, recursion_from_All}
@@ -12,7 +13,8 @@ use Rattle.sx_bytes.proofs.Parts.{Reading, TakesAll, ReadsAgain}
 use Rattle.sx_bytes.proofs.DecodingSteps.{bytes_after, again_then}
 use Rattle.sx_ledger.specs.Decoding.{guarded}
 
-module _ {X Y : Type 0} (first : Reading X) (others : X → Reading Y) (s1 : X → List ℕ) (s2 : Y → List ℕ) (P : X → Type 0) (Q : X → Y → Type 0) (of : Y → X) where
+module _ {X Y : Type 0} (first : Reading X) (others : X → Reading Y) (s1 : X → List ℕ) (s2 : Y → List ℕ)
+    (P : X → Type 0) (Q : X → Y → Type 0) (of : Y → X) where
   -- what is read first, and by it the whole
   abbrev pub chained_at : Reading Y
   chained_at c = first c >>= λ x. others x.0 x.1

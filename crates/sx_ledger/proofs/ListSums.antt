@@ -1,5 +1,6 @@
 -- Sums over lists: two at once, of one element alone, of balances that give and take, and of what a filter keeps.
-use Rattle.std.proofs.Common.{◌≡◌, ℕ, zero, suc, ◌+◌, ◌-◌, ◌≤◌, Bool, cond, not, List, [], ◌∷◌, All, sum_by, Option, Some, None, slice_get, inl, inr, refl, ap, ◌∙◌, arith}
+use Rattle.std.proofs.Common.{◌≡◌, ℕ, zero, suc, ◌+◌, ◌-◌, ◌≤◌, Bool, cond, not, List, [], ◌∷◌, All, sum_by, Option}
+use Rattle.std.proofs.Common.{Some, None, slice_get, inl, inr, refl, ap, ◌∙◌, arith}
 use Rattle.std.specs.List.{cons_option, filter, filter_map}
 use Rattle.std.proofs.lemmas.Bool.{cases_Bool}
 use Rattle.std.proofs.lemmas.List.Sums.{sum_by-cons}

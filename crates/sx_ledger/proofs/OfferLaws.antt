@@ -1,5 +1,6 @@
 -- Offers: decoding inverts encoding, and back.
-use Rattle.std.proofs.Common.{◌≡◌, ◌≢◌, ℕ, ◌-◌, ◌<◌, ◌≤◌, true, List, ◌++◌, length, Option, None, Ok, All, refl, sym, ap, subst, ◌∙◌, arith}
+use Rattle.std.proofs.Common.{◌≡◌, ◌≢◌, ℕ, ◌-◌, ◌<◌, ◌≤◌, true, List, ◌++◌, length, Option, None, Ok, All, refl, sym}
+use Rattle.std.proofs.Common.{ap, subst, ◌∙◌, arith}
 use Rattle.std.specs.Prelude.{IsTrue, not, ◌==◌}
 use Rattle.std.specs.List.{flat_map}
 use Rattle.std.proofs.lemmas.Bool.{not-true, not_from_false, eqb-false, ne_eqb}
@@ -16,7 +17,8 @@ use Rattle.sx_bytes.proofs.DecodingSteps.{range_takes, range_again}
 use Rattle.sx_price.specs.Limits.{IsLimit}
 use Rattle.sx_tx.specs.Transactions.{IsId, IsSeq, IsAmount}
 use Rattle.sx_tx.specs.TransactionDecoding.{id_at, seq_at, amount_at, limit_at}
-use Rattle.sx_tx.proofs.FieldLaws.{id_takes, id_again, seq_takes, seq_again, amount_takes, amount_again, limit_takes, limit_again}
+use Rattle.sx_tx.proofs.FieldLaws.{id_takes, id_again, seq_takes, seq_again, amount_takes, amount_again, limit_takes}
+use Rattle.sx_tx.proofs.FieldLaws.{limit_again}
 use Rattle.sx_ledger.specs.declared.account.Account.{Account}
 use Rattle.sx_ledger.specs.declared.key.Key.{Key}
 use Rattle.sx_ledger.specs.declared.offer.Offer.{Offer}

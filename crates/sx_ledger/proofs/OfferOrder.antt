@@ -61,7 +61,8 @@ rising_from None [] ordered = (tt, tt)
 rising_from (Some key) [] ordered = (tt, tt)
 rising_from before (offer ∷ offers) ordered =
     let o =
-    and_parts (may_follow key_before before (key_of offer)) (in_order key_before (Some (key_of offer)) (keys offers)) ordered in
+    and_parts (may_follow key_before before (key_of offer))
+    (in_order key_before (Some (key_of offer)) (keys offers)) ordered in
     let rest = rising_from (Some (key_of offer)) offers o.1 in
     ((rest.1, rest.0), precedes_from before offer offers o.0 rest.1)
 
@@ -95,7 +96,11 @@ pub rising_kept : (p : Offer → Bool) (offers : List Offer) → Rising offers �
 rising_kept p [] rising = tt
 rising_kept p (offer ∷ offers) rising =
     let rest = rising_kept p offers rising.1 in
-    elim (cases_Bool (p offer)) [ inl keeps ↦ rw keeps (precedes_kept p (key_of offer) offers rising.0, rest) | inr drops ↦ rw drops rest ]
+    elim (cases_Bool (p offer)) [
+      | inl keeps ↦ rw keeps (precedes_kept p (key_of offer) offers rising.0, rest)
+      | inr
+          drops ↦ rw drops rest
+    ]
 
 -- ---- what stands before an offer
 

@@ -1,5 +1,6 @@
 -- What transactions debit and credit in all accounts together.
-use Rattle.std.proofs.Common.{◌≡◌, ℕ, ◌+◌, Bool, true, false, cond, ◌==◌, ◌&&◌, List, [], ◌∷◌, All, sum_by, Option, Some, None, Ok, Err, inl, inr, refl, sym, ap, ap₂, ◌∙◌, arith}
+use Rattle.std.proofs.Common.{◌≡◌, ℕ, ◌+◌, Bool, true, false, cond, ◌==◌, ◌&&◌, List, [], ◌∷◌, All, sum_by, Option}
+use Rattle.std.proofs.Common.{Some, None, Ok, Err, inl, inr, refl, sym, ap, ap₂, ◌∙◌, arith}
 use Rattle.std.specs.List.{AllByRecursion, cons_option}
 use Rattle.std.specs.Prelude.{nat_le, nat_lt}
 use Rattle.std.specs.List.Sorted.{IsStrictlyIncreasing}
@@ -13,7 +14,8 @@ use Rattle.sx_ledger.specs.declared.statics.Static.{Static}
 use Rattle.sx_ledger.specs.Body.{created, created_by}
 use Rattle.sx_ledger.specs.Effects.{Posting, credit, credit_of, credits, debit, debit_of, debits, posted}
 use Rattle.sx_ledger.specs.Ledger.{assets_of, ids}
-use Rattle.sx_ledger.specs.Static.{creates_known, first_holding, has_account, is_same_pair, last_of, names_beyond, pays_unknown, static_list, static_of}
+use Rattle.sx_ledger.specs.Static.{creates_known, first_holding, has_account, is_same_pair, last_of, names_beyond}
+use Rattle.sx_ledger.specs.Static.{pays_unknown, static_list, static_of}
 use Rattle.sx_ledger.proofs.ListSums.{sum_by-add, sum_by-none, sum_by-one, sum_by-same}
 use Rattle.sx_ledger.proofs.Postings.{credits_sum, debits_sum}
 use Rattle.sx_ledger.proofs.PlacesOfIds.{Stands, same_place, stands}

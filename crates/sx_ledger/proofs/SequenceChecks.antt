@@ -16,7 +16,9 @@ module _ (parts : Parts) (tx : Tx) where
       → Err UnknownAccount ≡ first_holding (take 3 (static_list parts tx))
   not_there absent = rw (is_unknown parts.accounts tx.account.0 absent) refl
 
-  module _ (place : ℕ) (entry : Account) (up : IsStrictlyIncreasing (ids parts.accounts)) (found : slice_get (ids parts.accounts) place ≡ Some tx.account.0) (at : slice_get parts.accounts place ≡ Some entry) where
+  module _ (place : ℕ) (entry : Account) (up : IsStrictlyIncreasing (ids parts.accounts))
+      (found : slice_get (ids parts.accounts) place ≡ Some tx.account.0)
+      (at : slice_get parts.accounts place ≡ Some entry) where
     last_used : last_of parts.accounts tx.account.0 ≡ entry.window.last
     last_used =
         let same = mark_is (λ (account : Account). account.id.0) parts.accounts place tx.account.0 entry at found in

@@ -1,5 +1,6 @@
 -- Which lists of transactions are the body of a block for a ledger, and what they leave of it before anything trades.
-use Rattle.std.specs.Prelude.{◌≡◌, ℕ, zero, suc, ◌+◌, ◌-◌, ◌^◌, ◌≤◌, Bool, IsTrue, not, List, [], ◌∷◌, length, map, replicate, Option, Some, None, Ok, nat_eq, nat_lt, ◌==◌, ◌&&◌, ◌||◌, if◌then◌else◌}
+use Rattle.std.specs.Prelude.{◌≡◌, ℕ, zero, suc, ◌+◌, ◌-◌, ◌^◌, ◌≤◌, Bool, IsTrue, not, List, [], ◌∷◌, length, map}
+use Rattle.std.specs.Prelude.{replicate, Option, Some, None, Ok, nat_eq, nat_lt, ◌==◌, ◌&&◌, ◌||◌, if◌then◌else◌}
 use Rattle.std.specs.List.{All, IsDistinct, filter, filter_map, list_any}
 use Rattle.sx_bytes.specs.Grammar.{in_order}
 use Rattle.sx_ledger.specs.declared.account.Account.{Account}

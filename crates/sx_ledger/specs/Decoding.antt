@@ -1,5 +1,6 @@
 -- Reading a state from left to right, with the first fault.
-use Rattle.std.specs.Prelude.{ℕ, zero, suc, ◌-◌, Bool, true, not, List, [], ◌∷◌, length, Option, Some, None, Result, Ok, Err, nat_lt, nat_le, ◌==◌, ◌&&◌, if◌then◌else◌}
+use Rattle.std.specs.Prelude.{ℕ, zero, suc, ◌-◌, Bool, true, not, List, [], ◌∷◌, length, Option, Some, None, Result}
+use Rattle.std.specs.Prelude.{Ok, Err, nat_lt, nat_le, ◌==◌, ◌&&◌, if◌then◌else◌}
 use Rattle.sx_base.specs.Ranges.{most_amount, most_assets, most_seq}
 use Rattle.sx_bytes.specs.declared.fault.Form.TheVariants as form
 use Rattle.sx_bytes.specs.declared.fault.FormFault.{FormFault}

@@ -1,12 +1,15 @@
 -- What a ledger says of one transaction, whatever stands beside it in a block.
-use Rattle.std.specs.Prelude.{ℕ, ◌+◌, ◌*◌, ◌^◌, Bool, false, not, List, [], ◌∷◌, Result, Ok, Err, nat_lt, nat_le, ◌==◌, ◌||◌, if◌then◌else◌}
+use Rattle.std.specs.Prelude.{ℕ, ◌+◌, ◌*◌, ◌^◌, Bool, false, not, List, [], ◌∷◌, Result, Ok, Err, nat_lt, nat_le}
+use Rattle.std.specs.Prelude.{◌==◌, ◌||◌, if◌then◌else◌}
 use Rattle.std.specs.List.{list_any}
 use Rattle.sx_ledger.specs.declared.account.Account.{Account}
 use Rattle.sx_ledger.specs.declared.key.Key.{Key}
 use Rattle.sx_ledger.specs.declared.offer.Offer.{Offer}
 use Rattle.sx_ledger.specs.declared.parts.Parts.{Parts}
 use Rattle.sx_ledger.specs.declared.statics.Static.{Static}
-use Rattle.sx_ledger.specs.declared.statics.Static.TheVariants.{UnknownAccount, SeqBehind, SeqBeyond, UnknownAsset, SamePair, UnknownPayee, AccountExists, NoSuchOffer, Dust}
+use Rattle.sx_ledger.specs.declared.statics.Static.TheVariants.{UnknownAccount, SeqBehind, SeqBeyond, UnknownAsset}
+use Rattle.sx_ledger.specs.declared.statics.Static.TheVariants.{SamePair, UnknownPayee, AccountExists, NoSuchOffer}
+use Rattle.sx_ledger.specs.declared.statics.Static.TheVariants.{Dust}
 use Rattle.sx_ledger.specs.Ledger.{assets_of}
 use Rattle.sx_ledger.specs.Order.{key_of, same_key}
 use Rattle.sx_tx.specs.declared.kind.Kind.{Kind}
