@@ -1,16 +1,18 @@
 -- Sums of credits, which are kept row after row: the places of the sums, and what one credit more does.
-use Rattle.std.proofs.Common.{◌≡◌, ℕ, zero, suc, ◌+◌, ◌*◌, ◌<◌, ◌≤◌, Bool, true, false, cond, ◌==◌, ◌&&◌, List, [], ◌∷◌, length, Option, None, Contains, Some, Ok, inl, inr, refl, sym, ap, ◌∙◌, arith, suc-mul, mul-le-mul_right, add-zero, le_refl, eq-eqb, ne_eqb}
+use Rattle.std.proofs.Common.{◌≡◌, ℕ, zero, suc, ◌+◌, ◌*◌, ◌<◌, ◌≤◌, Bool, true, false, cond, ◌==◌, ◌&&◌, List, []}
+use Rattle.std.proofs.Common.{◌∷◌, Option, None, Contains, Some, Ok, inl, inr, refl, sym, ap, ◌∙◌, arith}
+use Rattle.std.proofs.Common.{suc-mul, mul-le-mul_right, add-zero, le_refl, eq-eqb, ne_eqb}
 use Rattle.std.specs.Prelude.{slice_get, Err, IfNone, nat_le}
 use Rattle.std.specs.List.{AllByRecursion}
 use Rattle.std.specs.List.Sorted.{IsStrictlyIncreasing}
-use Rattle.std.proofs.lemmas.Bool.{and_parts, false_from_ne_true, and_right, cases_Bool, cases_eq, cases_order, leb-false, not-false, or_parts}
+use Rattle.std.proofs.lemmas.Bool.{and_parts, false_from_ne_true, and_right, cases_Bool, cases_eq, cases_order}
+use Rattle.std.proofs.lemmas.Bool.{leb-false, not-false, or_parts}
 use Rattle.std.proofs.lemmas.Bool.Decides.{same_from_decides, Decides-eqb, Decides-like}
-use Rattle.std.proofs.lemmas.List.{length-map}
 use Rattle.std.proofs.lemmas.Option.{get_or_from_slice_get, same_Some, slice_get_within}
 use Rattle.sx_base.specs.declared.account_id.AccountId.{AccountId}
 use Rattle.sx_body.specs.declared.credits.Credit.{Credit}
 use Rattle.sx_body.specs.declared.credits.Credits.{Credits}
-use Rattle.sx_body.specs.Credits.{HasShape, IsCredit, sum_at}
+use Rattle.sx_body.specs.Credits.{IsCredit, sum_at}
 use Rattle.sx_ledger.specs.declared.account.Account.{Account}
 use Rattle.sx_ledger.specs.declared.key.Key.{Key}
 use Rattle.sx_ledger.specs.declared.offer.Offer.{Offer}
@@ -18,10 +20,10 @@ use Rattle.sx_ledger.specs.declared.parts.Parts.{Parts}
 use Rattle.sx_ledger.specs.declared.statics.Static.{Static}
 use Rattle.sx_ledger.specs.Effects.{amount_of, credit, posted}
 use Rattle.sx_ledger.specs.Ledger.{assets_of, ids, keys}
-use Rattle.sx_ledger.specs.Static.{cancels_unknown, first_holding, has_account, has_offer, names_beyond, pays_unknown, static_list, static_of}
+use Rattle.sx_ledger.specs.Static.{cancels_unknown, first_holding, has_account, has_offer, names_beyond, pays_unknown}
+use Rattle.sx_ledger.specs.Static.{static_list, static_of}
 use Rattle.sx_bytes.specs.Grammar.{in_order, may_follow}
 use Rattle.sx_ledger.specs.Order.{key_before, key_of, same_key}
-use Rattle.sx_ledger.proofs.Insertion.{id_of}
 use Rattle.sx_ledger.proofs.KeyOrder.{before_both, before_differs, same_key_from, same_key_is}
 use Rattle.sx_ledger.proofs.PlacesOfIds.{same_place, stands}
 use Rattle.sx_ledger.proofs.PostingTotals.{passes}
@@ -44,15 +46,6 @@ apart_in_table width p x place asset in_x in_asset other same =
       | inr (inl lt) ↦ absurd (omega (arith, row_before width p x place in_x lt))
       | inr (inr gt) ↦ absurd (omega (arith, row_before width place asset p in_asset gt))
     ]
-
-pub row_fits : (sums : Credits) (accounts : List Account) (width place account : ℕ)
-    → HasShape sums (length accounts) width → slice_get (ids accounts) place ≡ Some account
-    → (place + 1) * sums.assets ≤ length sums.sums.items
-row_fits sums accounts width place account shape there =
-    let below : place < length accounts =
-    omega (arith, slice_get_within (ids accounts) place account there, length-map accounts id_of) in
-    let le : (place + 1) * width ≤ length accounts * width = mul-le-mul_right width (omega arith) in
-    rw shape.assets (omega (arith, shape.cells))
 
 -- ---- one credit
 
@@ -100,7 +93,8 @@ module _ (parts : Parts) (up : IsStrictlyIncreasing (ids parts.accounts)) (tx : 
       same_test (ids parts.accounts) up one.place place is.account account is.there there in
       rw (is.posting, ← test) added
 
-  pub grows_little : (place asset : ℕ) → asset < old.assets → sum_at new place asset ≤ sum_at old place asset + one.amount
+  pub grows_little : (place asset : ℕ) → asset < old.assets →
+      sum_at new place asset ≤ sum_at old place asset + one.amount
   grows_little place asset lt =
       let added = added_at old new one.place one.asset one.amount here elsewhere place asset lt in
       omega (arith, added, cond_zero-le ((one.place == place) && (one.asset == asset)) one.amount)
@@ -182,7 +176,8 @@ before_later : (k : Key) (ks : List Key) (place : ℕ) (key : Key) → in_order 
     → slice_get ks place ≡ Some key → key_before k key ≡ true
 before_later k [] place key ordered there = absurd cc
 before_later k (first ∷ ks) zero key ordered there =
-    ap (key_before k) (sym (same_Some first key there)) ∙ (and_parts (key_before k first) (in_order key_before (Some first) ks) ordered).0
+    ap (key_before k) (sym (same_Some first key there)) ∙
+    (and_parts (key_before k first) (in_order key_before (Some first) ks) ordered).0
 before_later k (first ∷ ks) (suc place) key ordered there =
     let both = and_parts (key_before k first) (in_order key_before (Some first) ks) ordered in
     before_both k first key both.0 (before_later first ks place key both.1 there)
@@ -195,14 +190,18 @@ amount_found previous (one ∷ offers) zero offer key ordered there found =
     rw (same_key_from (key_of one) key (same_Some (key_of one) key found))
     (ap (λ (o : Offer). o.amount) (sym (same_Some one offer there)))
 amount_found previous (one ∷ offers) (suc place) offer key ordered there found =
-    let both = and_parts (may_follow key_before previous (key_of one)) (in_order key_before (Some (key_of one)) (keys offers)) ordered in
+    let both = and_parts (may_follow key_before previous (key_of one))
+    (in_order key_before (Some (key_of one)) (keys offers)) ordered in
     let before = before_later (key_of one) (keys offers) place key both.1 found in
     let other : same_key (key_of one) key ≡ false = false_from_ne_true (same_key (key_of one) key) (λ e.
     let differ : same_key key (key_of one) ≡ false = before_differs (key_of one) key before in
-    let same : same_key key (key_of one) ≡ true = same_key_from key (key_of one) (sym (same_key_is (key_of one) key e)) in
+    let same : same_key key (key_of one) ≡ true =
+    same_key_from key (key_of one) (sym (same_key_is (key_of one) key e)) in
     absurd cc) in
     rw other (amount_found (Some (key_of one)) offers place offer key both.1 there found)
 
-pub amount_is : (offers : List Offer) (place : ℕ) (offer : Offer) (key : Key) → in_order key_before None (keys offers) ≡ true
-    → slice_get offers place ≡ Some offer → slice_get (keys offers) place ≡ Some key → offer.amount ≡ amount_of offers key
+pub amount_is : (offers : List Offer) (place : ℕ) (offer : Offer) (key : Key) →
+    in_order key_before None (keys offers) ≡ true
+    → slice_get offers place ≡ Some offer → slice_get (keys offers) place ≡ Some key →
+    offer.amount ≡ amount_of offers key
 amount_is offers place offer key = amount_found None offers place offer key

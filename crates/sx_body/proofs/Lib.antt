@@ -4,6 +4,7 @@ pub mod Overdrafts
 pub mod SameOrder
 pub mod UsedNumbers
 pub mod CreditSums
+pub mod InPlace
 pub mod SettledAccounts
 pub mod SettledOffers
 pub mod Refusals

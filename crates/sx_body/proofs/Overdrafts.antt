@@ -1,5 +1,6 @@
 -- The first overdraft of accounts that are looked at one after the other.
-use Rattle.std.proofs.Common.{◌≡◌, ℕ, ◌+◌, ◌<◌, ◌≤◌, true, ◌==◌, List, [], ◌∷◌, length, get_or, All, Some, None, Ok, inl, inr, refl, sym, ap, subst, ◌∙◌, arith}
+use Rattle.std.proofs.Common.{◌≡◌, ℕ, ◌+◌, ◌<◌, ◌≤◌, true, ◌==◌, List, [], ◌∷◌, length, get_or, All, Some, None, Ok}
+use Rattle.std.proofs.Common.{inl, inr, refl, sym, ap, subst, ◌∙◌, arith}
 use Rattle.std.specs.Prelude.{slice_get}
 use Rattle.std.proofs.lemmas.Bool.{cases_Bool, cases_lt, cases_order}
 use Rattle.std.proofs.lemmas.List.{get_or-map, get_or_default, length-map}
@@ -29,7 +30,8 @@ AllCovered accounts txs n =
     (i : ℕ) (d : Account) → i < n → (asset : ℕ) →
     debits txs (get_or accounts i d).id.0 asset ≤ balance_at asset (get_or accounts i d)
 
-module _ (parts : Parts) (keeps : IsLedger parts) (txs : List Tx) (pass : All (λ tx. static_of parts tx ≡ Ok tt) txs) where
+module _ (parts : Parts) (keeps : IsLedger parts) (txs : List Tx)
+    (pass : All (λ tx. static_of parts tx ≡ Ok tt) txs) where
   passing : All (Passes parts) txs
   passing = λ k d lt. passes parts (get_or txs k d) (pass k d lt)
 

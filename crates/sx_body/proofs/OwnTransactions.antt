@@ -1,10 +1,13 @@
 -- The transactions of one account stand together where all stand by account.
-use Rattle.std.proofs.Common.{◌≡◌, ◌≢◌, ℕ, zero, suc, ◌+◌, ◌-◌, ◌<◌, ◌≤◌, true, ◌==◌, ◌&&◌, List, [], ◌∷◌, ◌++◌, length, get_or, take, drop, All, Contains, Option, Some, None, inl, inr, refl, sym, ap, ◌∙◌, subst, arith}
+use Rattle.std.proofs.Common.{◌≡◌, ◌≢◌, ℕ, zero, suc, ◌+◌, ◌-◌, ◌<◌, ◌≤◌, true, ◌==◌, ◌&&◌, List, [], ◌∷◌, ◌++◌}
+use Rattle.std.proofs.Common.{length, get_or, take, drop, All, Contains, Option, Some, None, inl, inr, refl, sym, ap}
+use Rattle.std.proofs.Common.{◌∙◌, subst, arith}
 use Rattle.std.specs.Prelude.{nat_lt}
 use Rattle.std.specs.List.Sorted.{IsStrictlyIncreasing}
 use Rattle.std.proofs.lemmas.Bool.{and_parts, cases_Bool, eq-eqb, eqb-true, ltb-true, ne_eqb, or_cases}
 use Rattle.std.proofs.lemmas.List.{drop_more, get_or-drop, get_or-map, length-drop, length-map}
-use Rattle.std.proofs.lemmas.List.Elements.{All-cons, All-from_get_or, All-head, All-nil, All-tail, All-weaker, filter-append}
+use Rattle.std.proofs.lemmas.List.Elements.{All-cons, All-from_get_or, All-head, All-nil, All-tail, All-weaker}
+use Rattle.std.proofs.lemmas.List.Elements.{filter-append}
 use Rattle.sx_body.specs.Own.{AreLeft, own_of}
 use Rattle.sx_bytes.specs.Grammar.{in_order, may_follow}
 use Rattle.sx_ledger.specs.declared.account.Account.{Account}
@@ -140,7 +143,8 @@ rises xs up i (suc k) lt =
     let same : i + suc k + 1 ≡ i + k + 1 + 1 = omega arith in
     rw same (omega arith)
 
-pub rises_to : (xs : List ℕ) → IsStrictlyIncreasing xs → (i j : ℕ) → i < j → j < length xs → get_or xs i 0 < get_or xs j 0
+pub rises_to : (xs : List ℕ) → IsStrictlyIncreasing xs → (i j : ℕ) → i < j → j < length xs →
+    get_or xs i 0 < get_or xs j 0
 rises_to xs up i j lt in_range =
     let same : i + (j - i - 1) + 1 ≡ j = omega arith in
     rw same at (rises xs up i (j - i - 1) (omega arith))
@@ -163,7 +167,8 @@ low_ids id ids left above among k d lt = one (get_or left k d).account.0 (among 
 
 -- ---- the walk over accounts
 
-module _ (accounts : List Account) (up : IsStrictlyIncreasing (ids accounts)) (k : ℕ) (account : Account) (lt : k < length accounts)
+module _ (accounts : List Account) (up : IsStrictlyIncreasing (ids accounts)) (k : ℕ) (account : Account)
+    (lt : k < length accounts)
     (is : account ≡ get_or accounts k account) where
   abbrev id : ℕ
   id = account.id.0

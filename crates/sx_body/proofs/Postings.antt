@@ -1,5 +1,6 @@
 -- Debits and credits with one transaction more, and the debits of one account.
-use Rattle.std.proofs.Common.{◌≡◌, ℕ, zero, suc, ◌+◌, ◌<◌, ◌≤◌, true, false, ◌==◌, List, [], ◌∷◌, get_or, replicate, take, length, All, inl, inr, refl, sym, ap, ◌∙◌, arith}
+use Rattle.std.proofs.Common.{◌≡◌, ℕ, zero, suc, ◌+◌, ◌<◌, ◌≤◌, true, false, ◌==◌, List, [], ◌∷◌, get_or, replicate}
+use Rattle.std.proofs.Common.{take, length, All, inl, inr, refl, sym, ap, ◌∙◌, arith}
 use Rattle.std.specs.Prelude.{nat_le}
 use Rattle.std.proofs.lemmas.Bool.{and_right, cases_Bool, leb-false, ne_eqb, or_parts}
 use Rattle.std.proofs.lemmas.List.{take_more}

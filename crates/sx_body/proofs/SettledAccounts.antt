@@ -1,12 +1,14 @@
 -- The accounts that the walk and the sums of credits leave are those after the body.
-use Rattle.std.proofs.Common.{◌≡◌, ℕ, zero, suc, ◌+◌, ◌-◌, ◌^◌, ◌<◌, ◌≤◌, false, ◌==◌, List, [], ◌∷◌, ◌++◌, length, get_or, map, replicate, All, Some, refl, sym, ap, ap₂, subst, ◌∙◌, arith}
+use Rattle.std.proofs.Common.{◌≡◌, ℕ, zero, suc, ◌+◌, ◌-◌, ◌^◌, ◌<◌, ◌≤◌, false, ◌==◌, List, [], ◌∷◌, ◌++◌, length}
+use Rattle.std.proofs.Common.{get_or, map, replicate, All, Some, refl, sym, ap, ap₂, subst, ◌∙◌, arith}
 use Rattle.std.specs.Prelude.{nat_eq, nat_lt, slice_index}
 use Rattle.std.specs.List.{AllByRecursion}
 use Rattle.std.specs.List.Sorted.{IsNonDecreasingBy, IsPermutation}
 use Rattle.std.proofs.lemmas.Bool.{eq-eqb, eqb-true, le-ltb, leb-false, lt-ltb, ltb-false, ltb-true}
 use Rattle.std.proofs.lemmas.List.{get_or-map, get_or_default, length-map, same_lists}
 use Rattle.std.proofs.lemmas.List.Elements.{All-filter}
-use Rattle.std.proofs.lemmas.List.Sorted.{All-permutation, IsPermutation-append_comm, IsPermutation-sym, IsPermutation-trans}
+use Rattle.std.proofs.lemmas.List.Sorted.{All-permutation, IsPermutation-append_comm, IsPermutation-sym}
+use Rattle.std.proofs.lemmas.List.Sorted.{IsPermutation-trans}
 use Rattle.std.proofs.lemmas.Option.{slice_get-get_or}
 use Rattle.sx_base.specs.declared.account_id.AccountId.{AccountId}
 use Rattle.sx_body.specs.Own.{own_of}
@@ -18,7 +20,8 @@ use Rattle.sx_body.proofs.UsedNumbers.{numbers_own}
 use Rattle.sx_ledger.specs.declared.account.Account.{Account}
 use Rattle.sx_ledger.specs.declared.offer.Offer.{Offer}
 use Rattle.sx_ledger.specs.declared.parts.Parts.{Parts}
-use Rattle.sx_ledger.specs.Body.{IsAdmissible, account_after, accounts_after, balances_after, body_after, created, holding_of, new_account, used_numbers}
+use Rattle.sx_ledger.specs.Body.{IsAdmissible, account_after, accounts_after, balances_after, body_after, created}
+use Rattle.sx_ledger.specs.Body.{holding_of, new_account, used_numbers}
 use Rattle.sx_ledger.specs.Effects.{credits, debits}
 use Rattle.sx_ledger.specs.Ledger.{IsAccount, IsLedger, assets_of, balance_at, ids}
 use Rattle.sx_ledger.specs.Static.{has_account, last_of}
@@ -73,7 +76,8 @@ same_account a b id window balances =
     let made : AccountId → Window → List ℕ → Account = λ i w bs. record { id = i; window = w; balances = bs } in
     ap (λ (i : AccountId). made i a.window a.balances) id ∙ ap₂ (made b.id) window balances
 
-module _ (parts : Parts) (txs : List Tx) (keeps : IsLedger parts) (in_range : All IsTx txs) (body : IsAdmissible parts txs) where
+module _ (parts : Parts) (txs : List Tx) (keeps : IsLedger parts) (in_range : All IsTx txs)
+    (body : IsAdmissible parts txs) where
   passing : All (Passes parts) txs
   passing = λ k d below. passes parts (get_or txs k d) (body.passes k d below)
 
@@ -91,7 +95,8 @@ module _ (parts : Parts) (txs : List Tx) (keeps : IsLedger parts) (in_range : Al
 
   -- ---- an account that was there
 
-  module _ (k : ℕ) (account : Account) (lt : k < length parts.accounts) (is : account ≡ get_or parts.accounts k account) where
+  module _ (k : ℕ) (account : Account) (lt : k < length parts.accounts)
+      (is : account ≡ get_or parts.accounts k account) where
     is_account : IsAccount (assets_of parts) account
     is_account = subst (IsAccount (assets_of parts)) (sym is) (keeps.accounts k account lt)
 
@@ -108,7 +113,8 @@ module _ (parts : Parts) (txs : List Tx) (keeps : IsLedger parts) (in_range : Al
 
     -- what the account has after the body is in range
     fits : (asset : ℕ) → asset < length account.balances
-        → (balance_at asset account - debits txs account.id.0 asset) + credits parts.offers txs account.id.0 asset ≤ 2 ^ 62
+        → (balance_at asset account - debits txs account.id.0 asset) + credits parts.offers txs account.id.0 asset ≤
+        2 ^ 62
     fits asset below =
         let wide = length-balances_after parts.offers txs account.id.0 0 account.balances in
         omega (arith, balance_after parts txs account asset below, still_account.in_range asset 0 (omega (arith, wide)))
@@ -123,25 +129,22 @@ module _ (parts : Parts) (txs : List Tx) (keeps : IsLedger parts) (in_range : Al
       -- its numbers are open
       pub all_open : All (λ tx. (account.window.last < tx.seq) × (tx.seq ≤ account.window.last + 64)) own
       all_open =
-          let P = λ (tx : Tx). tx.account.0 ≡ account.id.0 → (account.window.last < tx.seq) × (tx.seq ≤ account.window.last + 64) in
+          let P = λ (tx : Tx). tx.account.0 ≡ account.id.0 → (account.window.last < tx.seq) ×
+          (tx.seq ≤ account.window.last + 64) in
           let last : last_of parts.accounts account.id.0 ≡ account.window.last =
-          last_is parts.accounts k account (slice_get-get_or parts.accounts k account lt ∙ ap (λ (a : Account). Some a) (sym is)) keeps.by_id in
+          last_is parts.accounts k account
+          (slice_get-get_or parts.accounts k account lt ∙ ap (λ (a : Account). Some a) (sym is)) keeps.by_id in
           let every : All P txs = λ j d below mine_too.
           let pass = passing j d below in
           let here : last_of parts.accounts (get_or txs j d).account.0 ≡ account.window.last =
           ap (last_of parts.accounts) mine_too ∙ last in
           let above = leb-false (get_or txs j d).seq (last_of parts.accounts (get_or txs j d).account.0) pass.above in
-          let within = ltb-false (last_of parts.accounts (get_or txs j d).account.0 + 64) (get_or txs j d).seq pass.within in
+          let within = ltb-false (last_of parts.accounts (get_or txs j d).account.0 + 64) (get_or txs j d).seq
+          pass.within in
           (omega arith, omega arith) in
           subst (All (λ tx. (account.window.last < tx.seq) × (tx.seq ≤ account.window.last + 64))) (sym mine)
           (λ j d below. All-filter (λ tx. tx.account.0 == account.id.0) P txs every j d below
           (own_all account.id.0 txs j d below))
-
-      pub few_assets : length account.balances ≤ 32
-      few_assets = omega (arith, is_account.balances, keeps.few_assets)
-
-      pub width : length account.balances ≡ assets_of parts
-      width = is_account.balances
 
       pub all_covered : (asset : ℕ) → debits own account.id.0 asset ≤ balance_at asset account
       all_covered asset =
@@ -151,7 +154,8 @@ module _ (parts : Parts) (txs : List Tx) (keeps : IsLedger parts) (in_range : Al
           omega (arith, debits_are asset, body.covered account.id.0 asset)
 
       module _ (row : List ℕ)
-          (rows : (asset : ℕ) → asset < assets_of parts → slice_index row asset ≡ credits parts.offers txs account.id.0 asset) where
+          (rows : (asset : ℕ) → asset < assets_of parts →
+          slice_index row asset ≡ credits parts.offers txs account.id.0 asset) where
         pub all_fit : (asset : ℕ) → asset < length account.balances
             → (balance_at asset account - debits own account.id.0 asset) + slice_index row asset < 2 ^ 64
         all_fit asset below = omega (
@@ -168,7 +172,8 @@ module _ (parts : Parts) (txs : List Tx) (keeps : IsLedger parts) (in_range : Al
             ≡ (balance_at asset account - debits own account.id.0 asset) + slice_index row asset)
             → after ≡ account_after parts txs account
         settled_is after id window as_many each =
-            let word : used_numbers own account.id.0 account.window.last ≡ used_numbers txs account.id.0 account.window.last =
+            let word : used_numbers own account.id.0 account.window.last ≡ used_numbers txs account.id.0
+            account.window.last =
             ap (λ (xs : List Tx). used_numbers xs account.id.0 account.window.last) mine
             ∙ numbers_own account.id.0 account.window.last txs in
             let wide = length-balances_after parts.offers txs account.id.0 0 account.balances in
@@ -191,7 +196,12 @@ module _ (parts : Parts) (txs : List Tx) (keeps : IsLedger parts) (in_range : Al
 
   fresh_is : (id : ℕ) → has_account parts.accounts id ≡ false → fresh (assets_of parts) id ≡ new_account parts txs id
   fresh_is id absent =
-      ap (λ (balances : List ℕ). record { id = record { 0 = id }; window = record { last = 0; used = 0 }; balances = balances })
+      ap (λ (balances : List ℕ). record {
+        id = record { 0 = id };
+        window = record { last = 0; used = 0 };
+        balances =
+            balances;
+      })
       (sym (zeros_after parts.offers txs id 0 (assets_of parts)
       (λ asset. credits_elsewhere parts.accounts parts.offers id asset txs absent (credits_there parts txs passing))))
 
@@ -206,7 +216,8 @@ module _ (parts : Parts) (txs : List Tx) (keeps : IsLedger parts) (in_range : Al
       → IsNonDecreasingBy (λ account. account.id.0) after → after ≡ accounts_after parts txs
   accounts_are after permuted rises =
       let same = fresh_are (created txs) (created_absent parts txs passing) in
-      let from : IsPermutation (olds ++ news) after = subst (λ (xs : List Account). IsPermutation (olds ++ xs) after) same permuted in
+      let from : IsPermutation (olds ++ news) after =
+      subst (λ (xs : List Account). IsPermutation (olds ++ xs) after) same permuted in
       sym (one_list id_of nat_lt nat_eq eqb-true (λ a. eq-eqb a a refl)
       (λ a b c x y. lt-ltb a c (omega (arith, ltb-true a b x, ltb-true b c y)))
       (λ a e. absurd (omega (arith, ltb-true a a e)))

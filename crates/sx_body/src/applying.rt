@@ -25,7 +25,6 @@ fn with_accounts(
     ensures { IfOk result (λ parts. parts ≡ with_all_accounts ledger txs.now) }
 {
     let assets = ledger.assets() as usize;
-    let parts = settled(alloc, ledger, txs, credits)?;
     let Parts {
         version,
         height,
@@ -33,7 +32,7 @@ fn with_accounts(
         rounding,
         accounts,
         offers,
-    } = parts;
+    } = settled(alloc, ledger, txs, credits);
     let accounts = with_created(alloc, accounts.into_items(), txs, assets)?;
     Ok(Parts {
         version,

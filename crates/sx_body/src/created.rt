@@ -3,23 +3,14 @@
 ghost use Rattle.std.specs.Prelude.{◌≡◌, ◌++◌, ℕ, length, map, IfOk, OnOk};
 ghost use Rattle.std.specs.List.Sorted.{IsNonDecreasingBy, IsPermutation};
 ghost use Rattle.sx_body.specs.Settled.{fresh};
-ghost use Rattle.sx_ledger.specs.Body.{created, created_by};
+ghost use Rattle.sx_ledger.specs.Body.{created};
 
+use crate::kinds::created_id;
 use std::alloc::Global;
 use sx_base::{AccountId, Balances};
 use sx_bytes::NoMemory;
 use sx_ledger::Account;
-use sx_tx::{Kind, Tx, Window};
-
-// The id of the account that a transaction creates.
-fn created_id(tx: &Tx) -> Option<u64>
-    ensures { result ≡ created_by tx.now.kind }
-{
-    match tx.kind {
-        Kind::Create { id } => Some(id.0),
-        Kind::Pay { .. } | Kind::Offer { .. } | Kind::Cancel { .. } => None,
-    }
-}
+use sx_tx::{Tx, Window};
 
 // The ids of the accounts that are created.
 fn created_ids(alloc: Global, txs: &[Tx]) -> Result<Vec<u64>, NoMemory>

@@ -1,58 +1,16 @@
 //! The offers of a ledger after a body.
 
 ghost use Rattle.std.specs.Prelude.{◌≡◌, ◌++◌, [], ◌∷◌, not, if◌then◌else◌, IfOk, OnOk};
-ghost use Rattle.std.specs.List.{list_any};
-ghost use Rattle.std.specs.List.Sorted.{IsPermutation, IsSorted};
-ghost use Rattle.sx_ledger.specs.Body.{IsAdmissible, cancelled, cancelled_by, kept_offers, made, made_by, offers_after as all_after};
+ghost use Rattle.std.specs.List.{filter, list_any};
+ghost use Rattle.std.specs.List.Sorted.{IsPermutation, IsSorted, IsSortedByKey};
+ghost use Rattle.sx_ledger.specs.Body.{IsAdmissible, cancelled, kept_offers, made, offers_after as all_after};
 ghost use Rattle.sx_ledger.specs.Order.{key_cmp, key_of, same_key};
 
+use crate::kinds::{cancelled_key, made_offer};
 use std::alloc::Global;
 use sx_bytes::NoMemory;
 use sx_ledger::{Key, Ledger, Offer, Offers};
-use sx_tx::{Kind, Tx};
-
-// The key of the offer that a transaction cancels.
-fn cancelled_key(tx: &Tx) -> Option<Key>
-    ensures { result ≡ cancelled_by tx.now tx.now.kind }
-{
-    match tx.kind {
-        Kind::Cancel {
-            sell,
-            buy,
-            limit,
-            seq,
-        } => Some(Key {
-            sell,
-            buy,
-            limit,
-            account: tx.account,
-            seq,
-        }),
-        Kind::Pay { .. } | Kind::Create { .. } | Kind::Offer { .. } => None,
-    }
-}
-
-// The offer that a transaction makes.
-fn made_offer(tx: &Tx) -> Option<Offer>
-    ensures { result ≡ made_by tx.now tx.now.kind }
-{
-    match tx.kind {
-        Kind::Offer {
-            sell,
-            buy,
-            limit,
-            amount,
-        } => Some(Offer {
-            sell,
-            buy,
-            limit,
-            account: tx.account,
-            seq: tx.seq,
-            amount,
-        }),
-        Kind::Pay { .. } | Kind::Create { .. } | Kind::Cancel { .. } => None,
-    }
-}
+use sx_tx::Tx;
 
 // The keys of the offers that are cancelled.
 fn cancelled_in(alloc: Global, txs: &[Tx]) -> Result<Vec<Key>, NoMemory>
@@ -95,16 +53,28 @@ fn push_kept(kept: &mut Vec<Offer>, keys: &[Key], offer: &Offer) -> Result<(), N
     Ok(())
 }
 
-// The offers that are not cancelled.
+// The offers whose keys are not among these, which are in order.
+fn kept_but(alloc: Global, offers: &[Offer], keys: &[Key]) -> Result<Vec<Offer>, NoMemory>
+    requires { IsSorted key_cmp keys.now }
+    ensures { IfOk result (λ kept. kept.items ≡ filter (λ offer. not (list_any (same_key (key_of offer)) keys.now)) offers.now) }
+{
+    let mut kept = Vec::with_capacity(alloc, offers.len())?;
+    for offer in offers {
+        push_kept(&mut kept, keys, offer)?;
+    }
+    Ok(kept)
+}
+
+// The offers that are not cancelled. Where none is, they are copied at once.
 fn kept(alloc: Global, offers: &[Offer], txs: &[Tx]) -> Result<Vec<Offer>, NoMemory>
     ensures { IfOk result (λ kept. kept.items ≡ kept_offers offers.now txs.now) }
 {
     let keys = cancelled_keys(alloc, txs)?;
-    let mut kept = Vec::with_capacity(alloc, offers.len())?;
-    for offer in offers {
-        push_kept(&mut kept, &keys, offer)?;
+    if keys.is_empty() {
+        let kept = offers.to_vec(alloc)?;
+        return Ok(kept);
     }
-    Ok(kept)
+    kept_but(alloc, offers, &keys)
 }
 
 // The offers that are made.
@@ -115,14 +85,30 @@ fn new_offers(alloc: Global, txs: &[Tx]) -> Result<Vec<Offer>, NoMemory>
     Ok(offers)
 }
 
+// Puts new offers among the others, and all in order of their keys.
+fn with_new(offers: Vec<Offer>, new: &[Offer]) -> Result<Vec<Offer>, NoMemory>
+    ensures all { IfOk result (λ after. IsPermutation (offers.items ++ new.now) after.items) }
+    ensures sorted { IfOk result (λ after. IsSortedByKey key_of key_cmp after.items) }
+{
+    let mut offers = offers;
+    offers.extend_from_slice(new)?;
+    offers.sort_by_key(|offer| offer.key())?;
+    Ok(offers)
+}
+
 /// The offers after the body of a block: those of the ledger that are not cancelled, and those that
-/// are made, in order of their keys.
+/// are made, in order of their keys. Where no offer is cancelled, those of the ledger are copied
+/// without a search; where none is made, nothing is sorted.
 pub fn offers_after(alloc: Global, ledger: &Ledger, txs: &[Tx]) -> Result<Offers, NoMemory>
     requires { IsAdmissible ledger.now txs.now }
     ensures { IfOk result (λ offers. offers ≡ all_after ledger.now txs.now) }
 {
-    let mut offers = kept(alloc, ledger.parts().offers.items(), txs)?;
-    offers.extend_from_slice(&new_offers(alloc, txs)?)?;
-    offers.sort_by_key(|offer| offer.key())?;
-    Ok(Offers::of(offers))
+    let kept = kept(alloc, ledger.parts().offers.items(), txs)?;
+    let new = new_offers(alloc, txs)?;
+    // the offers of a ledger are in order already
+    if new.is_empty() {
+        return Ok(Offers::of(kept));
+    }
+    let all = with_new(kept, &new)?;
+    Ok(Offers::of(all))
 }

@@ -1,7 +1,7 @@
 //! The accounts of a ledger after a body.
 
-ghost use Rattle.std.specs.Prelude.{◌≡◌, ℕ, ◌+◌, ◌-◌, ◌<◌, ◌≤◌, ◌^◌, length, slice_index, IfOk};
-ghost use Rattle.std.specs.List.{All};
+ghost use Rattle.std.specs.Prelude.{◌≡◌, ℕ, ◌+◌, ◌-◌, ◌<◌, ◌≤◌, ◌^◌, length, slice_index, ◌==◌};
+ghost use Rattle.std.specs.List.{All, list_all};
 ghost use Rattle.sx_body.specs.Credits.{HasCredits};
 ghost use Rattle.sx_body.specs.Settled.{settled_parts};
 ghost use Rattle.sx_ledger.specs.Body.{IsAdmissible, used_numbers as numbers_used};
@@ -14,66 +14,68 @@ use crate::debits::debits_of;
 use crate::own::split_own;
 use crate::used::used_numbers;
 use std::alloc::Global;
+use std::mem;
 use sx_base::Balances;
-use sx_bytes::NoMemory;
 use sx_ledger::{Account, Accounts, Ledger, Parts};
 use sx_tx::Tx;
 
-// Balances less their debits, and more by their credits.
-fn moved(balances: Vec<u64>, debits: &[u128], credits: &[u128]) -> Vec<u64>
-    requires debits { length balances.items ≤ length debits.now }
-    requires credits { length balances.items ≡ length credits.now }
-    requires covers { (asset : ℕ) → asset < length balances.items → slice_index debits.now asset ≤ slice_index balances.items asset }
-    requires fits { (asset : ℕ) → asset < length balances.items → (slice_index balances.items asset - slice_index debits.now asset) + slice_index credits.now asset < 2 ^ 64 }
-    ensures as_many { length result.items ≡ length balances.items }
-    ensures each { (asset : ℕ) → asset < length balances.items → slice_index result.items asset ≡ (slice_index balances.items asset - slice_index debits.now asset) + slice_index credits.now asset }
+// Whether there is nothing to credit.
+fn are_zero(credits: &[u128]) -> bool
+    ensures { result ≡ list_all (λ credit. credit == 0) credits.now }
 {
-    let mut balances = balances;
+    for credit in credits {
+        if *credit != 0 {
+            return false;
+        }
+    }
+    true
+}
+
+// Takes debits from balances, and adds credits to them.
+fn change(balances: &mut [u64], debits: &[u128], credits: &[u128])
+    requires debits { length balances.old ≤ length debits.now }
+    requires credits { length balances.old ≡ length credits.now }
+    requires covers { (asset : ℕ) → asset < length balances.old → slice_index debits.now asset ≤ slice_index balances.old asset }
+    requires fits { (asset : ℕ) → asset < length balances.old → (slice_index balances.old asset - slice_index debits.now asset) + slice_index credits.now asset < 2 ^ 64 }
+    ensures as_many { length balances.new ≡ length balances.old }
+    ensures each { (asset : ℕ) → asset < length balances.old → slice_index balances.new asset ≡ (slice_index balances.old asset - slice_index debits.now asset) + slice_index credits.now asset }
+{
     for asset in 0..balances.len() {
         let left = u128::from(balances[asset]) - debits[asset];
         balances[asset] = (left + credits[asset]) as u64;
     }
-    balances
 }
 
-// An account after its own transactions, and after credits to it.
-fn settled_account(version: u8, account: Account, own: &[Tx], credits: &[u128]) -> Account
+// Makes an account what it is after its own transactions, and after credits to it.
+fn settle_account(alloc: Global, version: u8, account: &mut Account, own: &[Tx], credits: &[u128])
     requires version { version ≡ 1 }
-    requires own { All (λ tx. tx.account.0 ≡ account.id.0) own.now }
-    requires in_window { All (λ tx. (account.window.last < tx.seq) × (tx.seq ≤ account.window.last + 64)) own.now }
-    requires few_assets { length account.balances ≤ 32 }
-    requires credits { length account.balances ≡ length credits.now }
-    requires covers { (asset : ℕ) → asset < length account.balances → debits_by own.now account.id.0 asset ≤ balance_at asset account }
-    requires fits { (asset : ℕ) → asset < length account.balances → (balance_at asset account - debits_by own.now account.id.0 asset) + slice_index credits.now asset < 2 ^ 64 }
-    ensures id { result.id ≡ account.id }
-    ensures window { result.window ≡ Next version account.window (numbers_used own.now account.id.0 account.window.last) }
-    ensures as_many { length result.balances ≡ length account.balances }
-    ensures each { (asset : ℕ) → asset < length account.balances → balance_at asset result ≡ (balance_at asset account - debits_by own.now account.id.0 asset) + slice_index credits.now asset }
+    requires own { All (λ tx. tx.account.0 ≡ account.old.id.0) own.now }
+    requires in_window { All (λ tx. (account.old.window.last < tx.seq) × (tx.seq ≤ account.old.window.last + 64)) own.now }
+    requires few_assets { length account.old.balances ≤ 32 }
+    requires credits { length account.old.balances ≡ length credits.now }
+    requires covers { (asset : ℕ) → asset < length account.old.balances → debits_by own.now account.old.id.0 asset ≤ balance_at asset account.old }
+    requires fits { (asset : ℕ) → asset < length account.old.balances → (balance_at asset account.old - debits_by own.now account.old.id.0 asset) + slice_index credits.now asset < 2 ^ 64 }
+    ensures id { account.new.id ≡ account.old.id }
+    ensures window { account.new.window ≡ Next version account.old.window (numbers_used own.now account.old.id.0 account.old.window.last) }
+    ensures as_many { length account.new.balances ≡ length account.old.balances }
+    ensures each { (asset : ℕ) → asset < length account.old.balances → balance_at asset account.new ≡ (balance_at asset account.old - debits_by own.now account.old.id.0 asset) + slice_index credits.now asset }
 {
-    let Account {
-        id,
-        window,
-        balances,
-    } = account;
-    let word = used_numbers(&window, own);
-    let balances = moved(balances.into_items(), &debits_of(own), credits);
-    Account {
-        id,
-        window: window.next(version, word),
-        balances: Balances::of(balances),
+    if own.is_empty() && are_zero(credits) {
+        return;
     }
+    let word = used_numbers(&account.window, own);
+    account.window = account.window.next(version, word);
+    let none = Balances::of(Vec::new(alloc));
+    let mut balances = mem::replace(&mut account.balances, none).into_items();
+    change(&mut balances, &debits_of(own), credits);
+    account.balances = Balances::of(balances);
 }
 
-// The parts of the ledger, with each account as it is after the body.
-pub fn settled(
-    alloc: Global,
-    ledger: Ledger,
-    txs: &[Tx],
-    credits: &Credits,
-) -> Result<Parts, NoMemory>
+// The parts of the ledger, with each account as it is after the body. Accounts change in place.
+pub fn settled(alloc: Global, ledger: Ledger, txs: &[Tx], credits: &Credits) -> Parts
     requires body { IsAdmissible ledger txs.now }
     requires credits { HasCredits ledger txs.now credits.now }
-    ensures { IfOk result (λ parts. parts ≡ settled_parts ledger txs.now) }
+    ensures { result ≡ settled_parts ledger txs.now }
 {
     let Parts {
         version,
@@ -83,20 +85,20 @@ pub fn settled(
         accounts,
         offers,
     } = ledger.into_parts();
-    let mut after = Vec::with_capacity(alloc, accounts.items().len())?;
+    let mut accounts = accounts.into_items();
     let mut left = txs;
-    for account in accounts.into_items() {
+    for place in 0..accounts.len() {
+        let account = &mut accounts[place];
         let (own, others) = split_own(left, account.id);
-        let row = credits.row(after.len());
-        after.push(settled_account(version, account, own, row))?;
+        settle_account(alloc, version, account, own, credits.row(place));
         left = others;
     }
-    Ok(Parts {
+    Parts {
         version,
         height,
         prices,
         rounding,
-        accounts: Accounts::of(after),
+        accounts: Accounts::of(accounts),
         offers,
-    })
+    }
 }

@@ -5,4 +5,5 @@ use Rattle.sx_body.proofs.offers.is_among.Goals as goal
 pub returns : goal.returns
 returns c =
     c.is_ok.ensures.value
-    ∙ told c.args.keys.now c.args.key.now c.requires c.binary_search.result c.binary_search.ensures.bound c.binary_search.ensures.position
+    ∙ told c.args.keys.now c.args.key.now c.requires c.binary_search.result c.binary_search.ensures.bound
+    c.binary_search.ensures.position

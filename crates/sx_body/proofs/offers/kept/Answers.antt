@@ -1,23 +1,22 @@
-use Rattle.std.proofs.Common.{Bool, List, [], ◌∷◌, ◌++◌, ap, cond, not, sym, take, ◌∙◌}
+use Rattle.std.proofs.Common.{◌≡◌, List, length, ap, subst, ◌∙◌, rules}
+use Rattle.std.specs.Prelude.{IfOk, not}
 use Rattle.std.specs.List.{filter, list_any}
-use Rattle.std.proofs.lemmas.List.Elements.{filter_more}
-use Rattle.std.proofs.lemmas.List.Sorted.{list_any-IsPermutation}
+use Rattle.sx_body.proofs.SettledOffers.{kept_by, none_cancelled}
 use Rattle.sx_body.proofs.offers.kept.Goals as goal
+use Rattle.sx_ledger.specs.declared.key.Key.{Key}
 use Rattle.sx_ledger.specs.declared.offer.Offer.{Offer}
-use Rattle.sx_ledger.specs.Body.{cancelled}
 use Rattle.sx_ledger.specs.Order.{key_of, same_key}
 
-pub loop-offer-preserved : goal.loop-offer-preserved
-loop-offer-preserved c =
+pub returns-then-is_empty : goal.returns-then-is_empty
+returns-then-is_empty c =
+    let none : length c.in_ok-keys.keys.items ≡ 0 = search rules in
+    c.in_ok-kept.ensures.items_if_clones_equal (λ x y e. e)
+    ∙ none_cancelled c.args.offers.now c.args.txs.now c.in_ok-keys.keys.items c.in_ok-keys.ensures.all none
+
+pub returns : goal.returns
+returns c =
     let offers = c.args.offers.now in
-    let i = c.loop-offer.offer-index in
-    let offer = c.offer-item.result in
-    let keys = c.in_ok-keys.keys.items in
-    let kept = λ (o : Offer). not (list_any (same_key (key_of o)) (cancelled c.args.txs.now)) in
-    let one = λ (o : Offer) (b : Bool). cond b (o ∷ []) [] in
-    let told = list_any-IsPermutation (same_key (key_of offer)) (cancelled c.args.txs.now) keys c.in_ok-keys.ensures.all in
-    (rw c.deref.ensures.value at c.in_ok-push_kept.ensures)
-    ∙ ap (λ (xs : List Offer). xs ++ one offer (not (list_any (same_key (key_of offer)) keys))) c.loop-offer.invariant
-    ∙ ap (λ (b : Bool). filter kept (take i offers) ++ one offer (not b)) (sym told)
-    ∙ ap (λ (o : Offer). filter kept (take i offers) ++ one o (kept o)) c.offer-item.is
-    ∙ sym (filter_more kept offers i offer c.loop-offer-test.true)
+    let same = ap (λ (keys : List Key). filter (λ (offer : Offer). not (list_any (same_key (key_of offer)) keys)) offers)
+    c.deref.ensures.value
+    ∙ kept_by offers c.args.txs.now c.in_ok-keys.keys.items c.in_ok-keys.ensures.all in
+    subst (λ (xs : List Offer). IfOk c.kept_but.result (λ kept. kept.items ≡ xs)) same c.kept_but.ensures

@@ -20,10 +20,12 @@ split_own-requires c =
     let k = c.loop-account.account-index in
     let account = c.account-item.result in
     let lt : k < length parts.accounts = omega (arith, ap length items) in
-    let is : account ≡ get_or parts.accounts k account = c.account-item.is ∙ ap (λ (xs : List Account). get_or xs k account) items in
+    let is : account ≡ get_or parts.accounts k account = c.account-item.is ∙
+    ap (λ (xs : List Account). get_or xs k account) items in
     record {
       ordered = c.loop-account.invariant.left.ordered;
-      none_before = none_before parts.accounts c.parts.ensures.kept.by_id k account lt is c.args.txs.now c.loop-account.left.now c.loop-account.invariant.left;
+      none_before = none_before parts.accounts c.parts.ensures.kept.by_id k account lt is c.args.txs.now
+          c.loop-account.left.now c.loop-account.invariant.left;
     }
 
 pub overdraft_of-requires : goal.overdraft_of-requires
@@ -34,10 +36,12 @@ overdraft_of-requires c =
     let k = c.loop-account.account-index in
     let account = c.account-item.result in
     let lt : k < length parts.accounts = omega (arith, ap length items) in
-    let is : account ≡ get_or parts.accounts k account = c.account-item.is ∙ ap (λ (xs : List Account). get_or xs k account) items in
+    let is : account ≡ get_or parts.accounts k account = c.account-item.is ∙
+    ap (λ (xs : List Account). get_or xs k account) items in
     let left = c.loop-account.left.now in
     let own = c.split_own.result.0.now in
-    let mine : own ≡ own_of account.id.0 c.args.txs.now = c.split_own.ensures.own ∙ takes_own parts.accounts keeps.by_id k account lt is c.args.txs.now left c.loop-account.invariant.left in
+    let mine : own ≡ own_of account.id.0 c.args.txs.now = c.split_own.ensures.own ∙
+    takes_own parts.accounts keeps.by_id k account lt is c.args.txs.now left c.loop-account.invariant.left in
     let width = (subst (IsAccount (assets_of parts)) (sym is) (keeps.accounts k account lt)).balances in
     record {
       own = subst (All (λ tx. tx.account.0 ≡ account.id.0)) (sym c.split_own.ensures.own) (own_all account.id.0 left);
@@ -52,14 +56,18 @@ loop-account-preserved c =
     let k = c.loop-account.account-index in
     let account = c.account-item.result in
     let lt : k < length parts.accounts = omega (arith, ap length items) in
-    let is : account ≡ get_or parts.accounts k account = c.account-item.is ∙ ap (λ (xs : List Account). get_or xs k account) items in
+    let is : account ≡ get_or parts.accounts k account = c.account-item.is ∙
+    ap (λ (xs : List Account). get_or xs k account) items in
     let left = c.loop-account.left.now in
     let own = c.split_own.result.0.now in
     let split = c.split_own.ensures in
-    let mine : own ≡ own_of account.id.0 c.args.txs.now = split.own ∙ takes_own parts.accounts keeps.by_id k account lt is c.args.txs.now left c.loop-account.invariant.left in
+    let mine : own ≡ own_of account.id.0 c.args.txs.now = split.own ∙
+    takes_own parts.accounts keeps.by_id k account lt is c.args.txs.now left c.loop-account.invariant.left in
     record {
-      left = leaves_others parts.accounts keeps.by_id k account lt is c.args.txs.now left own c.split_own.result.1.now c.loop-account.invariant.left split.own split.all split.later split.ordered;
-      covered = covered_more parts keeps c.args.txs.now c.requires.passes k account lt is own mine c.loop-account.invariant.covered c.in_default.ensures.none;
+      left = leaves_others parts.accounts keeps.by_id k account lt is c.args.txs.now left own
+          c.split_own.result.1.now c.loop-account.invariant.left split.own split.all split.later split.ordered;
+      covered = covered_more parts keeps c.args.txs.now c.requires.passes k account lt is own mine
+          c.loop-account.invariant.covered c.in_default.ensures.none;
     }
 
 pub returns-in-Some : goal.returns-in-Some
@@ -70,14 +78,22 @@ returns-in-Some c =
     let k = c.loop-account.account-index in
     let account = c.account-item.result in
     let lt : k < length parts.accounts = omega (arith, ap length items) in
-    let is : account ≡ get_or parts.accounts k account = c.account-item.is ∙ ap (λ (xs : List Account). get_or xs k account) items in
+    let is : account ≡ get_or parts.accounts k account = c.account-item.is ∙
+    ap (λ (xs : List Account). get_or xs k account) items in
     let left = c.loop-account.left.now in
     let own = c.split_own.result.0.now in
-    let mine : own ≡ own_of account.id.0 c.args.txs.now = c.split_own.ensures.own ∙ takes_own parts.accounts keeps.by_id k account lt is c.args.txs.now left c.loop-account.invariant.left in
+    let mine : own ≡ own_of account.id.0 c.args.txs.now = c.split_own.ensures.own ∙
+    takes_own parts.accounts keeps.by_id k account lt is c.args.txs.now left c.loop-account.invariant.left in
     record {
-      first = is_first parts keeps c.args.txs.now c.requires.passes k account lt is own mine c.loop-account.invariant.covered c.in-Some.overdraft c.in-Some.ensures.first;
+      first = is_first parts keeps c.args.txs.now c.requires.passes k account lt is own mine
+          c.loop-account.invariant.covered c.in-Some.overdraft c.in-Some.ensures.first;
       none = tt;
-      small = omega (arith, c.in-Some.ensures.small, few_own parts keeps c.args.txs.now c.requires.passes k account lt is own mine, c.requires.few);
+      small = omega (
+        arith,
+        c.in-Some.ensures.small,
+        few_own parts keeps c.args.txs.now c.requires.passes k account lt is own mine,
+        c.requires.few,
+      );
     }
 
 pub returns : goal.returns
@@ -87,6 +103,7 @@ returns c =
     let all : length parts.accounts ≤ c.loop-account.account-index = omega (arith, ap length items) in
     record {
       first = tt;
-      none = none_overdrawn parts c.parts.ensures.kept c.args.txs.now c.requires.passes (λ i d below. c.loop-account.invariant.covered i d (omega arith));
+      none = none_overdrawn parts c.parts.ensures.kept c.args.txs.now c.requires.passes
+          (λ i d below. c.loop-account.invariant.covered i d (omega arith));
       small = tt;
     }

@@ -1,4 +1,4 @@
-use Rattle.std.proofs.Common.{◌≡◌, ◌<◌, List, Ok, length, ap, subst, take_all, ◌∙◌, arith}
+use Rattle.std.proofs.Common.{◌≡◌, List, Ok, ap, subst, take_all, ◌∙◌, arith}
 use Rattle.std.specs.List.{All}
 use Rattle.std.proofs.lemmas.List.Elements.{All-more}
 use Rattle.sx_body.proofs.Postings.{credits_more}

@@ -21,13 +21,15 @@ loop-tx-preserved c =
     let tx = c.tx-item.result in
     let lt = c.loop-tx-test.true in
     let kept = c.loop-tx.invariant in
-    let opened = subst (λ (x : Tx). (last < x.seq) × (x.seq ≤ last + 64)) (sym c.tx-item.is) (c.requires.in_window k tx lt) in
+    let opened = subst (λ (x : Tx). (last < x.seq) × (x.seq ≤ last + 64)) (sym c.tx-item.is)
+    (c.requires.in_window k tx lt) in
     let word = ap (bit_or c.loop-tx.word) c.bit_of-word.ensures.bit in
     record {
       bits = λ account all i within.
           let is : tx.account.0 ≡ account = ap (λ (x : Tx). x.account.0) c.tx-item.is ∙ all k tx lt in
           ap (λ (w : ℕ). bit_at w i) word
-          ∙ bits_more c.loop-tx.word last i own k tx account lt c.tx-item.is is opened.0 (kept.bits account all i within);
+          ∙ bits_more c.loop-tx.word last i own k tx account lt c.tx-item.is is opened.0
+          (kept.bits account all i within);
       in_range = λ i within set.
           bit_from c.loop-tx.word tx.seq last i opened.0 (ap (λ (w : ℕ). bit_at w i) (sym word) ∙ set)
           (kept.in_range i within) c.bit_of-word.ensures.in_range;
