@@ -1,5 +1,6 @@
 -- What holds of all fills of a list of offers, and what fills have in all, offer by offer.
-use Rattle.std.proofs.Common.{◌≡◌, ℕ, suc, ◌+◌, ◌/◌, ◌%◌, ◌<◌, ◌≤◌, Bool, cond, eqb, ltb, ◌&&◌, List, [], ◌∷◌, ◌++◌, length, sum_by, Some, refl, sym, ap, ap₂, subst, ◌∙◌, append_assoc, inl, inr, arith}
+use Rattle.std.proofs.Common.{◌≡◌, ℕ, suc, ◌+◌, ◌/◌, ◌%◌, ◌<◌, ◌≤◌, Bool, cond, eqb, ltb, ◌&&◌, List, [], ◌∷◌, ◌++◌}
+use Rattle.std.proofs.Common.{length, sum_by, Some, refl, sym, ap, ap₂, subst, ◌∙◌, append_assoc, inl, inr, arith}
 use Rattle.std.specs.Prelude.{All, slice_get, IfSome}
 use Rattle.std.specs.List.{AllByRecursion}
 use Rattle.std.proofs.Math.Nat.{zero-div, zero-mod}
@@ -33,8 +34,10 @@ module _ (f : ℕ → Offer → Fill) (whole : List Offer) where
       holds (length front) o (ap (λ (xs : List Offer). slice_get xs (length front)) e ∙ at_front front back o) in
       let next = each_fill P holds (front ++ o ∷ []) back (e ∙ sym (append_assoc front (o ∷ []) back)) in
       let rest : AllByRecursion P (trading f (suc (length front)) back) =
-      subst (λ (n : ℕ). AllByRecursion P (trading f n back)) (let s : length (front ++ o ∷ []) ≡ suc (length front) = omega (arith, length_push front o) in s) next in
-      elim (cases_Bool (ltb 0 (f (length front) o).value)) [ inl trades ↦ rw trades (here, rest) | inr none ↦ rw none rest ]
+      subst (λ (n : ℕ). AllByRecursion P (trading f n back))
+      (let s : length (front ++ o ∷ []) ≡ suc (length front) = omega (arith, length_push front o) in s) next in
+      elim (cases_Bool (ltb 0 (f (length front) o).value))
+      [ inl trades ↦ rw trades (here, rest) | inr none ↦ rw none rest ]
 
   -- a sum over the fills is one over the offers
   module _ (placed : (place : ℕ) (o : Offer) → (f place o).place ≡ place) (g : Offer → Fill → ℕ) (units : Offer → ℕ)
@@ -54,14 +57,17 @@ module _ (f : ℕ → Offer → Fill) (whole : List Offer) where
         let here : part fill ≡ units o = ap (of_offer (λ o. g o fill)) there ∙ same (length front) o in
         let next = sum_is (front ++ o ∷ []) back (e ∙ sym (append_assoc front (o ∷ []) back)) in
         let rest : sum_by part (trading f (suc (length front)) back) ≡ sum_by units back =
-        ap (λ (n : ℕ). sum_by part (trading f n back)) (let s : suc (length front) ≡ length (front ++ o ∷ []) = omega (arith, length_push front o) in s) ∙ next in
+        ap (λ (n : ℕ). sum_by part (trading f n back))
+        (let s : suc (length front) ≡ length (front ++ o ∷ []) = omega (arith, length_push front o) in s) ∙ next in
         elim (cases_Bool (ltb 0 fill.value)) [
           | inl trades ↦
               rw trades
-              (sum_by-cons part fill (trading f (suc (length front)) back) ∙ ap₂ ◌+◌ here rest ∙ sym (sum_by-cons units o back))
+              (sum_by-cons part fill (trading f (suc (length front)) back) ∙ ap₂ ◌+◌ here rest ∙
+              sym (sum_by-cons units o back))
           | inr stays ↦
               let nothing : units o ≡ 0 = none (length front) o (omega (arith, ltb-false 0 fill.value stays)) in
-              rw stays (rest ∙ (let e : sum_by units back ≡ units o + sum_by units back = omega arith in e) ∙ sym (sum_by-cons units o back))
+              rw stays (rest ∙ (let e : sum_by units back ≡ units o + sum_by units back = omega arith in e) ∙
+              sym (sum_by-cons units o back))
         ]
 
 -- ---- what all fills give and get
@@ -104,7 +110,8 @@ module _ (prices : List ℕ) (flow : Flow) (offers : List Offer) where
       sum_is (fill_of prices flow offers) offers (λ p o. refl)
       (λ o fill. cond (eqb o.account.0 account && eqb o.buy asset) fill.gets 0)
       (λ o. cond (eqb o.account.0 account && eqb o.buy asset) (gets prices flow offers o) 0) (λ p o. refl)
-      (λ p o e. nothing_if (eqb o.account.0 account && eqb o.buy asset) (gets prices flow offers o) (no_gets o e)) [] offers refl
+      (λ p o e. nothing_if (eqb o.account.0 account && eqb o.buy asset) (gets prices flow offers o) (no_gets o e))
+      [] offers refl
 
   -- each fill stands at an offer
   pub places_are : All (λ fill. fill.place < length offers) fills
@@ -118,5 +125,6 @@ module _ (prices : List ℕ) (flow : Flow) (offers : List Offer) where
       → All (λ fill. IfSome (slice_get offers fill.place) (λ o. fill.gives ≤ o.amount)) fills
   gives_within has =
       All-from_recursion (λ fill. IfSome (slice_get offers fill.place) (λ o. fill.gives ≤ o.amount)) fills
-      (each_fill (fill_of prices flow offers) offers (λ fill. IfSome (slice_get offers fill.place) (λ o. fill.gives ≤ o.amount))
+      (each_fill (fill_of prices flow offers) offers
+      (λ fill. IfSome (slice_get offers fill.place) (λ o. fill.gives ≤ o.amount))
       (λ place o there. rw there (has place o there)) [] offers refl)

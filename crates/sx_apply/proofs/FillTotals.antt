@@ -26,7 +26,8 @@ got_of prices flow offers fills asset are =
 pub places_of : (prices : List ℕ) (flow : Flow) (offers : List Offer) (fills : List Fill)
     → fills ≡ all_fills prices flow offers → All (λ (fill : Fill). fill.place < length offers) fills
 places_of prices flow offers fills are =
-    subst (λ (fs : List Fill). All (λ (fill : Fill). fill.place < length offers) fs) (sym are) (places_are prices flow offers)
+    subst (λ (fs : List Fill). All (λ (fill : Fill). fill.place < length offers) fs) (sym are)
+    (places_are prices flow offers)
 
 module _ (offers : List Offer) (prices : List ℕ) (flow : Flow) (can : CanTrade offers prices flow) where
   most_given : (asset : ℕ) → asset < assets_of can.parts → given prices flow offers asset ≤ 2 ^ 62
@@ -49,22 +50,28 @@ module _ (offers : List Offer) (prices : List ℕ) (flow : Flow) (can : CanTrade
       let l = less_got asset lt in
       (omega arith, omega arith)
 
-  offer_is : (place : ℕ) (o : Offer) → slice_get offers place ≡ Some o → IsOffer (assets_of can.parts) can.parts.accounts o
+  offer_is : (place : ℕ) (o : Offer) → slice_get offers place ≡ Some o →
+      IsOffer (assets_of can.parts) can.parts.accounts o
   offer_is place o there =
       subst (IsOffer (assets_of can.parts) can.parts.accounts) (get_or_from_slice_get offers place o o there)
-      (subst (λ (os : List Offer). All (IsOffer (assets_of can.parts) can.parts.accounts) os) can.same can.ledger.offers place o (slice_get_within offers place o there))
+      (subst (λ (os : List Offer). All (IsOffer (assets_of can.parts) can.parts.accounts) os) can.same
+      can.ledger.offers place o (slice_get_within offers place o there))
 
   pub within_of : (fills : List Fill) → fills ≡ all_fills prices flow offers
       → All (λ (fill : Fill). IfSome (slice_get offers fill.place) (λ o. fill.gives ≤ o.amount)) fills
   within_of fills are =
-      subst (λ (fs : List Fill). All (λ (fill : Fill). IfSome (slice_get offers fill.place) (λ o. fill.gives ≤ o.amount)) fs) (sym are)
+      subst (λ (fs : List Fill). All (λ (fill : Fill). IfSome (slice_get offers fill.place)
+      (λ o. fill.gives ≤ o.amount)) fs) (sym are)
       (gives_within prices flow offers
-      (λ place o there. gives_has prices flow offers o (price_above can.parts prices flow can.ledger can.tradable o.sell (offer_is place o there).sell)))
+      (λ place o there. gives_has prices flow offers o
+      (price_above can.parts prices flow can.ledger can.tradable o.sell (offer_is place o there).sell)))
 
   pub assets_sold : All (λ (o : Offer). o.sell < assets_of can.parts) offers
   assets_sold =
-      subst (λ (os : List Offer). All (λ (o : Offer). o.sell < assets_of can.parts) os) can.same (λ k d lt. (can.ledger.offers k d lt).sell)
+      subst (λ (os : List Offer). All (λ (o : Offer). o.sell < assets_of can.parts) os) can.same
+      (λ k d lt. (can.ledger.offers k d lt).sell)
 
   pub assets_bought : All (λ (o : Offer). o.buy < assets_of can.parts) offers
   assets_bought =
-      subst (λ (os : List Offer). All (λ (o : Offer). o.buy < assets_of can.parts) os) can.same (λ k d lt. (can.ledger.offers k d lt).buy)
+      subst (λ (os : List Offer). All (λ (o : Offer). o.buy < assets_of can.parts) os) can.same
+      (λ k d lt. (can.ledger.offers k d lt).buy)

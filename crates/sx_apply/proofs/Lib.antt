@@ -8,3 +8,4 @@ pub mod PaidAccounts
 pub mod FillTotals
 pub mod WrittenBack
 pub mod Trades
+pub mod ClearLaws

@@ -1,9 +1,11 @@
 -- Offers that lose what their fills give, in place.
-use Rattle.std.proofs.Common.{◌≡◌, ℕ, suc, ◌+◌, ◌-◌, ◌<◌, ◌≤◌, Bool, true, false, cond, eqb, ltb, List, [], ◌∷◌, ◌++◌, length, get_or, take, drop, set, map, None, Some, refl, sym, ap, ◌∙◌, inl, inr, arith}
+use Rattle.std.proofs.Common.{◌≡◌, ℕ, suc, ◌+◌, ◌-◌, ◌<◌, ◌≤◌, Bool, true, false, cond, eqb, ltb, List, [], ◌∷◌, ◌++◌}
+use Rattle.std.proofs.Common.{length, get_or, take, drop, set, map, None, Some, refl, sym, ap, ap₂, ◌∙◌, inl, inr}
+use Rattle.std.proofs.Common.{arith}
 use Rattle.std.specs.Prelude.{All, IfSome, slice_get}
 use Rattle.std.specs.List.{filter}
 use Rattle.std.proofs.Math.Seq.{drop-cons}
-use Rattle.std.proofs.lemmas.Bool.{cases_Bool, eq-eqb, eqb-true, ne_eqb, ltb-false}
+use Rattle.std.proofs.lemmas.Bool.{cases_Bool, eq-eqb, eqb-true, ne_eqb, ltb-false, lt-ltb}
 use Rattle.std.proofs.lemmas.List.{drop-drop, drop-set-lt, map-append, take_more, take_more_set}
 use Rattle.std.proofs.lemmas.List.Elements.{All-head, All-tail, filter-append}
 use Rattle.std.proofs.lemmas.Option.{get_or_from_slice_get, none-some, same_Some, slice_get_read, slice_get_within}
@@ -30,7 +32,8 @@ next_within offers (fill ∷ fills) place o there all =
     All-head (λ fill. IfSome (slice_get offers fill.place) (λ offer. fill.gives ≤ offer.amount)) fill fills all in
     elim (cases_Bool (eqb fill.place place)) [
       | inl here ↦
-          let at : slice_get offers fill.place ≡ Some o = ap (slice_get offers) (eqb-true fill.place place here) ∙ there in
+          let at : slice_get offers fill.place ≡ Some o = ap (slice_get offers) (eqb-true fill.place place here) ∙
+          there in
           rw here (rw at at head)
       | inr later ↦ rw later (omega arith)
     ]
@@ -40,7 +43,8 @@ pub after_within : (offers : List Offer) (fills : List Fill) (place : ℕ) → A
 after_within offers [] place all = all
 after_within offers (fill ∷ fills) place all =
     elim (cases_Bool (eqb fill.place place)) [
-      | inl here ↦ rw here (All-tail (λ fill. IfSome (slice_get offers fill.place) (λ offer. fill.gives ≤ offer.amount)) fill fills all)
+      | inl here ↦ rw here (All-tail (λ fill. IfSome (slice_get offers fill.place)
+          (λ offer. fill.gives ≤ offer.amount)) fill fills all)
       | inr later ↦ rw later all
     ]
 
@@ -87,7 +91,31 @@ module _ (prices : List ℕ) (flow : Flow) (whole : List Offer) where
       ∙ ap (λ (x : Offer). take place whole ++ x ∷ []) (get_or_from_slice_get whole place o o there) in
       ap left_over more
       ∙ ap (filter (λ o. ltb 0 o.amount)) (map-append (offer_traded prices flow whole) (take place whole) (o ∷ []))
-      ∙ filter-append (λ o. ltb 0 o.amount) (map (offer_traded prices flow whole) (take place whole)) (map (offer_traded prices flow whole) (o ∷ []))
+      ∙ filter-append (λ o. ltb 0 o.amount) (map (offer_traded prices flow whole) (take place whole))
+      (map (offer_traded prices flow whole) (o ∷ []))
+
+  -- where none trades, all are left as they are
+  pub all_left : (place : ℕ) (os : List Offer) → [] ≡ trading (fill_of prices flow whole) place os
+      → All (λ (o : Offer). 1 ≤ o.amount) os → left_over os ≡ os
+  all_left place [] none some = refl
+  all_left place (o ∷ os) none some =
+      elim (cases_Bool (ltb 0 (fill_of prices flow whole place o).value)) [
+        | inl trades ↦
+            let one : [] ≡ fill_of prices flow whole place o ∷ trading (fill_of prices flow whole) (suc place) os =
+            rw trades at none in
+            absurd cc
+        | inr not ↦
+            let later : [] ≡ trading (fill_of prices flow whole) (suc place) os = rw not at none in
+            let zero_given : gives prices flow whole o ≡ 0 =
+            no_gives prices flow whole o (omega (arith, ltb-false 0 (fill_of prices flow whole place o).value not)) in
+            let has : 1 ≤ o.amount = All-head (λ (o : Offer). 1 ≤ o.amount) o os some in
+            let same : o.amount - gives prices flow whole o ≡ o.amount = omega arith in
+            let kept : ltb 0 (o.amount - gives prices flow whole o) ≡ true =
+            lt-ltb 0 (o.amount - gives prices flow whole o) (omega arith) in
+            rw kept
+            (ap₂ (λ (n : ℕ) (xs : List Offer). record o { amount = n } ∷ xs) same
+            (all_left (suc place) os later (All-tail (λ (o : Offer). 1 ≤ o.amount) o os some)))
+      ]
 
   rest_is : (place : ℕ) (o : Offer) → slice_get whole place ≡ Some o → drop place whole ≡ o ∷ drop (suc place) whole
   rest_is place o there =
@@ -102,13 +130,16 @@ module _ (prices : List ℕ) (flow : Flow) (whole : List Offer) where
     pub gives_next : next_gives place left ≡ gives prices flow whole o
     gives_next =
         ap (next_gives place) fills_from
-        ∙ (next_is (fill_of prices flow whole) (λ p o. refl) place o (drop (suc place) whole) (no_gives prices flow whole o)).0
+        ∙ (next_is (fill_of prices flow whole) (λ p o. refl) place o (drop (suc place) whole)
+        (no_gives prices flow whole o)).0
 
     pub fills_next : after_next place left ≡ trading (fill_of prices flow whole) (place + 1) (drop (place + 1) whole)
     fills_next =
         ap (after_next place) fills_from
-        ∙ (next_is (fill_of prices flow whole) (λ p o. refl) place o (drop (suc place) whole) (no_gives prices flow whole o)).1
-        ∙ ap (λ (n : ℕ). trading (fill_of prices flow whole) n (drop n whole)) (let e : suc place ≡ place + 1 = omega arith in e)
+        ∙ (next_is (fill_of prices flow whole) (λ p o. refl) place o (drop (suc place) whole)
+        (no_gives prices flow whole o)).1
+        ∙ ap (λ (n : ℕ). trading (fill_of prices flow whole) n (drop n whole))
+        (let e : suc place ≡ place + 1 = omega arith in e)
 
     pub some_left : (units : ℕ) → units ≡ next_gives place left → ltb 0 (o.amount - units) ≡ true
         → left_over (o ∷ []) ≡ record o { amount = o.amount - units } ∷ []
@@ -143,7 +174,8 @@ module _ (whole current : List Offer) (kept place : ℕ) (o : Offer) (long : len
   there_too =
       let now = drop-cons current place o (omega arith) in
       let before = drop-cons whole place o lt in
-      let same : get_or current place o ≡ get_or whole place o = ap (λ (xs : List Offer). get_or xs 0 o) (sym now ∙ rest ∙ before) in
+      let same : get_or current place o ≡ get_or whole place o =
+      ap (λ (xs : List Offer). get_or xs 0 o) (sym now ∙ rest ∙ before) in
       slice_get_read whole (length whole) place o refl lt (read ∙ same)
 
   pub rest_too : drop (place + 1) current ≡ drop (place + 1) whole

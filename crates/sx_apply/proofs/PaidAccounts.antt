@@ -1,5 +1,6 @@
 -- Accounts that are credited fill by fill.
-use Rattle.std.proofs.Common.{◌≡◌, ◌≢◌, ℕ, zero, suc, ◌+◌, ◌^◌, ◌<◌, ◌≤◌, cond, eqb, ◌&&◌, List, [], ◌∷◌, ◌++◌, length, get_or, set, take, map, Contains, Some, refl, sym, ap, ap₂, subst, ◌∙◌, arith}
+use Rattle.std.proofs.Common.{◌≡◌, ◌≢◌, ℕ, zero, suc, ◌+◌, ◌^◌, ◌<◌, ◌≤◌, cond, eqb, ◌&&◌, List, [], ◌∷◌, ◌++◌}
+use Rattle.std.proofs.Common.{length, get_or, set, take, map, Contains, Some, refl, sym, ap, ap₂, subst, ◌∙◌, arith}
 use Rattle.std.specs.Prelude.{All, slice_get}
 use Rattle.std.specs.List.Sorted.{IsStrictlyIncreasing}
 use Rattle.std.proofs.lemmas.Bool.{eq-eqb, ne_eqb}
@@ -19,7 +20,8 @@ paid_same : (f g : ℕ → ℕ) (asset : ℕ) (bs : List ℕ) → ((x : ℕ) →
     → balances_paid g asset bs ≡ balances_paid f asset bs
 paid_same f g asset [] same = refl
 paid_same f g asset (b ∷ bs) same =
-    ap₂ (λ (n : ℕ) (ns : List ℕ). (b + n) ∷ ns) (same asset (omega arith)) (paid_same f g (suc asset) bs (λ x le. same x (omega arith)))
+    ap₂ (λ (n : ℕ) (ns : List ℕ). (b + n) ∷ ns) (same asset (omega arith))
+    (paid_same f g (suc asset) bs (λ x le. same x (omega arith)))
 
 -- what is got of one asset more
 paid_more : (f g : ℕ → ℕ) (asset k units : ℕ) (bs : List ℕ) → k < length bs → g (asset + k) ≡ f (asset + k) + units
@@ -39,7 +41,8 @@ paid_more f g asset (suc k) units (b ∷ bs) lt here others =
 paid_none : (f : ℕ → ℕ) (asset : ℕ) (bs : List ℕ) → ((x : ℕ) → f x ≡ 0) → balances_paid f asset bs ≡ bs
 paid_none f asset [] none = refl
 paid_none f asset (b ∷ bs) none =
-    ap₂ (λ (n : ℕ) (ns : List ℕ). n ∷ ns) (let h = none asset in let e : b + f asset ≡ b = omega arith in e) (paid_none f (suc asset) bs none)
+    ap₂ (λ (n : ℕ) (ns : List ℕ). n ∷ ns) (let h = none asset in let e : b + f asset ≡ b = omega arith in e)
+    (paid_none f (suc asset) bs none)
 
 pub paid_length : (f : ℕ → ℕ) (asset : ℕ) (bs : List ℕ) → length (balances_paid f asset bs) ≡ length bs
 paid_length f asset [] = refl
@@ -70,7 +73,8 @@ map_put {A} g h (x ∷ xs) zero y lt others here =
     (map_same g h xs (λ q z e. others (suc q) z e (λ same. absurd (omega arith))))
 map_put {A} g h (x ∷ xs) (suc p) y lt others here =
     ap₂ (λ (z : A) (zs : List A). z ∷ zs) (sym (others zero x refl (λ same. absurd (omega arith))))
-    (map_put g h xs p y (omega arith) (λ q z e other. others (suc q) z e (λ same. other (omega arith))) (λ z e. here z e))
+    (map_put g h xs p y (omega arith) (λ q z e other. others (suc q) z e (λ same. other (omega arith)))
+    (λ z e. here z e))
 
 pub same_ids : (offers : List Offer) (fills : List Fill) (accounts : List Account)
     → ids (map (paid_by offers fills) accounts) ≡ ids accounts
@@ -100,7 +104,8 @@ module _ (offers : List Offer) (fills : List Fill) (fill : Fill) (o : Offer)
   proceeds_more : (id asset : ℕ) → proceeds_by offers more id asset
       ≡ proceeds_by offers fills id asset + cond (eqb o.account.0 id && eqb o.buy asset) fill.gets 0
   proceeds_more id asset =
-      sum_by_push (λ (x : Fill). of_offer (λ o. cond (eqb o.account.0 id && eqb o.buy asset) x.gets 0) (slice_get offers x.place)) fills fill
+      sum_by_push (λ (x : Fill). of_offer (λ o. cond (eqb o.account.0 id && eqb o.buy asset) x.gets 0)
+      (slice_get offers x.place)) fills fill
       ∙ ap (λ (n : ℕ). proceeds_by offers fills id asset + n)
       (ap (of_offer (λ o. cond (eqb o.account.0 id && eqb o.buy asset) fill.gets 0)) there)
 
@@ -121,7 +126,8 @@ module _ (offers : List Offer) (fills : List Fill) (fill : Fill) (o : Offer)
   seller_paid a own lt =
       ap (λ (bs : List ℕ). record a { balances = bs })
       (paid_more (proceeds_by offers fills a.id.0) (proceeds_by offers more a.id.0) 0 o.buy fill.gets a.balances lt
-      (proceeds_more a.id.0 (0 + o.buy) ∙ rw (eq-eqb o.account.0 a.id.0 own, eq-eqb o.buy (0 + o.buy) (omega arith)) refl)
+      (proceeds_more a.id.0 (0 + o.buy) ∙
+      rw (eq-eqb o.account.0 a.id.0 own, eq-eqb o.buy (0 + o.buy) (omega arith)) refl)
       (λ x other. proceeds_more a.id.0 x
       ∙ rw (eq-eqb o.account.0 a.id.0 own, ne_eqb o.buy x (λ e. other (omega arith))) (omega arith)))
 
@@ -137,7 +143,9 @@ module _ (offers : List Offer) (fills : List Fill) (fill : Fill) (o : Offer)
       → set (map (paid_by offers fills) accounts) p new ≡ map (paid_by offers more) accounts
   one_paid accounts p new up here lt is =
       map_put (paid_by offers fills) (paid_by offers more) accounts p new lt
-      (λ q a e other. others_unpaid a (λ same. other (same_place (ids accounts) up q p o.account.0 (id_at accounts q a e ∙ ap (λ (n : ℕ). Some n) (sym same)) here)))
+      (λ q a e other. others_unpaid a
+      (λ same. other (same_place (ids accounts) up q p o.account.0
+      (id_at accounts q a e ∙ ap (λ (n : ℕ). Some n) (sym same)) here)))
       is
 
 contains_at : (xs : List ℕ) (k x : ℕ) → slice_get xs k ≡ Some x → Contains xs x
@@ -155,15 +163,18 @@ module _ (offers : List Offer) (fills : List Fill) (accounts current : List Acco
   taken = take_more fills k d lt
 
   -- the seller is not there
-  pub step_none : (Contains (ids accounts) o.account.0 → ⊥) → current ≡ map (paid_by offers (take (k + 1) fills)) accounts
+  pub step_none : (Contains (ids accounts) o.account.0 → ⊥) →
+      current ≡ map (paid_by offers (take (k + 1) fills)) accounts
   step_none absent =
       so_far
       ∙ none_paid offers (take k fills) next o there accounts
-      (λ q a e same. absent (subst (Contains (ids accounts)) (sym same) (contains_at (ids accounts) q a.id.0 (id_at accounts q a e))))
+      (λ q a e same. absent (subst (Contains (ids accounts)) (sym same)
+      (contains_at (ids accounts) q a.id.0 (id_at accounts q a e))))
       ∙ ap (λ (fs : List Fill). map (paid_by offers fs) accounts) (sym taken)
 
   -- the seller stands at a place
-  module _ (p : ℕ) (e : Account) (up : IsStrictlyIncreasing (ids accounts)) (here : slice_get (ids accounts) p ≡ Some o.account.0)
+  module _ (p : ℕ) (e : Account) (up : IsStrictlyIncreasing (ids accounts))
+      (here : slice_get (ids accounts) p ≡ Some o.account.0)
       (buys : All (λ (account : Account). o.buy < length account.balances) accounts) where
     abbrev account : Account
     account = get_or accounts p e
@@ -188,22 +199,29 @@ module _ (offers : List Offer) (fills : List Fill) (accounts current : List Acco
     pub step_asset : o.buy < length (get_or current p e).balances
     step_asset =
         let long : length (get_or current p e).balances ≡ length account.balances =
-        ap (λ (a : Account). length a.balances) read ∙ paid_length (proceeds_by offers (take k fills) account.id.0) 0 account.balances in
+        ap (λ (a : Account). length a.balances) read ∙
+        paid_length (proceeds_by offers (take k fills) account.id.0) 0 account.balances in
         omega (arith, wide)
 
     pub step_fits : balance_at o.buy account + proceeds_by offers fills account.id.0 o.buy < 2 ^ 64
         → balance_at o.buy (get_or current p e) + next.gets < 2 ^ 64
     step_fits fits =
-        let now : balance_at o.buy (get_or current p e) ≡ balance_at o.buy account + proceeds_by offers (take k fills) account.id.0 o.buy =
+        let now : balance_at o.buy (get_or current p e) ≡ balance_at o.buy account + proceeds_by offers
+        (take k fills) account.id.0 o.buy =
         ap (balance_at o.buy) read
         ∙ paid_at (proceeds_by offers (take k fills) account.id.0) 0 o.buy account.balances wide
-        ∙ ap (λ (n : ℕ). balance_at o.buy account + proceeds_by offers (take k fills) account.id.0 n) (let z : 0 + o.buy ≡ o.buy = omega arith in z) in
-        let more : proceeds_by offers (take (k + 1) fills) account.id.0 o.buy ≡ proceeds_by offers (take k fills) account.id.0 o.buy + next.gets =
+        ∙ ap (λ (n : ℕ). balance_at o.buy account + proceeds_by offers (take k fills) account.id.0 n)
+        (let z : 0 + o.buy ≡ o.buy = omega arith in z) in
+        let more : proceeds_by offers (take (k + 1) fills) account.id.0 o.buy ≡ proceeds_by offers (take k fills)
+        account.id.0 o.buy + next.gets =
         ap (λ (fs : List Fill). proceeds_by offers fs account.id.0 o.buy) taken
         ∙ proceeds_more offers (take k fills) next o there account.id.0 o.buy
         ∙ rw (eq-eqb o.account.0 account.id.0 own, eq-eqb o.buy o.buy refl) refl in
-        let within : proceeds_by offers (take (k + 1) fills) account.id.0 o.buy ≤ proceeds_by offers fills account.id.0 o.buy =
-        sum_by-take-le (λ (x : Fill). of_offer (λ o'. cond (eqb o'.account.0 account.id.0 && eqb o'.buy o.buy) x.gets 0) (slice_get offers x.place)) fills (k + 1) in
+        let within : proceeds_by offers (take (k + 1) fills) account.id.0 o.buy ≤ proceeds_by offers fills
+        account.id.0 o.buy =
+        sum_by-take-le (λ (x : Fill). of_offer
+        (λ o'. cond (eqb o'.account.0 account.id.0 && eqb o'.buy o.buy) x.gets 0) (slice_get offers x.place))
+        fills (k + 1) in
         omega arith
 
     pub step_paid : (new : Account)
@@ -216,12 +234,14 @@ module _ (offers : List Offer) (fills : List Fill) (accounts current : List Acco
         λ a. record a { balances = set a.balances o.buy (balance_at o.buy a + next.gets) } in
         let made : (a : Account) → slice_get accounts p ≡ Some a → new ≡ paid_by offers (take k fills ++ next ∷ []) a =
         λ a at. is ∙ ap added (read ∙ ap (paid_by offers (take k fills)) (get_or_from_slice_get accounts p a e at))
-        ∙ sym (seller_paid offers (take k fills) next o there a (own ∙ ap (λ (x : Account). x.id.0) (get_or_from_slice_get accounts p a e at))
+        ∙ sym (seller_paid offers (take k fills) next o there a
+        (own ∙ ap (λ (x : Account). x.id.0) (get_or_from_slice_get accounts p a e at))
         (subst (λ (x : Account). o.buy < length x.balances) (get_or_from_slice_get accounts p a e at) wide)) in
         ap (λ (xs : List Account). set xs p new) so_far
         ∙ one_paid offers (take k fills) next o there accounts p new up here place_within made
         ∙ ap (λ (fs : List Fill). map (paid_by offers fs) accounts) (sym taken)
 
-pub slice_get_within_ids : (accounts : List Account) (p id : ℕ) → slice_get (ids accounts) p ≡ Some id → p < length accounts
+pub slice_get_within_ids : (accounts : List Account) (p id : ℕ) → slice_get (ids accounts) p ≡ Some id →
+    p < length accounts
 slice_get_within_ids accounts p id e =
     omega (arith, slice_get_within (ids accounts) p id e, length-map accounts (λ (a : Account). a.id.0))

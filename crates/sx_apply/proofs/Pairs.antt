@@ -1,5 +1,6 @@
 -- Offers in order stand pair by pair.
-use Rattle.std.proofs.Common.{◌≡◌, ℕ, zero, suc, ◌<◌, ◌≤◌, ◌⊎◌, Bool, true, false, eqb, ◌&&◌, List, [], ◌∷◌, ◌++◌, drop, Some, refl, sym, ap, ap₂, ◌∙◌, inl, inr, arith}
+use Rattle.std.proofs.Common.{◌≡◌, ℕ, zero, suc, ◌<◌, ◌≤◌, ◌⊎◌, Bool, true, false, eqb, ◌&&◌, List, [], ◌∷◌, ◌++◌}
+use Rattle.std.proofs.Common.{drop, Some, refl, sym, ap, ap₂, ◌∙◌, inl, inr, arith}
 use Rattle.std.specs.Prelude.{slice_get, IfSome}
 use Rattle.std.specs.List.{AllByRecursion}
 use Rattle.std.specs.declared.cmp.Ordering.TheVariants.{Equal, Greater}
@@ -41,14 +42,16 @@ up_to x o before =
           elim (cases_lt o.sell x.sell) [
             | inl above ↦
                 let after : offer_before x o ≡ false =
-                not_by_first x.sell o.sell (x.buy ∷ x.limit ∷ x.account.0 ∷ x.seq ∷ []) (o.buy ∷ o.limit ∷ o.account.0 ∷ o.seq ∷ []) above in
+                not_by_first x.sell o.sell (x.buy ∷ x.limit ∷ x.account.0 ∷ x.seq ∷ [])
+                (o.buy ∷ o.limit ∷ o.account.0 ∷ o.seq ∷ []) above in
                 absurd cc
             | inr equal ↦
                 let sell : x.sell ≡ o.sell = omega arith in
                 elim (cases_lt o.buy x.buy) [
                   | inl above ↦
                       let after : offer_before x o ≡ false =
-                      rw sell (not_by_second o.sell x.buy o.buy (x.limit ∷ x.account.0 ∷ x.seq ∷ []) (o.limit ∷ o.account.0 ∷ o.seq ∷ []) above) in
+                      rw sell (not_by_second o.sell x.buy o.buy (x.limit ∷ x.account.0 ∷ x.seq ∷ [])
+                      (o.limit ∷ o.account.0 ∷ o.seq ∷ []) above) in
                       absurd cc
                   | inr most ↦ inr (sell, most)
                 ]
@@ -111,7 +114,8 @@ module _ (sell buy : ℕ) where
       let own = of_itself x (ap (λ (o : Offer). o.sell) same ∙ s) (ap (λ (o : Offer). o.buy) same ∙ b) in absurd cc
   none_after first (x ∷ os) (suc j) s b there rising next =
       let same : x ≡ first = same_Some x first there in
-      after_first x os j (ap (λ (o : Offer). o.sell) same ∙ s) (ap (λ (o : Offer). o.buy) same ∙ b) rising.0 rising.1 next
+      after_first x os j (ap (λ (o : Offer). o.sell) same ∙ s) (ap (λ (o : Offer). o.buy) same ∙ b) rising.0
+      rising.1 next
 
   pub none_kept : (os : List Offer) → AllByRecursion (λ o. of_pair o ≡ false) os → pair_of sell buy os ≡ []
   none_kept [] all = refl

@@ -1,5 +1,6 @@
 -- The fills of all pairs, pair by pair.
-use Rattle.std.proofs.Common.{◌≡◌, ℕ, ◌+◌, true, false, eqb, List, [], ◌∷◌, ◌++◌, length, Some, refl, sym, ap, ap₂, subst, ◌∙◌, append_assoc, inl, inr, arith}
+use Rattle.std.proofs.Common.{◌≡◌, ℕ, ◌+◌, true, false, eqb, List, [], ◌∷◌, ◌++◌, length, Some, refl, sym, ap, ap₂}
+use Rattle.std.proofs.Common.{subst, ◌∙◌, append_assoc, inl, inr, arith}
 use Rattle.std.specs.Prelude.{slice_get}
 use Rattle.std.specs.List.{AllByRecursion}
 use Rattle.std.proofs.lemmas.Bool.{cases_Bool, and_parts, eqb-true}
@@ -28,12 +29,14 @@ all_same : (offers os : List Offer) → AllByRecursion (λ o. pair_of o.sell o.b
 all_same offers [] = tt
 all_same offers (o ∷ os) = (refl, all_same offers os)
 
-pub none_done : (f : ℕ → Offer → Fill) (offers : List Offer) (fills : List Fill) → fills ≡ [] → Done f offers offers fills
+pub none_done : (f : ℕ → Offer → Fill) (offers : List Offer) (fills : List Fill) → fills ≡ [] →
+    Done f offers offers fills
 none_done f offers fills e = record { front = []; whole = refl; are = e; same = all_same offers offers }
 
 module _ (sell buy : ℕ) where
   -- offers of one pair have none of another
-  none_of : (own : List Offer) (o : Offer) → of_pair sell buy o ≡ false → AllByRecursion (λ x. of_pair sell buy x ≡ true) own
+  none_of : (own : List Offer) (o : Offer) → of_pair sell buy o ≡ false →
+      AllByRecursion (λ x. of_pair sell buy x ≡ true) own
       → AllByRecursion (λ x. of_pair o.sell o.buy x ≡ false) own
   none_of [] o other mine = tt
   none_of (x ∷ own) o other mine = (
@@ -57,11 +60,15 @@ module _ (sell buy : ℕ) where
   others_same offers own others (o ∷ os) mine apart same =
       let gone : pair_of o.sell o.buy own ≡ [] = none_kept o.sell o.buy own (none_of own o apart.0 mine) in
       let here : pair_of o.sell o.buy (own ++ others) ≡ pair_of o.sell o.buy others =
-      filter-append (of_pair o.sell o.buy) own others ∙ ap (λ (xs : List Offer). xs ++ pair_of o.sell o.buy others) gone in
+      filter-append (of_pair o.sell o.buy) own others ∙
+      ap (λ (xs : List Offer). xs ++ pair_of o.sell o.buy others) gone in
       (sym here ∙ same.0, others_same offers own others os mine apart.1 same.1)
 
-  theirs_all : (prices : List ℕ) (flow : Flow) (offers os : List Offer) → AllByRecursion (λ x. of_pair sell buy x ≡ true) os
-      → AllByRecursion (λ x. (p : ℕ) → pair_fill (price_of prices sell) (price_of prices buy) (flow sell buy) (pair_of sell buy offers) p x ≡ fill_of prices flow offers p x) os
+  theirs_all : (prices : List ℕ) (flow : Flow) (offers os : List Offer) →
+      AllByRecursion (λ x. of_pair sell buy x ≡ true) os
+      → AllByRecursion (λ x. (p : ℕ) →
+      pair_fill (price_of prices sell) (price_of prices buy) (flow sell buy) (pair_of sell buy offers) p x ≡
+      fill_of prices flow offers p x) os
   theirs_all prices flow offers [] mine = tt
   theirs_all prices flow offers (x ∷ os) mine =
       (λ p. theirs prices flow offers sell buy p x mine.0, theirs_all prices flow offers os mine.1)
@@ -79,7 +86,8 @@ first_is P front (o ∷ left) offers first e there all =
 
 -- one more pair
 module _ (prices : List ℕ) (flow : Flow) (offers left own others : List Offer) (first : Offer)
-    (fills : List Fill) (done : Done (fill_of prices flow offers) offers left fills) (there : slice_get left 0 ≡ Some first)
+    (fills : List Fill) (done : Done (fill_of prices flow offers) offers left fills)
+    (there : slice_get left 0 ≡ Some first)
     (own_is : own ≡ pair_of first.sell first.buy left) (all : own ++ others ≡ left)
     (apart : AllByRecursion (λ o. of_pair first.sell first.buy o ≡ false) others) where
   abbrev f : ℕ → Offer → Fill
@@ -87,7 +95,8 @@ module _ (prices : List ℕ) (flow : Flow) (offers left own others : List Offer)
 
   mine : AllByRecursion (λ x. of_pair first.sell first.buy x ≡ true) own
   mine =
-      subst (AllByRecursion (λ x. of_pair first.sell first.buy x ≡ true)) (sym own_is) (in_pair first.sell first.buy left)
+      subst (AllByRecursion (λ x. of_pair first.sell first.buy x ≡ true)) (sym own_is)
+      (in_pair first.sell first.buy left)
 
   pub first_same : (os : List Offer) → slice_get os 0 ≡ Some first
       → AllByRecursion (λ o. pair_of o.sell o.buy left ≡ pair_of o.sell o.buy offers) os
@@ -112,13 +121,19 @@ module _ (prices : List ℕ) (flow : Flow) (offers left own others : List Offer)
       ap (λ (p : ℕ). trading (pair_fill sell buy y own) p own) at
       ∙ ap (λ (p : ℕ). trading (pair_fill p buy y own) (length done.front) own) sold
       ∙ ap₂ (λ (p v : ℕ). trading (pair_fill (price_of prices first.sell) p v own) (length done.front) own) bought value
-      ∙ ap (λ (xs : List Offer). trading (pair_fill (price_of prices first.sell) (price_of prices first.buy) (flow first.sell first.buy) xs) (length done.front) own) own_whole
+      ∙ ap (λ (xs : List Offer). trading
+      (pair_fill (price_of prices first.sell) (price_of prices first.buy) (flow first.sell first.buy) xs)
+      (length done.front) own) own_whole
       ∙ trading-same _ f (length done.front) own (theirs_all first.sell first.buy prices flow offers own mine) in
       let made : new ≡ trading f 0 (done.front ++ own) =
-      is ∙ ap₂ ◌++◌ done.are one ∙ sym (trading-append f 0 done.front own ∙ ap (λ (p : ℕ). trading f 0 done.front ++ trading f p own) (let e : 0 + length done.front ≡ length done.front = omega arith in e)) in
+      is ∙ ap₂ ◌++◌ done.are one ∙ sym
+      (trading-append f 0 done.front own ∙
+      ap (λ (p : ℕ). trading f 0 done.front ++ trading f p own)
+      (let e : 0 + length done.front ≡ length done.front = omega arith in e)) in
       let back : AllByRecursion (λ o. pair_of o.sell o.buy (own ++ others) ≡ pair_of o.sell o.buy offers) others =
       all_back (λ o. pair_of o.sell o.buy (own ++ others) ≡ pair_of o.sell o.buy offers) own others
-      (subst (λ (xs : List Offer). AllByRecursion (λ o. pair_of o.sell o.buy xs ≡ pair_of o.sell o.buy offers) xs) (sym all) done.same) in
+      (subst (λ (xs : List Offer). AllByRecursion (λ o. pair_of o.sell o.buy xs ≡ pair_of o.sell o.buy offers) xs)
+      (sym all) done.same) in
       record {
         front = done.front ++ own;
         whole = whole;

@@ -1,11 +1,13 @@
 -- What follows of a header that clears a ledger.
-use Rattle.std.proofs.Common.{◌≡◌, ℕ, suc, ◌+◌, ◌^◌, ◌<◌, ◌≤◌, false, List, [], ◌∷◌, get_or, length, map, Option, refl, sym, ap, ap₂, subst, ◌∙◌, arith}
+use Rattle.std.proofs.Common.{◌≡◌, ℕ, suc, ◌+◌, ◌^◌, ◌<◌, ◌≤◌, false, List, [], ◌∷◌, get_or, length, map, Option}
+use Rattle.std.proofs.Common.{refl, sym, ap, ap₂, subst, ◌∙◌, arith}
 use Rattle.std.specs.Prelude.{All, is_some, slice_index}
 use Rattle.std.specs.List.{Contains}
 use Rattle.std.proofs.lemmas.List.{get_or-map, length-map}
 use Rattle.std.proofs.lemmas.List.Elements.{All-contains}
 use Rattle.sx_apply.specs.FillSums.{balances_paid, paid_by, proceeds_by}
-use Rattle.sx_apply.specs.Trading.{CanTrade, Clears, GetsItsValue, GivesItsValue, TradesInFull, TradesWithinLimits, held}
+use Rattle.sx_apply.specs.Trading.{CanTrade, Clears, GetsItsValue, GivesItsValue, TradesInFull, TradesWithinLimits}
+use Rattle.sx_apply.specs.Trading.{held}
 use Rattle.sx_apply.proofs.FillPlaces.{proceeds_is}
 use Rattle.sx_apply.proofs.PaidAccounts.{paid_at, paid_length}
 use Rattle.sx_block.specs.declared.header.Header.{Header}
@@ -34,25 +36,30 @@ paid_balances : (f : ℕ → ℕ) (prices : List ℕ) (flow : Flow) (offers : Li
     → balances_paid f asset bs ≡ balances_traded prices flow offers account asset bs
 paid_balances f prices flow offers account asset [] same = refl
 paid_balances f prices flow offers account asset (b ∷ bs) same =
-    ap₂ (λ (n : ℕ) (ns : List ℕ). (b + n) ∷ ns) (same asset) (paid_balances f prices flow offers account (suc asset) bs same)
+    ap₂ (λ (n : ℕ) (ns : List ℕ). (b + n) ∷ ns) (same asset)
+    (paid_balances f prices flow offers account (suc asset) bs same)
 
-paid_is : (prices : List ℕ) (flow : Flow) (offers : List Offer) (fills : List Fill) → fills ≡ all_fills prices flow offers
+paid_is : (prices : List ℕ) (flow : Flow) (offers : List Offer) (fills : List Fill) →
+    fills ≡ all_fills prices flow offers
     → (a : Account) → paid_by offers fills a ≡ account_traded prices flow offers a
 paid_is prices flow offers fills are a =
     ap (λ (bs : List ℕ). record a { balances = bs })
     (paid_balances (proceeds_by offers fills a.id.0) prices flow offers a.id.0 0 a.balances
     (λ x. ap (λ (fs : List Fill). proceeds_by offers fs a.id.0 x) are ∙ proceeds_is prices flow offers a.id.0 x))
 
-pub all_paid : (prices : List ℕ) (flow : Flow) (offers : List Offer) (fills : List Fill) → fills ≡ all_fills prices flow offers
+pub all_paid : (prices : List ℕ) (flow : Flow) (offers : List Offer) (fills : List Fill) →
+    fills ≡ all_fills prices flow offers
     → (accounts : List Account) → map (paid_by offers fills) accounts ≡ map (account_traded prices flow offers) accounts
 all_paid prices flow offers fills are [] = refl
 all_paid prices flow offers fills are (a ∷ accounts) =
-    ap₂ (λ (x : Account) (xs : List Account). x ∷ xs) (paid_is prices flow offers fills are a) (all_paid prices flow offers fills are accounts)
+    ap₂ (λ (x : Account) (xs : List Account). x ∷ xs) (paid_is prices flow offers fills are a)
+    (all_paid prices flow offers fills are accounts)
 
 -- ---- a ledger that trades
 
 module _ (parts : Parts) (prices : List ℕ) (flow : Flow) (rounding : List ℕ) (is : IsLedger parts)
-    (below : parts.height < most_height) (tradable : IsTradable parts prices flow) (rounded : IsRounded parts prices flow rounding) where
+    (below : parts.height < most_height) (tradable : IsTradable parts prices flow)
+    (rounded : IsRounded parts prices flow rounding) where
   pub can_trade : CanTrade parts.offers prices flow
   can_trade = record { parts = parts; ledger = is; same = refl; tradable = tradable }
 
@@ -72,20 +79,28 @@ module _ (parts : Parts) (prices : List ℕ) (flow : Flow) (rounding : List ℕ)
 
   -- and so are the balances with the proceeds
   pub balances_fit : (fills : List Fill) → fills ≡ all_fills prices flow parts.offers
-      → All (λ account. (asset : ℕ) → asset < length account.balances → balance_at asset account + proceeds_by parts.offers fills account.id.0 asset < 2 ^ 64) parts.accounts
+      → All (λ account. (asset : ℕ) → asset < length account.balances →
+      balance_at asset account + proceeds_by parts.offers fills account.id.0 asset < 2 ^ 64) parts.accounts
   balances_fit fills are k d lt asset below_all =
       let account = get_or parts.accounts k d in
       let paid = paid_by parts.offers fills in
       let at : get_or (map (account_traded prices flow parts.offers) parts.accounts) k (paid d) ≡ paid account =
-      ap (λ (xs : List Account). get_or xs k (paid d)) (sym (all_paid prices flow parts.offers fills are parts.accounts))
+      ap (λ (xs : List Account). get_or xs k (paid d))
+      (sym (all_paid prices flow parts.offers fills are parts.accounts))
       ∙ get_or-map paid parts.accounts k d (paid d) lt in
       let range : All (λ balance. balance ≤ 2 ^ 62) (paid account).balances =
       subst (λ (a : Account). All (λ balance. balance ≤ 2 ^ 62) a.balances) at
-      (after_is.accounts k (paid d) (omega (arith, length-map parts.accounts (account_traded prices flow parts.offers)))).in_range in
-      let one = range asset 0 (omega (arith, paid_length (proceeds_by parts.offers fills account.id.0) 0 account.balances)) in
-      let read : get_or (paid account).balances asset 0 ≡ balance_at asset account + proceeds_by parts.offers fills account.id.0 asset =
+      (after_is.accounts k (paid d) (omega
+      (arith, length-map parts.accounts (account_traded prices flow parts.offers)))).in_range in
+      let one = range asset 0 (omega (
+        arith,
+        paid_length (proceeds_by parts.offers fills account.id.0) 0 account.balances,
+      )) in
+      let read : get_or (paid account).balances asset 0 ≡ balance_at asset account + proceeds_by parts.offers fills
+      account.id.0 asset =
       paid_at (proceeds_by parts.offers fills account.id.0) 0 asset account.balances below_all
-      ∙ ap (λ (n : ℕ). balance_at asset account + proceeds_by parts.offers fills account.id.0 n) (let e : 0 + asset ≡ asset = omega arith in e) in
+      ∙ ap (λ (n : ℕ). balance_at asset account + proceeds_by parts.offers fills account.id.0 n)
+      (let e : 0 + asset ≡ asset = omega arith in e) in
       omega arith
 
   pub buys_known : All (λ offer. All (λ account. offer.buy < length account.balances) parts.accounts) parts.offers
@@ -120,13 +135,16 @@ module _ (parts : Parts) (header : Header) (is : IsLedger parts) (clears : Clear
   }
 
   pub within_limits : TradesWithinLimits parts header
-  within_limits offer has some = only_within_limit parts header.prices (flow_of header.trades) offer is tradable_of has some
+  within_limits offer has some = only_within_limit parts header.prices (flow_of header.trades) offer is tradable_of
+      has some
 
   pub in_full : TradesInFull parts header
   in_full none offer has must =
-      let least : EachPair n (λ sell buy. low_of header.prices header.mu false parts.offers sell buy ≤ flow_of header.trades sell buy) =
+      let least : EachPair n (λ sell buy. low_of header.prices header.mu false parts.offers sell buy ≤ flow_of
+      header.trades sell buy) =
       λ sell buy s b d.
-      subst (λ (o : Option Cut). low_of header.prices header.mu (is_some o) parts.offers sell buy ≤ flow_of header.trades sell buy) none
+      subst (λ (o : Option Cut). low_of header.prices header.mu (is_some o) parts.offers sell buy ≤ flow_of
+      header.trades sell buy) none
       (clears.fits.circulation.within sell buy s b d).at_least in
       must_in_full parts header.prices (flow_of header.trades) header.mu offer is tradable_of least has must
 

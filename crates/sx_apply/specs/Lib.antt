@@ -2,3 +2,4 @@ pub mod Trading
 pub mod Effects
 pub mod FillSums
 pub mod NextFill
+pub mod Laws

@@ -23,7 +23,7 @@ pub record CanTrade (offers : List Offer) (prices : List ℕ) (flow : Flow) : Ty
   pub same : parts.offers ≡ offers
   pub tradable : IsTradable parts prices flow
 
--- these are the fills of such offers, at some prices of so many assets and for some flow
+-- these are the fills of such offers, at some prices of this many assets and for some flow
 pub record AreFills (assets : ℕ) (offers : List Offer) (fills : List Fill) : Type 0 where
   pub prices : List ℕ
   pub flow : Flow

@@ -20,7 +20,7 @@ fn next_given(fills: &[Fill], place: usize) -> (u64, &[Fill])
     }
 }
 
-// What is left of an offer that gives so many units, if anything is.
+// What is left of an offer that gives these units, if anything is.
 fn left_of(offer: &Offer, gives: u64) -> Option<Offer>
     requires { gives ≤ offer.now.amount }
     ensures { result ≡ (if nat_lt 0 (offer.now.amount - gives) then Some (record offer.now { amount = offer.now.amount - gives }) else None) }
@@ -29,11 +29,16 @@ fn left_of(offer: &Offer, gives: u64) -> Option<Offer>
     Some(Offer { amount, ..*offer })
 }
 
-// Offers less what they give, without those of which nothing is left. They change in place.
+// Offers less what they give, without those of which nothing is left. They change in place, and not at
+// all where nothing was filled.
 pub fn lessened(offers: Vec<Offer>, fills: &[Fill]) -> Vec<Offer>
-    requires { All (λ fill. IfSome (slice_get offers.items fill.place) (λ offer. fill.gives ≤ offer.amount)) fills.now }
+    requires some { All (λ offer. 1 ≤ offer.amount) offers.items }
+    requires within { All (λ fill. IfSome (slice_get offers.items fill.place) (λ offer. fill.gives ≤ offer.amount)) fills.now }
     ensures { (prices : List ℕ) (flow : Flow) → fills.now ≡ all_fills prices flow offers.items → result.items ≡ offers_traded prices flow offers.items }
 {
+    if fills.is_empty() {
+        return offers;
+    }
     let mut offers = offers;
     let mut left = fills;
     let mut kept = 0;

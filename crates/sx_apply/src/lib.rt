@@ -8,7 +8,7 @@
 //! definitions of `sx_ledger` and `sx_block`, which are plain sums.
 //!
 //! [`fills_of`] answers what each offer trades, and [`rounding_of`] what rounding keeps of each asset.
-//! Both go over sorted lists once.
+//! Both go over sorted lists once. By [`apply_laws`] a valid block has what the calls ask for.
 //!
 //! Not here: whether a block is valid, and how its prices and its flow are found.
 #![tactic(auto)]
@@ -16,6 +16,7 @@
 mod applying;
 mod effects;
 mod fills;
+mod laws;
 mod lessening;
 mod proceeds;
 mod rounding;
@@ -24,5 +25,6 @@ mod trading;
 pub use applying::{apply, apply_body};
 pub use effects::Effects;
 pub use fills::fills_of;
+pub use laws::apply_laws;
 pub use rounding::rounding_of;
 pub use trading::trade;

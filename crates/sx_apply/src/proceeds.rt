@@ -1,12 +1,14 @@
 //! What sellers get.
 
-ghost use Rattle.std.specs.Prelude.{◌≡◌, ℕ, ◌+◌, ◌^◌, ◌<◌, length, map, slice_set, All};
+ghost use Rattle.std.specs.Prelude.{◌≡◌, ℕ, ◌+◌, ◌^◌, ◌<◌, ◌≤◌, IfOk, length, map, slice_set, All};
+ghost use Rattle.std.specs.List.Sorted.{IsStrictlyIncreasing};
 ghost use Rattle.sx_apply.specs.FillSums.{paid_by, proceeds_by};
-ghost use Rattle.sx_ledger.specs.Ledger.{balance_at, ids};
+ghost use Rattle.sx_ledger.specs.Ledger.{balance_at, ids, most_accounts};
 
 use std::alloc::Global;
 use std::mem;
 use sx_base::{AssetId, Balances};
+use sx_bytes::NoMemory;
 use sx_ledger::{Account, AccountIndex, Accounts, Fill, Offer};
 
 // Adds units of an asset to what an account holds.
@@ -43,21 +45,26 @@ fn credit_sellers(
     }
 }
 
-// The accounts, each with what the fills of its offers get.
+// The accounts, each with what the fills of its offers get. Where nothing was filled, no account is
+// looked up.
 pub fn with_proceeds(
     alloc: Global,
     accounts: Accounts,
-    index: &AccountIndex,
     offers: &[Offer],
     fills: &[Fill],
-) -> Accounts
-    requires index { index.now ≡ ids accounts }
+) -> Result<Accounts, NoMemory>
+    requires by_id { IsStrictlyIncreasing (ids accounts) }
+    requires few { length accounts ≤ most_accounts }
     requires places { All (λ fill. fill.place < length offers.now) fills.now }
     requires assets { All (λ offer. All (λ account. offer.buy < length account.balances) accounts) offers.now }
     requires fits { All (λ account. (asset : ℕ) → asset < length account.balances → balance_at asset account + proceeds_by offers.now fills.now account.id.0 asset < 2 ^ 64) accounts }
-    ensures { result ≡ map (paid_by offers.now fills.now) accounts }
+    ensures { IfOk result (λ paid. paid ≡ map (paid_by offers.now fills.now) accounts) }
 {
+    if fills.is_empty() {
+        return Ok(accounts);
+    }
+    let index = AccountIndex::of(alloc, accounts.items())?;
     let mut entries = accounts.into_items();
-    credit_sellers(alloc, &mut entries, index, offers, fills);
-    Accounts::of(entries)
+    credit_sellers(alloc, &mut entries, &index, offers, fills);
+    Ok(Accounts::of(entries))
 }

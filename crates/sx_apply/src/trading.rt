@@ -53,7 +53,6 @@ pub fn execute(
     requires fills { fills.now ≡ all_fills header.now.prices (value_of header.now.trades) ledger.offers }
     ensures { IfOk result (λ after. after ≡ traded ledger header.now.prices (value_of header.now.trades) header.now.rounding) }
 {
-    let index = ledger.index()?;
     let prices = header.prices.items().to_vec(alloc)?;
     let Parts {
         version,
@@ -68,7 +67,7 @@ pub fn execute(
         height: height + 1,
         prices: Prices::of(prices),
         rounding: with_rounding(rounding, header.rounding.items()),
-        accounts: with_proceeds(alloc, accounts, &index, offers.items(), fills),
+        accounts: with_proceeds(alloc, accounts, offers.items(), fills)?,
         offers: Offers::of(lessened(offers.into_items(), fills)),
     }))
 }

@@ -1,5 +1,6 @@
 -- A whole block: what is read is encoded so, and what is encoded so is read.
-use Rattle.std.proofs.Common.{◌≡◌, ℕ, ◌≤◌, true, cond, eqb, List, [], ◌++◌, length, None, Result, Ok, Err, refl, sym, ap, subst, ◌∙◌, append_assoc, arith}
+use Rattle.std.proofs.Common.{◌≡◌, ℕ, ◌≤◌, true, cond, eqb, List, [], ◌++◌, length, None, Result, Ok, Err, refl, sym}
+use Rattle.std.proofs.Common.{ap, subst, ◌∙◌, append_assoc, arith}
 use Rattle.std.specs.Prelude.{IfOk}
 use Rattle.std.specs.List.{flat_map, AllByRecursion}
 use Rattle.std.proofs.lemmas.Bool.{eqb-true, eq-eqb}
@@ -48,17 +49,22 @@ body_takes c next x bytes e =
     let t1 = ordered_takes tx_at tx_bytes IsTx tx_before form.Order tx_takes n.0.0 None n.0.1 next x bytes1 n.2 in
     let count : Takes c (big_bytes 4 (length x)) n.0.1 =
     subst (λ (m : ℕ). Takes c (big_bytes 4 m) n.0.1) (sym t1.1) t0.0 in
-    let few : length x ≤ 1000000 = subst (λ (m : ℕ). m ≤ 1000000) (sym t1.1) t0.2 in
-    (Takes-then c n.0.1 next (big_bytes 4 (length x)) (flat_map tx_bytes x) count t1.0, record { few = few; each = t1.2; ordered = t1.3 })
+    let few : length x ≤ 1000000 = subst (λ (m : ℕ). m ≤ 1000000) (sym t1.1) t0.2 in (
+      Takes-then c n.0.1 next (big_bytes 4 (length x)) (flat_map tx_bytes x) count t1.0,
+      record { few = few; each = t1.2; ordered = t1.3 },
+    )
 
 body_again : ReadsAgain body_at list_bytes IsBody
 unfolding body_at
 body_again c x after is within e =
     let n =
-    range_again 4 0 1000000 form.TooMany c (length x) (flat_map tx_bytes x ++ after) (omega arith) (omega arith) is.few within (e ∙ append_assoc (big_bytes 4 (length x)) (flat_map tx_bytes x) after) in
+    range_again 4 0 1000000 form.TooMany c (length x) (flat_map tx_bytes x ++ after) (omega arith) (omega arith)
+    is.few within (e ∙ append_assoc (big_bytes 4 (length x)) (flat_map tx_bytes x) after) in
     let t =
-    ordered_again tx_at tx_bytes IsTx tx_before form.Order tx_again x None n.next after is.each is.ordered n.within n.rest_is in
-    again_then (field_at 4 (between 0 1000000) form.TooMany c) at_count c (length x) x (flat_map tx_bytes x ++ after) after n t
+    ordered_again tx_at tx_bytes IsTx tx_before form.Order tx_again x None n.next after is.each is.ordered n.within
+    n.rest_is in
+    again_then (field_at 4 (between 0 1000000) form.TooMany c) at_count c (length x) x
+    (flat_map tx_bytes x ++ after) after n t
 
 -- ---- header and transactions
 
@@ -79,7 +85,8 @@ unfolding fields_at
 fields_again c x after is within e =
     let body : IsBody x.txs =
     record { few = is.few; each = recursion_from_All IsTx x.txs is.each; ordered = is.ordered } in
-    two_again header_at body_at made header_bytes list_bytes IsHeader IsBody header_again body_again c x.header x.txs after is.header body within e
+    two_again header_at body_at made header_bytes list_bytes IsHeader IsBody header_again body_again c x.header
+    x.txs after is.header body within e
 
 pub blocks_of_one_encoding : IsInjective block_bytes IsBlock
 blocks_of_one_encoding = is_injective fields_at block_bytes IsBlock fields_again

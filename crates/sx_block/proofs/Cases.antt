@@ -71,23 +71,27 @@ opening = record {
 
 abbrev uneven : Block
 uneven =
-    block (3 * 2 ^ 20 ∷ 2 * 2 ^ 20 ∷ []) (two_pairs (15 * 2 ^ 20) (15 * 2 ^ 20)) (Some (record { 0 = 1 })) (1 ∷ 0 ∷ []) (0 ∷ 1 ∷ [])
+    block (3 * 2 ^ 20 ∷ 2 * 2 ^ 20 ∷ []) (two_pairs (15 * 2 ^ 20) (15 * 2 ^ 20)) (Some (record { 0 = 1 }))
+    (1 ∷ 0 ∷ []) (0 ∷ 1 ∷ [])
     (sells 1 1 0 1 (2 ^ 22) 5 ∷ sells 2 1 1 0 (2 ^ 22) 8 ∷ [])
 
 uneven_bounds :
-    (undropped_low_in opening uneven 0 1 ≡ 15 * 2 ^ 20) × (high_in opening uneven 0 1 ≡ 15 * 2 ^ 20) × (undropped_low_in opening uneven 1 0 ≡ 16 * 2 ^ 20)
+    (undropped_low_in opening uneven 0 1 ≡ 15 * 2 ^ 20) × (high_in opening uneven 0 1 ≡ 15 * 2 ^ 20) ×
+    (undropped_low_in opening uneven 1 0 ≡ 16 * 2 ^ 20)
     × (high_in opening uneven 1 0 ≡ 16 * 2 ^ 20) × (low_in opening uneven 1 0 ≡ 0)
 uneven_bounds = (refl, refl, refl, refl, refl)
 
 -- 16 must go into the set of the first asset, and 15 may go out of it
-uneven_cut : (sum_in 2 (undropped_low_in opening uneven) 1 ≡ 16 * 2 ^ 20) × (sum_out 2 (high_in opening uneven) 1 ≡ 15 * 2 ^ 20)
+uneven_cut : (sum_in 2 (undropped_low_in opening uneven) 1 ≡ 16 * 2 ^ 20) ×
+    (sum_out 2 (high_in opening uneven) 1 ≡ 15 * 2 ^ 20)
 unfolding sum_below
 uneven_cut = (refl, refl)
 
 uneven_gains : (gain_of (potential_of (1 ∷ 0 ∷ [])) 0 1 ≡ pos 2) × (gain_of (potential_of (1 ∷ 0 ∷ [])) 1 0 ≡ pos 0)
 uneven_gains = (refl, refl)
 
-uneven_balance : (sold 2 (value_of uneven.header.trades) 0 ≡ 15 * 2 ^ 20) × (bought 2 (value_of uneven.header.trades) 0 ≡ 15 * 2 ^ 20)
+uneven_balance : (sold 2 (value_of uneven.header.trades) 0 ≡ 15 * 2 ^ 20) ×
+    (bought 2 (value_of uneven.header.trades) 0 ≡ 15 * 2 ^ 20)
 unfolding sum_below
 uneven_balance = (refl, refl)
 
@@ -110,7 +114,8 @@ half =
     (sells 1 1 0 1 (2 ^ 24) 5 ∷ sells 2 1 1 0 (2 ^ 23) 3 ∷ [])
 
 half_bounds :
-    (low_in opening half 0 1 ≡ 0) × (high_in opening half 0 1 ≡ 5 * 2 ^ 24) × (low_in opening half 1 0 ≡ 3 * 2 ^ 24) × (high_in opening half 1 0 ≡ 3 * 2 ^ 24)
+    (low_in opening half 0 1 ≡ 0) × (high_in opening half 0 1 ≡ 5 * 2 ^ 24) ×
+    (low_in opening half 1 0 ≡ 3 * 2 ^ 24) × (high_in opening half 1 0 ≡ 3 * 2 ^ 24)
 half_bounds = (refl, refl, refl, refl)
 
 half_leaves : ledger_after opening half ≡ record {
@@ -127,13 +132,16 @@ half_leaves = refl
 -- ---- trades and a cut as bytes
 
 -- of three assets, the pairs that trade by the sold and then the bought one
-three_assets : trades_of (record { assets = 3; values = 0 ∷ 0 ∷ 5 ∷ 6 ∷ 0 ∷ 0 ∷ 0 ∷ 7 ∷ 0 ∷ [] }) ≡ trade 0 2 5 ∷ trade 1 0 6 ∷ trade 2 1 7 ∷ []
+three_assets : trades_of (record { assets = 3; values = 0 ∷ 0 ∷ 5 ∷ 6 ∷ 0 ∷ 0 ∷ 0 ∷ 7 ∷ 0 ∷ [] }) ≡ trade 0 2 5 ∷
+    trade 1 0 6 ∷ trade 2 1 7 ∷ []
 three_assets = refl
 
-three_assets_back : flow_of 3 (trade 0 2 5 ∷ trade 1 0 6 ∷ trade 2 1 7 ∷ []) ≡ record { assets = 3; values = 0 ∷ 0 ∷ 5 ∷ 6 ∷ 0 ∷ 0 ∷ 0 ∷ 7 ∷ 0 ∷ [] }
+three_assets_back : flow_of 3 (trade 0 2 5 ∷ trade 1 0 6 ∷ trade 2 1 7 ∷ []) ≡
+    record { assets = 3; values = 0 ∷ 0 ∷ 5 ∷ 6 ∷ 0 ∷ 0 ∷ 0 ∷ 7 ∷ 0 ∷ [] }
 three_assets_back = refl
 
-one_trade : flow_bytes (two_pairs 0 258) ≡ 0 ∷ 1 ∷ 1 ∷ 0 ∷ 0 ∷ 0 ∷ 0 ∷ 0 ∷ 0 ∷ 0 ∷ 0 ∷ 0 ∷ 0 ∷ 0 ∷ 0 ∷ 0 ∷ 0 ∷ 0 ∷ 1 ∷ 2 ∷ []
+one_trade : flow_bytes (two_pairs 0 258) ≡ 0 ∷ 1 ∷ 1 ∷ 0 ∷ 0 ∷ 0 ∷ 0 ∷ 0 ∷ 0 ∷ 0 ∷ 0 ∷ 0 ∷ 0 ∷ 0 ∷ 0 ∷ 0 ∷ 0 ∷ 0 ∷ 1
+    ∷ 2 ∷ []
 one_trade = refl
 
 cuts : (cut_bytes None ≡ 0 ∷ []) × (cut_bytes (Some (record { 0 = 3 })) ≡ 1 ∷ 0 ∷ 0 ∷ 0 ∷ 3 ∷ [])

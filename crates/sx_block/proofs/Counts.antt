@@ -1,5 +1,6 @@
 -- A flow has no more trades than there are pairs.
-use Rattle.std.proofs.Common.{◌≡◌, ℕ, zero, suc, ◌+◌, ◌-◌, ◌*◌, ◌<◌, ◌≤◌, true, eqb, List, [], ◌∷◌, ◌++◌, length, take, drop, get_or, refl, sym, ap, ◌∙◌, inl, inr, arith}
+use Rattle.std.proofs.Common.{◌≡◌, ℕ, zero, suc, ◌+◌, ◌-◌, ◌*◌, ◌<◌, ◌≤◌, true, eqb, List, [], ◌∷◌, ◌++◌, length}
+use Rattle.std.proofs.Common.{take, drop, get_or, refl, sym, ap, ◌∙◌, inl, inr, arith}
 use Rattle.std.specs.Prelude.{◌==◌, if◌then◌else◌}
 use Rattle.std.proofs.lemmas.Bool.{cases_Bool, eq-eqb}
 use Rattle.std.proofs.lemmas.List.{take-append-drop, length-take, length-drop, get_or-take, get_or-drop}
@@ -52,7 +53,9 @@ rows (suc m) n r vs len fits none =
     let first : nonzero front < length front = nonzero-lt front r (omega arith) here in
     let others : nonzero back ≤ m * (n - 1) =
     rows m n (suc r) back back_length (omega arith)
-    (λ a lt. get_or-drop n vs (a * n + (suc r + a)) 0 ∙ ap (λ (p : ℕ). get_or vs p 0) (let k : n + (a * n + (suc r + a)) ≡ suc a * n + (r + suc a) = omega arith in k) ∙ none (suc a) (omega arith)) in
+    (λ a lt. get_or-drop n vs (a * n + (suc r + a)) 0 ∙
+    ap (λ (p : ℕ). get_or vs p 0) (let k : n + (a * n + (suc r + a)) ≡ suc a * n + (r + suc a) = omega arith in
+    k) ∙ none (suc a) (omega arith)) in
     let split : nonzero vs ≡ nonzero front + nonzero back =
     ap nonzero (sym (take-append-drop n vs)) ∙ nonzero-append front back in
     let more : suc m * (n - 1) ≡ (n - 1) + m * (n - 1) = omega arith in
@@ -62,7 +65,8 @@ pub few_trades : (flow : FlowTable) → IsFlow flow → length (trades_of flow) 
 few_trades flow is =
     let n = flow.assets in
     let most = rows n n 0 flow.values is.values.full (omega arith)
-    (λ a lt. ap (λ (p : ℕ). get_or flow.values p 0) (let k : a * n + (0 + a) ≡ a * n + a = omega arith in k) ∙ is.values.diagonal a lt) in
+    (λ a lt. ap (λ (p : ℕ). get_or flow.values p 0) (let k : a * n + (0 + a) ≡ a * n + a = omega arith in k) ∙
+    is.values.diagonal a lt) in
     omega (arith, length-trades n 0 flow.values)
 
 -- at most 992

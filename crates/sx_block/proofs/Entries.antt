@@ -1,12 +1,16 @@
 -- A flow and the list of its trades: each is made from the other.
-use Rattle.std.proofs.Common.{◌≡◌, ◌≢◌, ℕ, zero, suc, ◌+◌, ◌-◌, ◌*◌, ◌/◌, ◌%◌, ◌^◌, ◌<◌, ◌≤◌, true, false, eqb, List, [], ◌∷◌, length, get_or, Option, Some, None, refl, sym, ap, ap₂, subst, ◌∙◌, inl, inr, arith}
+use Rattle.std.proofs.Common.{◌≡◌, ◌≢◌, ℕ, zero, suc, ◌+◌, ◌-◌, ◌*◌, ◌/◌, ◌%◌, ◌^◌, ◌<◌, ◌≤◌, true, false, eqb, List}
+use Rattle.std.proofs.Common.{[], ◌∷◌, length, get_or, Option, Some, None, refl, sym, ap, ap₂, subst, ◌∙◌, inl, inr}
+use Rattle.std.proofs.Common.{arith}
 use Rattle.std.specs.Prelude.{nat_lt, ◌==◌, ◌&&◌}
 use Rattle.std.specs.List.{AllByRecursion}
 use Rattle.std.proofs.Math.Nat.{mul-le-mul_right}
-use Rattle.std.proofs.lemmas.Bool.{cases_Bool, cases_lt, cases_order, eqb-true, eqb-false, eq-eqb, ne_eqb, lt-ltb, ltb-true, or_cases, and_parts}
+use Rattle.std.proofs.lemmas.Bool.{cases_Bool, cases_lt, cases_order, eqb-true, eqb-false, eq-eqb, ne_eqb, lt-ltb}
+use Rattle.std.proofs.lemmas.Bool.{ltb-true, or_cases, and_parts}
 use Rattle.std.proofs.lemmas.Nat.{div-add-mod', div-mul-add, mod-mul-add, mod_below, div_below, same_from_place}
 use Rattle.sx_block.specs.declared.trade.Trade.{Trade}
-use Rattle.sx_block.specs.Trades.{place_of, trade_before, IsTrade, trades_from, trades_of, value_at, entries_from, flow_of}
+use Rattle.sx_block.specs.Trades.{place_of, trade_before, IsTrade, trades_from, trades_of, value_at, entries_from}
+use Rattle.sx_block.specs.Trades.{flow_of}
 use Rattle.sx_bytes.specs.Grammar.{may_follow, in_order}
 use Rattle.sx_dual.specs.Tables.{FlowTable, IsFlow}
 
@@ -51,7 +55,8 @@ entries_are n s trades [] each = refl
 entries_are n s trades (v ∷ vs) each =
     let first : value_at n trades s ≡ v = ap (value_at n trades) (let k : s ≡ s + 0 = omega arith in k) ∙ each 0 in
     let others =
-    entries_are n (suc s) trades vs (λ i. ap (value_at n trades) (let k : suc s + i ≡ s + suc i = omega arith in k) ∙ each (suc i)) in
+    entries_are n (suc s) trades vs
+    (λ i. ap (value_at n trades) (let k : suc s + i ≡ s + suc i = omega arith in k) ∙ each (suc i)) in
     ap₂ (λ (x : ℕ) (xs : List ℕ). x ∷ xs) first others
 
 -- the flow of the trades of a flow is that flow
@@ -63,7 +68,8 @@ flow_again flow is =
     λ i. ap (value_at n (trades_of flow)) (let k : 0 + i ≡ i = omega arith in k) ∙ value_is n 0 i vs (omega arith)
     ∙ ap (λ (k : ℕ). get_or vs k 0) (let e : i - 0 ≡ i = omega arith in e) in
     let all : entries_from n (trades_of flow) 0 (length vs) ≡ vs = entries_are n 0 (trades_of flow) vs each in
-    ap (λ (xs : List ℕ). record { assets = n; values = xs }) (ap (entries_from n (trades_of flow) 0) (sym is.values.full) ∙ all)
+    ap (λ (xs : List ℕ). record { assets = n; values = xs })
+    (ap (entries_from n (trades_of flow) 0) (sym is.values.full) ∙ all)
 
 -- ---- from trades in order to a flow, and back
 
@@ -79,7 +85,8 @@ rise_from n s s' e (t ∷ ts) le rise = (omega (arith, rise.0), rise.1, rise.2, 
 none_before : (n s e p : ℕ) (ts : List Trade) → Rise n s e ts → p < s → value_at n ts p ≡ 0
 none_before n s e p [] rise lt = refl
 none_before n s e p (t ∷ ts) rise lt =
-    rw (ne_eqb (place_of n t) p (λ same. absurd (omega (arith, rise.0)))) (none_before n (suc (place_of n t)) e p ts rise.3 (omega (arith, rise.0)))
+    rw (ne_eqb (place_of n t) p (λ same. absurd (omega (arith, rise.0))))
+    (none_before n (suc (place_of n t)) e p ts rise.3 (omega (arith, rise.0)))
 
 skip : (n s k : ℕ) (t : Trade) (ts : List Trade) → place_of n t < s
     → entries_from n (t ∷ ts) s k ≡ entries_from n ts s k
@@ -111,7 +118,8 @@ trades_again_from n s (suc k) (t ∷ ts) rise =
           let some : eqb t.value 0 ≡ false = ne_eqb t.value 0 (λ e. absurd (omega (arith, rise.2.some))) in
           let first : pair n s t.value ≡ t = ap (λ (p : ℕ). pair n p t.value) (sym same) ∙ same_pair n t rise.2 in
           let from : Rise n (suc s) (suc s + k) ts =
-          subst (λ (e : ℕ). Rise n (suc s) e ts) last (rise_from n (suc (place_of n t)) (suc s) (s + suc k) ts (omega arith) rise.3) in
+          subst (λ (e : ℕ). Rise n (suc s) e ts) last
+          (rise_from n (suc (place_of n t)) (suc s) (s + suc k) ts (omega arith) rise.3) in
           let others : trades_from n (suc s) (entries_from n (t ∷ ts) (suc s) k) ≡ ts =
           ap (trades_from n (suc s)) (skip n (suc s) k t ts (omega arith)) ∙ trades_again_from n (suc s) k ts from in
           rw (value, some) (ap₂ (λ (x : Trade) (xs : List Trade). x ∷ xs) first others)
@@ -148,7 +156,8 @@ rises_before n one other fits lt =
           let bought : one.buy < other.buy = omega arith in
           let tie : (one.sell == other.sell) ≡ true = eq-eqb one.sell other.sell same in
           let less : nat_lt one.buy other.buy ≡ true = lt-ltb one.buy other.buy bought in
-          elim (cases_Bool (nat_lt one.sell other.sell)) [ inl sold ↦ rw sold refl | inr equal ↦ rw (equal, tie, less) refl ]
+          elim (cases_Bool (nat_lt one.sell other.sell))
+          [ inl sold ↦ rw sold refl | inr equal ↦ rw (equal, tie, less) refl ]
       | inr (inl less) ↦ rw (lt-ltb one.sell other.sell less) refl
       | inr (inr more) ↦
           let row : suc other.sell * n ≤ one.sell * n =
@@ -187,7 +196,8 @@ pub trades_again : (n : ℕ) (ts : List Trade) → AllByRecursion (IsTrade n) ts
     → trades_of (flow_of n ts) ≡ ts
 trades_again n ts all ordered =
     let rise : Rise n 0 (0 + n * n) ts =
-    subst (λ (e : ℕ). Rise n 0 e ts) (let k : n * n ≡ 0 + n * n = omega arith in k) (rise_of n None ts tt all ordered) in
+    subst (λ (e : ℕ). Rise n 0 e ts) (let k : n * n ≡ 0 + n * n = omega arith in k)
+    (rise_of n None ts tt all ordered) in
     trades_again_from n 0 (n * n) ts rise
 
 -- ---- the flow of trades is a flow
@@ -240,7 +250,8 @@ flow_made n ts some few all = record {
 -- what is known of the entries from a place on
 abbrev Entries : ℕ → ℕ → List ℕ → Type 0
 Entries n s vs =
-    (i : ℕ) → i < length vs → (s + i < n * n) × (get_or vs i 0 ≤ 2 ^ 102) × ((s + i) / n ≡ (s + i) % n → get_or vs i 0 ≡ 0)
+    (i : ℕ) → i < length vs → (s + i < n * n) × (get_or vs i 0 ≤ 2 ^ 102) ×
+    ((s + i) / n ≡ (s + i) % n → get_or vs i 0 ≡ 0)
 
 entries_tail : (n s v : ℕ) (vs : List ℕ) → Entries n s (v ∷ vs) → Entries n (suc s) vs
 entries_tail n s v vs are i lt =
@@ -258,7 +269,12 @@ trade_is n s v vs some above are =
       buy = mod_below s n (omega arith);
       differ = λ e. nonzero (at.2 (ap (λ (p : ℕ). p / n) k ∙ sym e ∙ ap (λ (p : ℕ). p % n) (sym k)));
       some =
-          elim (cases_order v 0) [ inl e ↦ absurd (nonzero e) | inr (inl lt) ↦ absurd (omega arith) | inr (inr gt) ↦ omega arith ];
+          elim (cases_order v 0) [
+            | inl e ↦ absurd (nonzero e)
+            | inr (inl lt) ↦ absurd (omega arith)
+            | inr (inr gt) ↦
+                omega arith
+          ];
       most = at.1;
     }
 

@@ -1,14 +1,17 @@
 -- What offers give and get, against the value that they trade.
-use Rattle.std.proofs.Common.{◌≡◌, ◌≢◌, ℕ, suc, ◌+◌, ◌-◌, ◌*◌, ◌/◌, ◌%◌, ◌<◌, ◌≤◌, cond, eqb, ◌&&◌, List, [], ◌∷◌, sum_by, refl, sym, ap, subst, ◌∙◌, inl, inr, arith}
+use Rattle.std.proofs.Common.{◌≡◌, ◌≢◌, ℕ, suc, ◌+◌, ◌-◌, ◌*◌, ◌/◌, ◌%◌, ◌<◌, ◌≤◌, cond, eqb, ◌&&◌, List, [], ◌∷◌}
+use Rattle.std.proofs.Common.{sum_by, refl, sym, ap, subst, ◌∙◌, inl, inr, arith}
 use Rattle.std.specs.Cmp.{both_ways}
 use Rattle.std.specs.List.{AllByRecursion}
 use Rattle.std.proofs.Math.Bool.{and_comm}
-use Rattle.std.proofs.Math.Nat.{div-add-mod, lt_of_mul-lt-mul_left, min-le_right, mod-lt, mul_comm, le_of_mul-le-mul_left}
+use Rattle.std.proofs.Math.Nat.{div-add-mod, lt_of_mul-lt-mul_left, min-le_right, mod-lt, mul_comm}
+use Rattle.std.proofs.Math.Nat.{le_of_mul-le-mul_left}
 use Rattle.std.proofs.lemmas.Bool.{cases_Bool, eqb-true, eq-eqb, eqb-false}
 use Rattle.std.proofs.lemmas.Grind.{div_ceil_times}
 use Rattle.std.proofs.lemmas.List.Elements.{recursion_from_All}
 use Rattle.std.proofs.lemmas.List.Sums.{sum_by-cons}
-use Rattle.sx_block.specs.EffectLaws.{GivesWhatItHas, GivesLessThanOneMore, GetsLessThanOneLess, RoundingIsNeverNegative, IsTradable}
+use Rattle.sx_block.specs.EffectLaws.{GivesWhatItHas, GivesLessThanOneMore, GetsLessThanOneLess}
+use Rattle.sx_block.specs.EffectLaws.{RoundingIsNeverNegative, IsTradable}
 use Rattle.sx_block.proofs.ListSums.{grouped, sum_by-filter}
 use Rattle.sx_ledger.proofs.OfferOrder.{Rising, rising_is}
 use Rattle.sx_block.proofs.PairFills.{pair_trades}
@@ -81,7 +84,8 @@ same_either_way : (a b : ℕ) → eqb a b ≡ eqb b a
 same_either_way a b =
     both_ways (eqb a b) (eqb b a) (λ e. eq-eqb b a (sym (eqb-true a b e))) (λ e. eq-eqb a b (sym (eqb-true b a e)))
 
-module _ (parts : Parts) (prices : List ℕ) (flow : ℕ → ℕ → ℕ) (is : IsLedger parts) (fits : IsTradable parts prices flow) (asset : ℕ) (lt : asset < assets_of parts) where
+module _ (parts : Parts) (prices : List ℕ) (flow : ℕ → ℕ → ℕ) (is : IsLedger parts)
+    (fits : IsTradable parts prices flow) (asset : ℕ) (lt : asset < assets_of parts) where
   abbrev offers : List Offer
   offers = parts.offers
 
@@ -116,44 +120,57 @@ module _ (parts : Parts) (prices : List ℕ) (flow : ℕ → ℕ → ℕ) (is : 
   -- the offers that sell the asset trade what is sold of it
   sold_is : sold n flow asset ≡ sum_by (λ o. cond (eqb o.sell asset) (value o) 0) offers
   sold_is =
-      sum_below-same n (λ buy. between flow asset buy) (λ buy. cond (eqb asset buy) 0 (sum_by (λ o. cond (eqb o.sell asset && eqb o.buy buy) (value o) 0) offers))
+      sum_below-same n (λ buy. between flow asset buy)
+      (λ buy. cond (eqb asset buy) 0 (sum_by (λ o. cond (eqb o.sell asset && eqb o.buy buy) (value o) 0) offers))
       (λ buy below. elim (cases_Bool (eqb asset buy)) [
         | inl same ↦ rw same refl
         | inr other ↦ rw other
-            (sym (pair_trades prices flow offers asset buy up (fits.within asset buy lt below (eqb-false asset buy other)))
+            (sym (pair_trades prices flow offers asset buy up
+            (fits.within asset buy lt below (eqb-false asset buy other)))
             ∙ sum_by-filter value (λ o. eqb o.sell asset && eqb o.buy buy) offers)
       ])
       ∙ grouped (λ o. o.sell) (λ o. o.buy) value asset n offers (bought_of offers offers_are)
 
   bought_is : bought n flow asset ≡ sum_by (λ o. cond (eqb o.buy asset) (value o) 0) offers
   bought_is =
-      sum_below-same n (λ sell. between flow sell asset) (λ sell. cond (eqb asset sell) 0 (sum_by (λ o. cond (eqb o.buy asset && eqb o.sell sell) (value o) 0) offers))
+      sum_below-same n (λ sell. between flow sell asset)
+      (λ sell. cond (eqb asset sell) 0 (sum_by (λ o. cond (eqb o.buy asset && eqb o.sell sell) (value o) 0) offers))
       (λ sell below. elim (cases_Bool (eqb asset sell)) [
         | inl same ↦ rw (same_either_way sell asset, same) refl
         | inr other ↦ rw (same_either_way sell asset, other)
-            (sym (pair_trades prices flow offers sell asset up (fits.within sell asset below lt (λ e. eqb-false asset sell other (sym e))))
+            (sym (pair_trades prices flow offers sell asset up
+            (fits.within sell asset below lt (λ e. eqb-false asset sell other (sym e))))
             ∙ sum_by-filter value (λ o. eqb o.sell sell && eqb o.buy asset) offers
             ∙ turned sell offers)
       ])
       ∙ grouped (λ o. o.buy) (λ o. o.sell) value asset n offers (sold_of offers offers_are)
     where
       turned : (sell : ℕ) (os : List Offer)
-          → sum_by (λ o. cond (eqb o.sell sell && eqb o.buy asset) (value o) 0) os ≡ sum_by (λ o. cond (eqb o.buy asset && eqb o.sell sell) (value o) 0) os
+          → sum_by (λ o. cond (eqb o.sell sell && eqb o.buy asset) (value o) 0) os ≡ sum_by
+          (λ o. cond (eqb o.buy asset && eqb o.sell sell) (value o) 0) os
       turned sell [] = refl
       turned sell (o ∷ os) =
-          let here : cond (eqb o.sell sell && eqb o.buy asset) (value o) 0 ≡ cond (eqb o.buy asset && eqb o.sell sell) (value o) 0 =
+          let here : cond (eqb o.sell sell && eqb o.buy asset) (value o) 0 ≡ cond
+          (eqb o.buy asset && eqb o.sell sell) (value o) 0 =
           rw (and_comm (eqb o.sell sell) (eqb o.buy asset)) refl in
-          omega (arith, sum_by-cons (λ o. cond (eqb o.sell sell && eqb o.buy asset) (value o) 0) o os, sum_by-cons (λ o. cond (eqb o.buy asset && eqb o.sell sell) (value o) 0) o os, turned sell os)
+          omega (
+            arith,
+            sum_by-cons (λ o. cond (eqb o.sell sell && eqb o.buy asset) (value o) 0) o os,
+            sum_by-cons (λ o. cond (eqb o.buy asset && eqb o.sell sell) (value o) 0) o os,
+            turned sell os,
+          )
 
   given_each : (os : List Offer)
-      → AllByRecursion (λ o. cond (eqb o.sell asset) (value o) 0 ≤ price * cond (eqb o.sell asset) (gives prices flow offers o) 0) os
+      → AllByRecursion (λ o. cond (eqb o.sell asset) (value o) 0 ≤ price * cond (eqb o.sell asset)
+      (gives prices flow offers o) 0) os
   given_each [] = tt
   given_each (o ∷ os) = (
     elim (cases_Bool (eqb o.sell asset)) [
       | inl ours ↦
           let same : o.sell ≡ asset = eqb-true o.sell asset ours in
           let reach : value o ≤ price_of prices o.sell * gives prices flow offers o =
-          (up_is (value o) (price_of prices o.sell) (subst (λ (a : ℕ). 0 < price_of prices a) (sym same) price_above)).0 in
+          (up_is (value o) (price_of prices o.sell)
+          (subst (λ (a : ℕ). 0 < price_of prices a) (sym same) price_above)).0 in
           rw ours (subst (λ (p : ℕ). value o ≤ p * gives prices flow offers o) (ap (price_of prices) same) reach)
       | inr others ↦ rw others (omega arith)
     ],
@@ -161,14 +178,16 @@ module _ (parts : Parts) (prices : List ℕ) (flow : ℕ → ℕ → ℕ) (is : 
   )
 
   got_each : (os : List Offer)
-      → AllByRecursion (λ o. price * cond (eqb o.buy asset) (gets prices flow offers o) 0 ≤ cond (eqb o.buy asset) (value o) 0) os
+      → AllByRecursion (λ o. price * cond (eqb o.buy asset) (gets prices flow offers o) 0 ≤ cond (eqb o.buy asset)
+      (value o) 0) os
   got_each [] = tt
   got_each (o ∷ os) = (
     elim (cases_Bool (eqb o.buy asset)) [
       | inl ours ↦
           let same : o.buy ≡ asset = eqb-true o.buy asset ours in
           let within : price_of prices o.buy * gets prices flow offers o ≤ value o =
-          (down_is (value o) (price_of prices o.buy) (subst (λ (a : ℕ). 0 < price_of prices a) (sym same) price_above)).0 in
+          (down_is (value o) (price_of prices o.buy)
+          (subst (λ (a : ℕ). 0 < price_of prices a) (sym same) price_above)).0 in
           rw ours (subst (λ (p : ℕ). p * gets prices flow offers o ≤ value o) (ap (price_of prices) same) within)
       | inr others ↦ rw others (omega arith)
     ],
@@ -178,7 +197,8 @@ module _ (parts : Parts) (prices : List ℕ) (flow : ℕ → ℕ → ℕ) (is : 
   sold_within : sold n flow asset ≤ price * given prices flow offers asset
   sold_within =
       let out =
-      within_price price (λ o. cond (eqb o.sell asset) (value o) 0) (λ o. cond (eqb o.sell asset) (gives prices flow offers o) 0) offers (given_each offers) in
+      within_price price (λ o. cond (eqb o.sell asset) (value o) 0)
+      (λ o. cond (eqb o.sell asset) (gives prices flow offers o) 0) offers (given_each offers) in
       omega (arith, sold_is)
 
   -- the value that is bought of an asset is within that of what is given of it
@@ -189,7 +209,8 @@ module _ (parts : Parts) (prices : List ℕ) (flow : ℕ → ℕ → ℕ) (is : 
   pub never_negative : got prices flow offers asset ≤ given prices flow offers asset
   never_negative =
       let into =
-      reaches_price price (λ o. cond (eqb o.buy asset) (value o) 0) (λ o. cond (eqb o.buy asset) (gets prices flow offers o) 0) offers (got_each offers) in
+      reaches_price price (λ o. cond (eqb o.buy asset) (value o) 0)
+      (λ o. cond (eqb o.buy asset) (gets prices flow offers o) 0) offers (got_each offers) in
       let scaled : price * got prices flow offers asset ≤ price * given prices flow offers asset =
       omega (arith, bought_is, bought_within) in
       le_of_mul-le-mul_left {k = price} scaled price_above

@@ -1,5 +1,6 @@
 -- The header of a block: what is read is encoded so, and what is encoded so is read.
-use Rattle.std.proofs.Common.{◌≡◌, ℕ, ◌+◌, ◌-◌, ◌^◌, ◌<◌, ◌≤◌, true, false, ltb, List, ◌++◌, length, take, drop, refl, sym, ap, subst, ◌∙◌, append_assoc, arith}
+use Rattle.std.proofs.Common.{◌≡◌, ℕ, ◌+◌, ◌-◌, ◌^◌, ◌<◌, ◌≤◌, true, false, ltb, List, ◌++◌, length, take, drop, refl}
+use Rattle.std.proofs.Common.{sym, ap, subst, ◌∙◌, append_assoc, arith}
 use Rattle.std.specs.Prelude.{All}
 use Rattle.std.specs.List.{flat_map}
 use Rattle.std.proofs.lemmas.Bool.{ltb-false, le-ltb}
@@ -8,15 +9,19 @@ use Rattle.std.proofs.lemmas.List.Elements.{All-from_recursion, recursion_from_A
 use Rattle.byteorder.specs.Endian.{big_bytes}
 use Rattle.sx_block.specs.declared.header.Header.{Header}
 use Rattle.sx_block.specs.Block.{CutFits, IsHeader, assets_of}
-use Rattle.sx_block.specs.Decoding.{Front, Market, Outcome, digest_at, potential_at, flow_at, cut_at, front_at, market_at, outcome_at, header_of, header_at}
+use Rattle.sx_block.specs.Decoding.{Front, Market, Outcome, digest_at, potential_at, flow_at, cut_at, front_at}
+use Rattle.sx_block.specs.Decoding.{market_at, outcome_at, header_of, header_at}
 use Rattle.sx_block.specs.Digest.{IsDigest}
 use Rattle.sx_block.specs.Encoding.{flow_bytes, cut_bytes, header_bytes}
 use Rattle.sx_block.proofs.TradeLaws.{IsFlowOf, flow_takes, flow_reads_again, cut_takes, cut_again}
 use Rattle.sx_bytes.specs.declared.fault.Form.TheVariants as form
 use Rattle.sx_bytes.specs.Cursor.{Cursor, rest, left, moved, raw_at}
 use Rattle.sx_bytes.specs.Grammar.{◌>>=◌, between, field_at, many_at}
-use Rattle.sx_bytes.proofs.Grammar.{bind_ok, guard_short, or_fault_ok, AreBytes-take, AreBytes-drop, moved_takes, length-rest, Takes, Takes-then, Again, field_takes, field_again, many_takes, many_again}
-use Rattle.sx_bytes.proofs.Parts.{Reading, TakesAll, ReadsAgain, two_at, two_take, two_again, three_at, three_take, three_again}
+use Rattle.sx_bytes.proofs.Grammar.{bind_ok, guard_short, or_fault_ok, AreBytes-take, AreBytes-drop, moved_takes}
+use Rattle.sx_bytes.proofs.Grammar.{length-rest, Takes, Takes-then, Again, field_takes, field_again, many_takes}
+use Rattle.sx_bytes.proofs.Grammar.{many_again}
+use Rattle.sx_bytes.proofs.Parts.{Reading, TakesAll, ReadsAgain, two_at, two_take, two_again, three_at, three_take}
+use Rattle.sx_bytes.proofs.Parts.{three_again}
 use Rattle.sx_bytes.proofs.DecodingSteps.{bytes_after, range_takes, range_again, again_then}
 use Rattle.sx_price.specs.Limits.{IsPrice}
 use Rattle.sx_ledger.specs.Decoding.{price_at, units_field_at}
@@ -153,10 +158,12 @@ front_takes c next x bytes e =
     let t1 = range_takes 8 0 (2 ^ 63 - 1) form.HeightRange v.0.1 h.0.1 h.0.0 bytes1 h.1 in
     let bytes2 = bytes_after v.0.1 h.0.1 (big_bytes 8 h.0.0) t1.0 bytes1 in
     let t2 =
-    three_take digest_at digest_at mu_at (joined v.0.0 h.0.0) same_bytes same_bytes (big_bytes 1) IsDigest IsDigest IsMu digest_takes digest_takes mu_takes h.0.1 next x bytes2 h.2 in
+    three_take digest_at digest_at mu_at (joined v.0.0 h.0.0) same_bytes same_bytes (big_bytes 1) IsDigest IsDigest
+    IsMu digest_takes digest_takes mu_takes h.0.1 next x bytes2 h.2 in
     let text = digests_text t2.0 t2.1 t2.2 in
     let all =
-    Takes-then c v.0.1 next (big_bytes 1 v.0.0) (big_bytes 8 h.0.0 ++ text) t0.0 (Takes-then v.0.1 h.0.1 next (big_bytes 8 h.0.0) text t1.0 t2.4) in
+    Takes-then c v.0.1 next (big_bytes 1 v.0.0) (big_bytes 8 h.0.0 ++ text) t0.0
+    (Takes-then v.0.1 h.0.1 next (big_bytes 8 h.0.0) text t1.0 t2.4) in
     let is : IsFront (joined v.0.0 h.0.0 t2.0 t2.1 t2.2) =
     record { version = omega (arith, t0.1, t0.2); height = t1.2; parent = t2.5; body = t2.6; mu = t2.7 } in
     subst (λ (y : Front). Takes c (front_text y) next × IsFront y) t2.3 (all, is)
@@ -166,13 +173,19 @@ unfolding front_at
 front_again c x after is within e =
     let text = digests_text x.2 x.3 x.4 in
     let v =
-    range_again 1 1 1 form.Version c x.0 ((big_bytes 8 x.1 ++ text) ++ after) (omega arith) (omega (arith, is.version)) (omega (arith, is.version)) within (e ∙ append_assoc (big_bytes 1 x.0) (big_bytes 8 x.1 ++ text) after) in
+    range_again 1 1 1 form.Version c x.0 ((big_bytes 8 x.1 ++ text) ++ after) (omega arith)
+    (omega (arith, is.version)) (omega (arith, is.version)) within
+    (e ∙ append_assoc (big_bytes 1 x.0) (big_bytes 8 x.1 ++ text) after) in
     let h =
-    range_again 8 0 (2 ^ 63 - 1) form.HeightRange v.next x.1 (text ++ after) (omega arith) (omega arith) (omega (arith, is.height)) v.within (v.rest_is ∙ append_assoc (big_bytes 8 x.1) text after) in
+    range_again 8 0 (2 ^ 63 - 1) form.HeightRange v.next x.1 (text ++ after) (omega arith) (omega arith)
+    (omega (arith, is.height)) v.within (v.rest_is ∙ append_assoc (big_bytes 8 x.1) text after) in
     let d =
-    three_again digest_at digest_at mu_at (joined x.0 x.1) same_bytes same_bytes (big_bytes 1) IsDigest IsDigest IsMu digest_again digest_again mu_again h.next x.2 x.3 x.4 after is.parent is.body is.mu h.within h.rest_is in
-    again_then (version_at c) (λ version. from_height version.0 version.1) c x.0 x ((big_bytes 8 x.1 ++ text) ++ after) after v
-    (again_then (height_at v.next) (λ height. from_digests x.0 height.0 height.1) v.next x.1 x (text ++ after) after h d)
+    three_again digest_at digest_at mu_at (joined x.0 x.1) same_bytes same_bytes (big_bytes 1) IsDigest IsDigest
+    IsMu digest_again digest_again mu_again h.next x.2 x.3 x.4 after is.parent is.body is.mu h.within h.rest_is in
+    again_then (version_at c) (λ version. from_height version.0 version.1) c x.0 x
+    ((big_bytes 8 x.1 ++ text) ++ after) after v
+    (again_then (height_at v.next) (λ height. from_digests x.0 height.0 height.1) v.next x.1 x (text ++ after) after
+    h d)
 
 -- ---- what stands after it
 
@@ -191,15 +204,19 @@ module _ (n : ℕ) (some : 1 ≤ n) (few : n ≤ 32) where
   market_takes : TakesAll (market_at n) market_text IsMarket
   unfolding market_at
   market_takes c next x bytes e =
-      let t = three_take (many_at price_at n) (flow_at n) (cut_at n) (λ p t d. (p, t, d)) (flat_map (big_bytes 8)) flow_bytes cut_bytes (AreNumbers IsPrice n) (IsFlowOf n some few) (CutFits n)
+      let t = three_take (many_at price_at n) (flow_at n) (cut_at n) (λ p t d. (p, t, d)) (flat_map (big_bytes 8))
+      flow_bytes cut_bytes (AreNumbers IsPrice n) (IsFlowOf n some few) (CutFits n)
       (numbers_take 8 price_at IsPrice n price_takes) (flow_takes n some few) (cut_takes n some few) c next x bytes e in
-      subst (λ (y : Market). Takes c (market_text y) next × IsMarket y) t.3 (t.4, record { prices = t.5; trades = t.6; cut = t.7 })
+      subst (λ (y : Market). Takes c (market_text y) next × IsMarket y) t.3
+      (t.4, record { prices = t.5; trades = t.6; cut = t.7 })
 
   market_again : ReadsAgain (market_at n) market_text IsMarket
   unfolding market_at
   market_again c x after is within e =
-      three_again (many_at price_at n) (flow_at n) (cut_at n) (λ p t d. (p, t, d)) (flat_map (big_bytes 8)) flow_bytes cut_bytes (AreNumbers IsPrice n) (IsFlowOf n some few) (CutFits n)
-      (numbers_again 8 price_at IsPrice n price_again) (flow_reads_again n some few) (cut_again n some few) c x.0 x.1 x.2 after is.prices is.trades is.cut within e
+      three_again (many_at price_at n) (flow_at n) (cut_at n) (λ p t d. (p, t, d)) (flat_map (big_bytes 8))
+      flow_bytes cut_bytes (AreNumbers IsPrice n) (IsFlowOf n some few) (CutFits n)
+      (numbers_again 8 price_at IsPrice n price_again) (flow_reads_again n some few) (cut_again n some few) c x.0
+      x.1 x.2 after is.prices is.trades is.cut within e
 
   record IsOutcome (outcome : Outcome) : Type 0 where
     potentials : AreNumbers IsPotential n outcome.0
@@ -209,15 +226,23 @@ module _ (n : ℕ) (some : 1 ≤ n) (few : n ≤ 32) where
   outcome_takes : TakesAll (outcome_at n) outcome_text IsOutcome
   unfolding outcome_at
   outcome_takes c next x bytes e =
-      let t = three_take (many_at potential_at n) (many_at units_field_at n) digest_at (λ p r d. (p, r, d)) (flat_map (big_bytes 4)) (flat_map (big_bytes 8)) same_bytes (AreNumbers IsPotential n) (AreNumbers IsRounded n) IsDigest
-      (numbers_take 4 potential_at IsPotential n potential_takes) (numbers_take 8 units_field_at IsRounded n units_takes) digest_takes c next x bytes e in
-      subst (λ (y : Outcome). Takes c (outcome_text y) next × IsOutcome y) t.3 (t.4, record { potentials = t.5; rounding = t.6; after = t.7 })
+      let t = three_take (many_at potential_at n) (many_at units_field_at n) digest_at (λ p r d. (p, r, d))
+      (flat_map (big_bytes 4)) (flat_map (big_bytes 8)) same_bytes (AreNumbers IsPotential n)
+      (AreNumbers IsRounded n) IsDigest
+      (numbers_take 4 potential_at IsPotential n potential_takes)
+      (numbers_take 8 units_field_at IsRounded n units_takes) digest_takes c next x bytes e in
+      subst (λ (y : Outcome). Takes c (outcome_text y) next × IsOutcome y) t.3
+      (t.4, record { potentials = t.5; rounding = t.6; after = t.7 })
 
   outcome_again : ReadsAgain (outcome_at n) outcome_text IsOutcome
   unfolding outcome_at
   outcome_again c x after is within e =
-      three_again (many_at potential_at n) (many_at units_field_at n) digest_at (λ p r d. (p, r, d)) (flat_map (big_bytes 4)) (flat_map (big_bytes 8)) same_bytes (AreNumbers IsPotential n) (AreNumbers IsRounded n) IsDigest
-      (numbers_again 4 potential_at IsPotential n potential_again) (numbers_again 8 units_field_at IsRounded n units_again) digest_again c x.0 x.1 x.2 after is.potentials is.rounding is.after within e
+      three_again (many_at potential_at n) (many_at units_field_at n) digest_at (λ p r d. (p, r, d))
+      (flat_map (big_bytes 4)) (flat_map (big_bytes 8)) same_bytes (AreNumbers IsPotential n)
+      (AreNumbers IsRounded n) IsDigest
+      (numbers_again 4 potential_at IsPotential n potential_again)
+      (numbers_again 8 units_field_at IsRounded n units_again) digest_again c x.0 x.1 x.2 after is.potentials
+      is.rounding is.after within e
 
 -- ---- the header
 
@@ -268,7 +293,9 @@ count_again c x after is within e = range_again 1 1 32 form.AssetCount c x after
 from_market_takes : (front : Front) (n : ℕ) → IsCount n → TakesAll (from_market front n) market_text_of (IsFrom front n)
 from_market_takes front n count c next h bytes e =
     let t =
-    two_take (market_at n) (outcome_at n) (header_of front) market_text outcome_text (IsMarket n count.0 count.1) (IsOutcome n count.0 count.1) (market_takes n count.0 count.1) (outcome_takes n count.0 count.1) c next h bytes e in
+    two_take (market_at n) (outcome_at n) (header_of front) market_text outcome_text (IsMarket n count.0 count.1)
+    (IsOutcome n count.0 count.1) (market_takes n count.0 count.1) (outcome_takes n count.0 count.1) c next h
+    bytes e in
     let is : IsFrom front n (header_of front t.0 t.1) =
     record { front_is = refl; some = count.0; few = count.1; market = t.4; outcome = t.5 } in
     subst (λ (y : Header). Takes c (market_text_of y) next × IsFrom front n y) t.2 (t.3, is)
@@ -276,7 +303,9 @@ from_market_takes front n count c next h bytes e =
 from_market_again : (front : Front) (n : ℕ) → ReadsAgain (from_market front n) market_text_of (IsFrom front n)
 from_market_again front n c h after is within e =
     let read =
-    two_again (market_at n) (outcome_at n) (header_of front) market_text outcome_text (IsMarket n is.some is.few) (IsOutcome n is.some is.few) (market_again n is.some is.few) (outcome_again n is.some is.few) c (market_of h) (outcome_of h) after is.market is.outcome within e in
+    two_again (market_at n) (outcome_at n) (header_of front) market_text outcome_text (IsMarket n is.some is.few)
+    (IsOutcome n is.some is.few) (market_again n is.some is.few) (outcome_again n is.some is.few) c
+    (market_of h) (outcome_of h) after is.market is.outcome within e in
     let same : header_of front (market_of h) (outcome_of h) ≡ h =
     ap (λ (f : Front). header_of f (market_of h) (outcome_of h)) is.front_is in
     subst (λ (y : Header). Again (from_market front n c) c y after) same read
@@ -295,7 +324,8 @@ pub header_takes : TakesAll header_at header_bytes IsHeader
 unfolding header_at
 header_takes c next h bytes e =
     let t =
-    chained_takes front_at from_assets front_text assets_text_of IsFront FromAssets front_of front_takes (λ front is. from_assets_takes front) (λ front h is. is.1.front_is) c next h bytes e in
+    chained_takes front_at from_assets front_text assets_text_of IsFront FromAssets front_of front_takes
+    (λ front is. from_assets_takes front) (λ front h is. is.1.front_is) c next h bytes e in
     let front = t.1.0 in
     let count = t.1.1.0 in
     let market = t.1.1.1.market in
@@ -326,12 +356,25 @@ pub header_again : ReadsAgain header_at header_bytes IsHeader
 unfolding header_at
 header_again c h after is within e =
     let front : IsFront (front_of h) =
-    record { version = is.version; height = is.height; parent = is.parent; body = is.body; mu = (is.some_mu, is.most_mu) } in
+    record {
+      version = is.version;
+      height = is.height;
+      parent = is.parent;
+      body = is.body;
+      mu =
+          (is.some_mu, is.most_mu);
+    } in
     let n = assets_of h in
     let market : IsMarket n is.some_asset is.few_assets (market_of h) =
     record { prices = record { number = refl; are = is.prices }; trades = (is.same_assets, is.trades); cut = is.cut } in
     let outcome : IsOutcome n is.some_asset is.few_assets (outcome_of h) =
-    record { potentials = record { number = is.one_potential; are = is.potentials }; rounding = record { number = is.one_rounding; are = is.rounding }; after = is.after } in
+    record {
+      potentials = record { number = is.one_potential; are = is.potentials };
+      rounding =
+          record { number = is.one_rounding; are = is.rounding };
+      after = is.after;
+    } in
     let from : IsFrom (front_of h) n h =
     record { front_is = refl; some = is.some_asset; few = is.few_assets; market = market; outcome = outcome } in
-    chained_again front_at from_assets front_text assets_text_of IsFront FromAssets front_of front_again (λ front is. from_assets_again front) c h after (front, ((is.some_asset, is.few_assets), from)) within e
+    chained_again front_at from_assets front_text assets_text_of IsFront FromAssets front_of front_again
+    (λ front is. from_assets_again front) c h after (front, ((is.some_asset, is.few_assets), from)) within e

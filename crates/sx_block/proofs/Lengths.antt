@@ -1,5 +1,6 @@
 -- How long the encoding of a block is.
-use Rattle.std.proofs.Common.{◌≡◌, ℕ, ◌+◌, ◌*◌, ◌≤◌, cond, List, [], ◌∷◌, ◌++◌, length, drop, Option, None, Some, refl, arith}
+use Rattle.std.proofs.Common.{◌≡◌, ℕ, ◌+◌, ◌*◌, ◌≤◌, cond, List, [], ◌∷◌, ◌++◌, length, drop, Option, None, Some}
+use Rattle.std.proofs.Common.{refl, arith}
 use Rattle.std.specs.Prelude.{is_some}
 use Rattle.std.specs.List.{flat_map}
 use Rattle.std.proofs.lemmas.List.{length-append, drop_at}
@@ -8,7 +9,8 @@ use Rattle.sx_block.specs.declared.header.Block.{Block}
 use Rattle.sx_block.specs.declared.header.Header.{Header}
 use Rattle.sx_block.specs.declared.trade.Trade.{Trade}
 use Rattle.sx_block.specs.Block.{IsHeader, assets_of}
-use Rattle.sx_block.specs.Encoding.{trade_bytes, flow_bytes, cut_bytes, front_bytes, market_bytes, outcome_bytes, header_bytes, block_bytes}
+use Rattle.sx_block.specs.Encoding.{trade_bytes, flow_bytes, cut_bytes, front_bytes, market_bytes, outcome_bytes}
+use Rattle.sx_block.specs.Encoding.{header_bytes, block_bytes}
 use Rattle.sx_block.specs.Laws.{HasMostBytes, EveryBlockFits}
 use Rattle.sx_block.specs.Trades.{trades_of}
 use Rattle.sx_block.proofs.Counts.{trades_most}
@@ -50,19 +52,41 @@ length-market : (h : Header)
 length-market h =
     let ts = trades_of h.trades in
     let flow : length (flow_bytes h.trades) ≡ 2 + length ts * 18 = omega (arith, length-trade_texts ts) in
-    omega (arith, length-append (flat_map (big_bytes 8) h.prices) (flow_bytes h.trades ++ cut_bytes h.dropped), length-append (flow_bytes h.trades) (cut_bytes h.dropped), length-numbers 8 h.prices, length-cut h.dropped)
+    omega (
+      arith,
+      length-append (flat_map (big_bytes 8) h.prices) (flow_bytes h.trades ++ cut_bytes h.dropped),
+      length-append (flow_bytes h.trades) (cut_bytes h.dropped),
+      length-numbers 8 h.prices,
+      length-cut h.dropped,
+    )
 
 length-outcome : (h : Header) → IsHeader h
     → length (outcome_bytes h) ≡ length h.potentials * 4 + length h.rounding * 8 + 32
 length-outcome h is =
     let rounding = flat_map (big_bytes 8) h.rounding in
-    omega (arith, length-append (flat_map (big_bytes 4) h.potentials) (rounding ++ h.after), length-append rounding h.after, length-numbers 4 h.potentials, length-numbers 8 h.rounding, is.after.whole)
+    omega (
+      arith,
+      length-append (flat_map (big_bytes 4) h.potentials) (rounding ++ h.after),
+      length-append rounding h.after,
+      length-numbers 4 h.potentials,
+      length-numbers 8 h.rounding,
+      is.after.whole,
+    )
 
 pub length-header : (h : Header) → IsHeader h
     → length (header_bytes h) ≡ 110 + 20 * assets_of h + 18 * length (trades_of h.trades) + cut_length h.dropped
 length-header h is =
     let back = market_bytes h ++ outcome_bytes h in
-    omega (arith, length-append (front_bytes h) (big_bytes 1 (assets_of h) ++ back), length-append (market_bytes h) (outcome_bytes h), length-front h is, length-market h, length-outcome h is, is.one_potential, is.one_rounding)
+    omega (
+      arith,
+      length-append (front_bytes h) (big_bytes 1 (assets_of h) ++ back),
+      length-append (market_bytes h) (outcome_bytes h),
+      length-front h is,
+      length-market h,
+      length-outcome h is,
+      is.one_potential,
+      is.one_rounding,
+    )
 
 header_most : (h : Header) → IsHeader h → length (header_bytes h) ≤ 18610
 header_most h is =
@@ -70,7 +94,12 @@ header_most h is =
 
 pub block_most : HasMostBytes
 block_most block is =
-    omega (arith, length-append (header_bytes block.header) (list_bytes block.txs), header_most block.header is.header, fits_record block.txs is.few)
+    omega (
+      arith,
+      length-append (header_bytes block.header) (list_bytes block.txs),
+      header_most block.header is.header,
+      fits_record block.txs is.few,
+    )
 
 pub block_fits : EveryBlockFits
 block_fits block is = omega (arith, block_most block is)

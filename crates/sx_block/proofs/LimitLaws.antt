@@ -1,5 +1,6 @@
 -- Offers trade in the order of their limits: one that trades may trade, and one that must trade trades in full.
-use Rattle.std.proofs.Common.{◌≡◌, ℕ, zero, suc, ◌+◌, ◌-◌, ◌*◌, ◌^◌, ◌<◌, ◌≤◌, min, Bool, true, false, eqb, ◌&&◌, List, [], ◌∷◌, ◌++◌, length, get_or, refl, sym, ap, subst, ◌∙◌, inl, inr, arith}
+use Rattle.std.proofs.Common.{◌≡◌, ℕ, zero, suc, ◌+◌, ◌-◌, ◌*◌, ◌^◌, ◌<◌, ◌≤◌, min, Bool, true, false, eqb, ◌&&◌}
+use Rattle.std.proofs.Common.{List, [], ◌∷◌, ◌++◌, length, get_or, refl, sym, ap, subst, ◌∙◌, inl, inr, arith}
 use Rattle.std.specs.List.{AllByRecursion, filter}
 use Rattle.std.specs.declared.cmp.Ordering.TheVariants.{Equal, Greater}
 use Rattle.std.specs.Ordering.{is_lt, nat_cmp}
@@ -11,7 +12,8 @@ use Rattle.std.proofs.lemmas.List.Elements.{filter-append}
 use Rattle.std.proofs.lemmas.List.Sums.{sum_by-append, sum_by-cons}
 use Rattle.sx_block.specs.EffectLaws.{IsTradable, MustTradeInFull, TradesOnlyWithinLimit}
 use Rattle.sx_block.proofs.FillLaws.{gives_has, price_above, up_is}
-use Rattle.sx_ledger.proofs.OfferOrder.{Precedes, Rising, before_all, in_front, keeps_all, rising_back, rising_is, rising_kept}
+use Rattle.sx_ledger.proofs.OfferOrder.{Precedes, Rising, before_all, in_front, keeps_all, rising_back, rising_is}
+use Rattle.sx_ledger.proofs.OfferOrder.{rising_kept}
 use Rattle.sx_block.proofs.ListSums.{filter-le}
 use Rattle.sx_block.proofs.PairFills.{in_pair}
 use Rattle.sx_ledger.specs.declared.offer.Offer.{Offer}
@@ -34,7 +36,8 @@ split_kept p (y ∷ ys) x zero lt at keeps =
 split_kept p (y ∷ ys) x (suc k) lt at keeps =
     let rest = split_kept p ys x k (omega arith) at keeps in
     elim (cases_Bool (p y)) [
-      | inl kept ↦ let first : filter p (y ∷ ys) ≡ y ∷ filter p ys = rw kept refl in (y ∷ rest.0, rest.1, first ∙ ap (λ (zs : List Offer). y ∷ zs) rest.2)
+      | inl kept ↦ let first : filter p (y ∷ ys) ≡ y ∷ filter p ys = rw kept refl in
+          (y ∷ rest.0, rest.1, first ∙ ap (λ (zs : List Offer). y ∷ zs) rest.2)
       | inr gone ↦ let none : filter p (y ∷ ys) ≡ filter p ys = rw gone refl in (rest.0, rest.1, none ∙ rest.2)
     ]
 
@@ -64,7 +67,8 @@ limit_rises x o sell buy before =
     elim (cases_lt o.limit x.limit) [
       | inl less ↦
           let after : offer_before x o ≡ false =
-          rw (sell, buy) (not_before o.sell o.buy x.limit o.limit (x.account.0 ∷ x.seq ∷ []) (o.account.0 ∷ o.seq ∷ []) less) in
+          rw (sell, buy) (not_before o.sell o.buy x.limit o.limit (x.account.0 ∷ x.seq ∷ [])
+          (o.account.0 ∷ o.seq ∷ []) less) in
           absurd cc
       | inr more ↦ more
     ]
@@ -75,7 +79,8 @@ keeps_none : (p : Offer → Bool) (xs : List Offer) → AllByRecursion (λ x. p 
 keeps_none p [] all = refl
 keeps_none p (x ∷ xs) all = rw all.0 (keeps_none p xs all.1)
 
-module _ (parts : Parts) (prices : List ℕ) (flow : ℕ → ℕ → ℕ) (is : IsLedger parts) (fits : IsTradable parts prices flow)
+module _ (parts : Parts) (prices : List ℕ) (flow : ℕ → ℕ → ℕ) (is : IsLedger parts)
+    (fits : IsTradable parts prices flow)
     (o : Offer) (k : ℕ) (lt : k < length parts.offers) (at : get_or parts.offers k o ≡ o) where
   abbrev all_offers : List Offer
   all_offers = parts.offers
@@ -134,11 +139,13 @@ module _ (parts : Parts) (prices : List ℕ) (flow : ℕ → ℕ → ℕ) (is : 
 
   front_lower : AllByRecursion IsLower split.0
   front_lower =
-      lower split.0 (all_front (λ x. of_pair x ≡ true) split.0 (o ∷ split.1) of_one_pair) (before_all split.0 split.1 o rising)
+      lower split.0 (all_front (λ x. of_pair x ≡ true) split.0 (o ∷ split.1) of_one_pair)
+      (before_all split.0 split.1 o rising)
 
   back_higher : AllByRecursion IsHigher split.1
   back_higher =
-      higher split.1 (all_back (λ x. of_pair x ≡ true) split.0 (o ∷ split.1) of_one_pair).1 (rising_back split.0 (o ∷ split.1) rising).0
+      higher split.1 (all_back (λ x. of_pair x ≡ true) split.0 (o ∷ split.1) of_one_pair).1
+      (rising_back split.0 (o ∷ split.1) rising).0
 
   within : flow o.sell o.buy ≤ high_of prices all_offers o.sell o.buy
   within = fits.within o.sell o.buy offer_is.sell offer_is.buy (λ e. offer_is.differ (sym e))
@@ -166,12 +173,14 @@ module _ (parts : Parts) (prices : List ℕ) (flow : ℕ → ℕ → ℕ) (is : 
   no_value none =
       let nothing : filter (may_trade_at prices) (o ∷ split.1) ≡ [] =
       keeps_none (may_trade_at prices) (o ∷ split.1) (none, too_high split.1 none back_higher) in
-      let kept : filter (may_trade_at prices) pair_offers ≡ filter (may_trade_at prices) split.0 ++ filter (may_trade_at prices) (o ∷ split.1) =
+      let kept : filter (may_trade_at prices) pair_offers ≡ filter (may_trade_at prices) split.0 ++ filter
+      (may_trade_at prices) (o ∷ split.1) =
       ap (filter (may_trade_at prices)) split.2 ∙ filter-append (may_trade_at prices) split.0 (o ∷ split.1) in
       let sum : amounts (filter (may_trade_at prices) pair_offers) ≡ amounts (filter (may_trade_at prices) split.0) =
       ap amounts (kept ∙ ap (λ (xs : List Offer). filter (may_trade_at prices) split.0 ++ xs) nothing)
       ∙ sum_by-append (λ (x : Offer). x.amount) (filter (may_trade_at prices) split.0) []
-      ∙ (let e : amounts (filter (may_trade_at prices) split.0) + 0 ≡ amounts (filter (may_trade_at prices) split.0) = omega arith in e) in
+      ∙ (let e : amounts (filter (may_trade_at prices) split.0) + 0 ≡ amounts
+      (filter (may_trade_at prices) split.0) = omega arith in e) in
       let some : amounts (filter (may_trade_at prices) pair_offers) ≤ ahead_of all_offers o =
       omega (arith, filter-le (λ (x : Offer). x.amount) (may_trade_at prices) split.0, ahead, sum) in
       let most : high_of prices all_offers o.sell o.buy ≤ price_sold * ahead_of all_offers o =
@@ -185,7 +194,8 @@ module _ (parts : Parts) (prices : List ℕ) (flow : ℕ → ℕ → ℕ) (is : 
 
   -- ---- who must trade does so in full
 
-  module _ (j : ℕ) (must : must_trade_at prices j o ≡ true) (least : low_of prices j false all_offers o.sell o.buy ≤ flow o.sell o.buy) where
+  module _ (j : ℕ) (must : must_trade_at prices j o ≡ true)
+      (least : low_of prices j false all_offers o.sell o.buy ≤ flow o.sell o.buy) where
     low_enough : (xs : List Offer) → AllByRecursion IsLower xs
         → AllByRecursion (λ x. must_trade_at prices j x ≡ true) xs
     low_enough [] all = tt
@@ -214,14 +224,16 @@ module _ (parts : Parts) (prices : List ℕ) (flow : ℕ → ℕ → ℕ) (is : 
         omega (arith, ahead, sum, sum_by-cons (λ (x : Offer). x.amount) o (filter test split.1)) in
         let reach : price_sold * (ahead_of all_offers o + o.amount) ≤ low_of prices j false all_offers o.sell o.buy =
         mul-le-mul_left price_sold some in
-        let parted : price_sold * (ahead_of all_offers o + o.amount) ≡ price_sold * ahead_of all_offers o + price_sold * o.amount =
+        let parted : price_sold * (ahead_of all_offers o + o.amount) ≡ price_sold * ahead_of all_offers o +
+        price_sold * o.amount =
         omega arith in
         let value : value_of prices flow all_offers o ≡ price_sold * o.amount = min-eq_right (omega (arith, least)) in
         let up : value_of prices flow all_offers o ≤ price_sold * gives prices flow all_offers o =
         (up_is (value_of prices flow all_offers o) price_sold above).0 in
         let most = gives_has prices flow all_offers o above in
         let least_given : o.amount ≤ gives prices flow all_offers o =
-        le_of_mul-le-mul_left {k = price_sold} (let e : price_sold * o.amount ≤ price_sold * gives prices flow all_offers o = omega arith in e) above in
+        le_of_mul-le-mul_left {k = price_sold}
+        (let e : price_sold * o.amount ≤ price_sold * gives prices flow all_offers o = omega arith in e) above in
         omega arith
 
 pub only_within_limit : TradesOnlyWithinLimit
@@ -231,4 +243,5 @@ only_within_limit parts prices flow offer is fits within some =
 pub must_in_full : MustTradeInFull
 must_in_full parts prices flow j offer is fits least within must =
     let o = offer_is parts prices flow is fits offer within.0 within.1 within.2 in
-    trades_in_full parts prices flow is fits offer within.0 within.1 within.2 j (le-leb _ _ must) (least offer.sell offer.buy o.sell o.buy (λ e. o.differ (sym e)))
+    trades_in_full parts prices flow is fits offer within.0 within.1 within.2 j (le-leb _ _ must)
+    (least offer.sell offer.buy o.sell o.buy (λ e. o.differ (sym e)))

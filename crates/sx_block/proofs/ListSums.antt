@@ -1,5 +1,6 @@
 -- Sums over lists and over assets.
-use Rattle.std.proofs.Common.{◌≡◌, ◌≢◌, ℕ, zero, suc, ◌+◌, ◌<◌, ◌≤◌, Bool, true, false, cond, eqb, ◌&&◌, List, [], ◌∷◌, sum_by, refl, sym, ap, ap₂, ◌∙◌, inl, inr, arith}
+use Rattle.std.proofs.Common.{◌≡◌, ◌≢◌, ℕ, zero, suc, ◌+◌, ◌<◌, ◌≤◌, Bool, true, false, cond, eqb, ◌&&◌, List, []}
+use Rattle.std.proofs.Common.{◌∷◌, sum_by, refl, sym, ap, ap₂, ◌∙◌, inl, inr, arith}
 use Rattle.std.specs.List.{AllByRecursion, filter}
 use Rattle.std.proofs.lemmas.Bool.{cases_Bool, cases_lt, eqb-true, eq-eqb, ne_eqb}
 use Rattle.std.proofs.lemmas.List.Sums.{sum_by-cons}
@@ -87,7 +88,8 @@ module _ {X : Type 0} (a b f : X → ℕ) (A n : ℕ) where
   pub grouped : (xs : List X) → AllByRecursion (λ x. (b x < n) × (b x ≢ a x)) xs
       → sum_below n (of_group xs) ≡ sum_by (λ x. cond (eqb (a x) A) (f x) 0) xs
   grouped [] all =
-      below_none (of_group []) n (λ K lt. elim (cases_Bool (eqb A K)) [ inl same ↦ rw same refl | inr other ↦ rw other refl ])
+      below_none (of_group []) n (λ K lt. elim (cases_Bool (eqb A K))
+      [ inl same ↦ rw same refl | inr other ↦ rw other refl ])
   grouped (x ∷ xs) all =
       let first : ℕ → ℕ = λ K. cond (eqb (a x) A) (cond (eqb (b x) K) (f x) 0) 0 in
       let one : sum_below n first ≡ cond (eqb (a x) A) (f x) 0 =

@@ -1,9 +1,12 @@
 -- The trades of a flow, listed entry after entry.
-use Rattle.std.proofs.Common.{◌≡◌, ◌≢◌, ℕ, zero, suc, ◌+◌, ◌-◌, ◌*◌, ◌/◌, ◌%◌, ◌<◌, ◌≤◌, eqb, List, [], ◌∷◌, ◌++◌, length, take, drop, get_or, set, refl, sym, ap, ap₂, subst, ◌∙◌, append_assoc, inl, inr, arith}
+use Rattle.std.proofs.Common.{◌≡◌, ◌≢◌, ℕ, zero, suc, ◌+◌, ◌-◌, ◌*◌, ◌/◌, ◌%◌, ◌<◌, ◌≤◌, eqb, List, [], ◌∷◌, ◌++◌}
+use Rattle.std.proofs.Common.{length, take, drop, get_or, set, refl, sym, ap, ap₂, subst, ◌∙◌, append_assoc, inl, inr}
+use Rattle.std.proofs.Common.{arith}
 use Rattle.std.specs.Prelude.{All, replicate}
 use Rattle.std.specs.List.{flat_map}
 use Rattle.std.proofs.lemmas.Bool.{cases_Bool, cases_order, eq-eqb, ne_eqb}
-use Rattle.std.proofs.lemmas.List.{append-nil, length-append, length-take, length-set, take_more, ext_get_or, get_or-set_same, get_or-set_other}
+use Rattle.std.proofs.lemmas.List.{append-nil, length-append, length-take, length-set, take_more, ext_get_or}
+use Rattle.std.proofs.lemmas.List.{get_or-set_same, get_or-set_other}
 use Rattle.std.proofs.Math.Seq.{drop-cons, drop-length}
 use Rattle.std.proofs.lemmas.Grind.{flat_map-append}
 use Rattle.sx_block.specs.declared.trade.Trade.{Trade}
@@ -17,7 +20,8 @@ trades-append n s [] ys = ap (λ (p : ℕ). trades_from n p ys) (let e : s ≡ s
 trades-append n s (x ∷ xs) ys =
     let rest =
     trades-append n (suc s) xs ys
-    ∙ ap (λ (p : ℕ). trades_from n (suc s) xs ++ trades_from n p ys) (let e : suc s + length xs ≡ s + suc (length xs) = omega arith in e) in
+    ∙ ap (λ (p : ℕ). trades_from n (suc s) xs ++ trades_from n p ys)
+    (let e : suc s + length xs ≡ s + suc (length xs) = omega arith in e) in
     elim (cases_Bool (eqb x 0)) [
       | inl none ↦ rw none rest
       | inr some ↦ rw some (ap (λ (ts : List Trade). record { sell = s / n; buy = s % n; value = x } ∷ ts) rest)
@@ -41,7 +45,8 @@ none_more n xs i x lt is none =
     ∙ append-nil (trades_from n 0 (take i xs))
 
 pub some_more : (n : ℕ) (xs : List ℕ) (i x : ℕ) → i < length xs → x ≡ get_or xs i 0 → (x ≡ 0 → ⊥)
-    → trades_from n 0 (take (i + 1) xs) ≡ trades_from n 0 (take i xs) ++ record { sell = i / n; buy = i % n; value = x } ∷ []
+    → trades_from n 0 (take (i + 1) xs) ≡ trades_from n 0 (take i xs) ++
+    record { sell = i / n; buy = i % n; value = x } ∷ []
 some_more n xs i x lt is some =
     let one : trades_from n i (x ∷ []) ≡ record { sell = i / n; buy = i % n; value = x } ∷ [] =
     rw (ne_eqb x 0 some) refl in
@@ -50,7 +55,8 @@ some_more n xs i x lt is some =
 -- the bytes of one more trade
 pub bytes_more : (n : ℕ) (xs : List ℕ) (i x : ℕ) (old mid new : List ℕ) → i < length xs → x ≡ get_or xs i 0
     → (x ≡ 0 → ⊥)
-    → mid ≡ old ++ flat_map trade_bytes (trades_from n 0 (take i xs)) → new ≡ mid ++ trade_bytes (record { sell = i / n; buy = i % n; value = x })
+    → mid ≡ old ++ flat_map trade_bytes (trades_from n 0 (take i xs)) →
+    new ≡ mid ++ trade_bytes (record { sell = i / n; buy = i % n; value = x })
     → new ≡ old ++ flat_map trade_bytes (trades_from n 0 (take (i + 1) xs))
 bytes_more n xs i x old mid new lt is some so_far more =
     let t : Trade = record { sell = i / n; buy = i % n; value = x } in
@@ -85,11 +91,14 @@ set_before n k t ts lt =
     let e : 0 + i ≡ i = omega arith in
     entry_is n (t ∷ ts) 0 k i 0 below ∙
     elim (cases_order p i) as (λ _. value_at n (t ∷ ts) (0 + i) ≡ get_or (set others p t.value) i 0) [
-      | inl same ↦ rw (e, eq-eqb p i same) (sym (ap (λ (q : ℕ). get_or (set others q t.value) i 0) same ∙ get_or-set_same others i t.value 0 (omega arith)))
+      | inl same ↦ rw (e, eq-eqb p i same)
+          (sym (ap (λ (q : ℕ). get_or (set others q t.value) i 0) same ∙
+          get_or-set_same others i t.value 0 (omega arith)))
       | inr other ↦
           let apart : p ≢ i =
           λ same. elim other [ inl less ↦ absurd (omega arith) | inr more ↦ absurd (omega arith) ] in
-          rw (e, ne_eqb p i apart) (sym (get_or-set_other others p i t.value 0 (λ same. apart (sym same)) ∙ entry_is n ts 0 k i 0 below ∙ ap (value_at n ts) e))
+          rw (e, ne_eqb p i apart) (sym (get_or-set_other others p i t.value 0 (λ same. apart (sym same)) ∙
+          entry_is n ts 0 k i 0 below ∙ ap (value_at n ts) e))
     ])
 
 -- where there is no trade, all entries are 0
@@ -105,7 +114,8 @@ count_more n xs i x lt is some =
 
 -- ---- the trade before the last ones that were placed
 
-module _ (n left : ℕ) (trades : List Trade) (t : Trade) (items : List ℕ) (some : 0 < left) (within : left ≤ length trades) (is : t ≡ get_or trades (left - 1) t)
+module _ (n left : ℕ) (trades : List Trade) (t : Trade) (items : List ℕ) (some : 0 < left)
+    (within : left ≤ length trades) (is : t ≡ get_or trades (left - 1) t)
     (all : All (IsTrade n) trades) (so_far : items ≡ entries_from n (drop left trades) 0 (n * n)) where
   trade_is : IsTrade n t
   trade_is = subst (IsTrade n) (sym is) (all (left - 1) t (omega arith))

@@ -1,5 +1,6 @@
 -- In each pair the offers trade the whole value that the flow has for it.
-use Rattle.std.proofs.Common.{◌≡◌, ℕ, ◌+◌, ◌-◌, ◌*◌, ◌≤◌, min, true, eqb, ◌&&◌, List, [], ◌∷◌, ◌++◌, sum_by, refl, sym, ap, ap₂, subst, ◌∙◌, inl, inr, append_assoc, arith}
+use Rattle.std.proofs.Common.{◌≡◌, ℕ, ◌+◌, ◌-◌, ◌*◌, ◌≤◌, min, true, eqb, ◌&&◌, List, [], ◌∷◌, ◌++◌, sum_by, refl}
+use Rattle.std.proofs.Common.{sym, ap, ap₂, subst, ◌∙◌, inl, inr, append_assoc, arith}
 use Rattle.std.specs.List.{AllByRecursion, filter}
 use Rattle.std.proofs.Math.Nat.{mul-le-mul_left, min-eq_left, min-eq_right}
 use Rattle.std.proofs.lemmas.Bool.{cases_lt, eqb-true, and_parts}
@@ -65,7 +66,8 @@ module _ (price y : ℕ) (whole : List Offer) (rising : Rising whole) where
 pub in_pair : (sell buy : ℕ) (offers : List Offer)
     → AllByRecursion (λ o. (eqb o.sell sell && eqb o.buy buy) ≡ true) (pair_of sell buy offers)
 in_pair sell buy offers =
-    recursion_from_All (λ o. (eqb o.sell sell && eqb o.buy buy) ≡ true) (pair_of sell buy offers) (filter_passes (λ o. eqb o.sell sell && eqb o.buy buy) offers)
+    recursion_from_All (λ o. (eqb o.sell sell && eqb o.buy buy) ≡ true) (pair_of sell buy offers)
+    (filter_passes (λ o. eqb o.sell sell && eqb o.buy buy) offers)
 
 module _ (prices : List ℕ) (flow : ℕ → ℕ → ℕ) (offers : List Offer) (sell buy : ℕ) where
   abbrev whole_pair : List Offer
@@ -79,7 +81,8 @@ module _ (prices : List ℕ) (flow : ℕ → ℕ → ℕ) (offers : List Offer) 
 
   fills_are : (rising : Rising whole_pair) (os : List Offer)
       → AllByRecursion (λ o. (eqb o.sell sell && eqb o.buy buy) ≡ true) os
-      → AllByRecursion (λ o. value_of prices flow offers o ≡ fill (price_of prices sell) (flow sell buy) whole_pair rising o) os
+      → AllByRecursion (λ o. value_of prices flow offers o ≡ fill (price_of prices sell) (flow sell buy) whole_pair
+      rising o) os
   fills_are rising [] all = tt
   fills_are rising (o ∷ os) all = (fill_is rising o all.0, fills_are rising os all.1)
 
@@ -91,7 +94,8 @@ module _ (prices : List ℕ) (flow : ℕ → ℕ → ℕ) (offers : List Offer) 
       let y = flow sell buy in
       let up : Rising whole_pair = rising_kept (λ o. eqb o.sell sell && eqb o.buy buy) offers rising in
       let all =
-      sum_by-agree (value_of prices flow offers) (fill price y whole_pair up) whole_pair (fills_are up whole_pair (in_pair sell buy offers)) in
+      sum_by-agree (value_of prices flow offers) (fill price y whole_pair up) whole_pair
+      (fills_are up whole_pair (in_pair sell buy offers)) in
       let sum = fills_from price y whole_pair up [] whole_pair refl in
       let none : y - price * amounts [] ≡ y = omega arith in
       let may : high_of prices offers sell buy ≤ price * amounts whole_pair =

@@ -1,5 +1,6 @@
 -- The ledger after trading is a ledger.
-use Rattle.std.proofs.Common.{◌≡◌, ℕ, ◌^◌, ◌<◌, ◌≤◌, true, ltb, List, [], ◌∷◌, length, get_or, map, sum_by, refl, sym, ap, subst, ◌∙◌, inl, inr, arith}
+use Rattle.std.proofs.Common.{◌≡◌, ℕ, ◌^◌, ◌<◌, ◌≤◌, true, ltb, List, [], ◌∷◌, length, get_or, map, sum_by, refl, sym}
+use Rattle.std.proofs.Common.{ap, subst, ◌∙◌, inl, inr, arith}
 use Rattle.std.specs.Prelude.{All}
 use Rattle.std.specs.List.{AllByRecursion, filter}
 use Rattle.std.specs.List.Sorted.{IsStrictlyIncreasing}
@@ -83,8 +84,10 @@ balances_in_range most accounts k d lt sums i e within =
     get_or-le-sum_by (balance_at i) accounts k d lt in
     rw same (omega (arith, sums i within))
 
-module _ (prices : List ℕ) (flow : ℕ → ℕ → ℕ) (offers : List Offer) (n : ℕ) (accounts : List Account) (are : All (IsAccount n) accounts)
-    (sums : (asset : ℕ) → asset < n → sum_by (balance_at asset) (map (account_traded prices flow offers) accounts) ≤ 2 ^ 62) where
+module _ (prices : List ℕ) (flow : ℕ → ℕ → ℕ) (offers : List Offer) (n : ℕ) (accounts : List Account)
+    (are : All (IsAccount n) accounts)
+    (sums : (asset : ℕ) → asset < n →
+    sum_by (balance_at asset) (map (account_traded prices flow offers) accounts) ≤ 2 ^ 62) where
   abbrev trade : Account → Account
   trade = account_traded prices flow offers
 
@@ -98,7 +101,14 @@ module _ (prices : List ℕ) (flow : ℕ → ℕ → ℕ) (offers : List Offer) 
       let range : All (λ balance. balance ≤ 2 ^ 62) (get_or (map trade accounts) k (trade d)).balances =
       balances_in_range (2 ^ 62) (map trade accounts) k (trade d) (omega (arith, length-map accounts trade))
       (λ asset below. sums asset (omega (arith, ap (λ (a : Account). length a.balances) at))) in
-      record { id = is.id; last = is.last; used = is.used; balances = len; in_range = subst (λ (a : Account). All (λ balance. balance ≤ 2 ^ 62) a.balances) at range }
+      record {
+        id = is.id;
+        last = is.last;
+        used = is.used;
+        balances = len;
+        in_range =
+            subst (λ (a : Account). All (λ balance. balance ≤ 2 ^ 62) a.balances) at range;
+      }
 
   pub accounts_are : All (IsAccount n) (map trade accounts)
   accounts_are = All-map (IsAccount n) trade accounts account_is
@@ -116,7 +126,8 @@ trade_keeps_ledger parts prices flow rounding is below fits rounds =
     λ asset lt. omega (arith, trade_conserves parts prices flow rounding asset is fits rounds lt, is.totals asset lt) in
     let kept = filter (λ o. ltb 0 o.amount) (map (offer_traded prices flow offers) offers) in
     let each =
-    offers_are prices flow offers n parts.accounts offers (recursion_from_All (IsOffer n parts.accounts) offers is.offers) in
+    offers_are prices flow offers n parts.accounts offers
+    (recursion_from_All (IsOffer n parts.accounts) offers is.offers) in
     let all_accounts : All (IsAccount n) accounts =
     accounts_are prices flow offers n parts.accounts is.accounts (λ asset lt. omega (arith, total asset lt)) in
     let round_length : length (added parts.rounding rounding) ≡ n =
@@ -134,10 +145,19 @@ trade_keeps_ledger parts prices flow rounding is below fits rounds =
       accounts = subst (λ (m : ℕ). All (IsAccount m) accounts) (sym same) all_accounts;
       by_id = subst IsStrictlyIncreasing (sym (same_ids prices flow offers parts.accounts)) is.by_id;
       few_offers =
-          omega (arith, length-filter (λ (o : Offer). ltb 0 o.amount) (map (offer_traded prices flow offers) offers), count_by-le-length (λ (o : Offer). ltb 0 o.amount) (map (offer_traded prices flow offers) offers), length-map offers (offer_traded prices flow offers), is.few_offers);
+          omega (
+            arith,
+            length-filter (λ (o : Offer). ltb 0 o.amount)
+                (map (offer_traded prices flow offers) offers),
+            count_by-le-length (λ (o : Offer). ltb 0 o.amount) (map (offer_traded prices flow offers) offers),
+            length-map offers (offer_traded prices flow offers),
+            is.few_offers,
+          );
       offers =
-          subst (λ (m : ℕ). All (IsOffer m accounts) kept) (sym same) (All-from_recursion (IsOffer n accounts) kept each);
+          subst (λ (m : ℕ). All (IsOffer m accounts) kept) (sym same)
+          (All-from_recursion (IsOffer n accounts) kept each);
       by_key =
-          order_is kept (rising_kept (λ o. ltb 0 o.amount) (map (offer_traded prices flow offers) offers) (still_rising prices flow offers offers (rising_is offers is.by_key)));
+          order_is kept (rising_kept (λ o. ltb 0 o.amount) (map (offer_traded prices flow offers) offers)
+          (still_rising prices flow offers offers (rising_is offers is.by_key)));
       totals = λ asset lt. total asset (omega arith);
     }

@@ -1,5 +1,6 @@
 -- Trading makes and loses nothing of any asset.
-use Rattle.std.proofs.Common.{◌≡◌, ℕ, zero, suc, ◌+◌, ◌<◌, ◌≤◌, true, cond, eqb, ltb, ◌&&◌, List, [], ◌∷◌, length, get_or, map, sum_by, Some, refl, sym, ap, ap₂, ◌∙◌, inl, inr, arith}
+use Rattle.std.proofs.Common.{◌≡◌, ℕ, zero, suc, ◌+◌, ◌<◌, ◌≤◌, true, cond, eqb, ltb, ◌&&◌, List, [], ◌∷◌, length}
+use Rattle.std.proofs.Common.{get_or, map, sum_by, Some, refl, sym, ap, ap₂, ◌∙◌, inl, inr, arith}
 use Rattle.std.specs.Prelude.{nat_le, slice_index, ◌==◌}
 use Rattle.std.specs.List.{AllByRecursion, filter}
 use Rattle.std.specs.List.Sorted.{IsStrictlyIncreasing}
@@ -13,7 +14,8 @@ use Rattle.sx_ledger.specs.declared.offer.Offer.{Offer}
 use Rattle.sx_ledger.specs.declared.parts.Parts.{Parts}
 use Rattle.sx_ledger.specs.Bounds.{price_of}
 use Rattle.sx_ledger.specs.Fills.{given, gives, gets, got}
-use Rattle.sx_ledger.specs.Ledger.{IsAccount, IsLedger, IsOffer, assets_of, balance_at, has_owner, ids, offered, total_of}
+use Rattle.sx_ledger.specs.Ledger.{IsAccount, IsLedger, IsOffer, assets_of, balance_at, has_owner, ids, offered}
+use Rattle.sx_ledger.specs.Ledger.{total_of}
 use Rattle.sx_ledger.specs.Static.{has_account}
 use Rattle.sx_ledger.specs.Trade.{account_traded, added, balances_traded, offer_traded, proceeds}
 use Rattle.sx_ledger.proofs.ListSums.{sum_by-add, sum_by-none, sum_by-one, sum_by-same}
@@ -26,8 +28,10 @@ owner_there : (accounts : List Account) (o : Offer) → has_owner accounts o ≡
 owner_there [] o e = absurd cc
 owner_there (account ∷ accounts) o e =
     elim (or_cases ((account.id.0 == o.account.0) && nat_le o.seq account.window.last) (has_owner accounts o) e) [
-      | inl here ↦ let own = and_parts (account.id.0 == o.account.0) (nat_le o.seq account.window.last) here in rw own.0 refl
-      | inr later ↦ elim (cases_Bool (eqb account.id.0 o.account.0)) [ inl same ↦ rw same refl | inr other ↦ rw other (owner_there accounts o later) ]
+      | inl here ↦ let own = and_parts (account.id.0 == o.account.0) (nat_le o.seq account.window.last) here in
+          rw own.0 refl
+      | inr later ↦ elim (cases_Bool (eqb account.id.0 o.account.0))
+          [ inl same ↦ rw same refl | inr other ↦ rw other (owner_there accounts o later) ]
     ]
 
 -- ---- what all accounts get
@@ -43,7 +47,8 @@ module _ (units : Offer → ℕ) (asset : ℕ) (xs : List ℕ) (up : IsStrictlyI
   counts_once o at =
       let own = o.account.0 in
       sum_by-one (part units asset o) xs at.place own at.there
-      (λ q y there other. rw (ne_eqb own y (λ same. other (same_place xs up q at.place own (there ∙ ap (λ (z : ℕ). Some z) (sym same)) at.there))) refl)
+      (λ q y there other. rw (ne_eqb own y
+      (λ same. other (same_place xs up q at.place own (there ∙ ap (λ (z : ℕ). Some z) (sym same)) at.there))) refl)
       ∙ rw (eq-eqb own own refl) refl
 
   counts_all : (os : List Offer) → AllByRecursion (λ o. Stands xs o.account.0) os
@@ -52,7 +57,8 @@ module _ (units : Offer → ℕ) (asset : ℕ) (xs : List ℕ) (up : IsStrictlyI
   counts_all (o ∷ os) all =
       let one = part units asset o in
       let more = λ (id : ℕ). sum_by (λ o. part units asset o id) os in
-      sum_by-same (λ id. sum_by (λ o. part units asset o id) (o ∷ os)) (λ id. one id + more id) xs (λ id. sum_by-cons (λ o. part units asset o id) o os)
+      sum_by-same (λ id. sum_by (λ o. part units asset o id) (o ∷ os)) (λ id. one id + more id) xs
+      (λ id. sum_by-cons (λ o. part units asset o id) o os)
       ∙ sum_by-add one more xs ∙ ap₂ ◌+◌ (counts_once o all.0) (counts_all os all.1)
       ∙ sym (sum_by-cons (λ o. cond (eqb o.buy asset) (units o) 0) o os)
 
@@ -60,13 +66,15 @@ module _ (units : Offer → ℕ) (asset : ℕ) (xs : List ℕ) (up : IsStrictlyI
 
 balance_is : (prices : List ℕ) (flow : ℕ → ℕ → ℕ) (offers : List Offer) (account start asset : ℕ) (balances : List ℕ)
     → asset < length balances
-    → get_or (balances_traded prices flow offers account start balances) asset 0 ≡ get_or balances asset 0 + proceeds prices flow offers account (start + asset)
+    → get_or (balances_traded prices flow offers account start balances) asset 0 ≡ get_or balances asset 0 +
+    proceeds prices flow offers account (start + asset)
 balance_is prices flow offers account start asset [] lt = absurd (omega arith)
 balance_is prices flow offers account start zero (b ∷ bs) lt =
     ap (λ (x : ℕ). b + proceeds prices flow offers account x) (let e : start ≡ start + 0 = omega arith in e)
 balance_is prices flow offers account start (suc asset) (b ∷ bs) lt =
     balance_is prices flow offers account (suc start) asset bs (omega arith)
-    ∙ ap (λ (x : ℕ). get_or bs asset 0 + proceeds prices flow offers account x) (let e : suc start + asset ≡ start + suc asset = omega arith in e)
+    ∙ ap (λ (x : ℕ). get_or bs asset 0 + proceeds prices flow offers account x)
+    (let e : suc start + asset ≡ start + suc asset = omega arith in e)
 
 pub balances_length : (prices : List ℕ) (flow : ℕ → ℕ → ℕ) (offers : List Offer) (account start : ℕ) (balances : List ℕ)
     → length (balances_traded prices flow offers account start balances) ≡ length balances
@@ -76,16 +84,20 @@ balances_length prices flow offers account start (b ∷ bs) =
 
 accounts_get : (prices : List ℕ) (flow : ℕ → ℕ → ℕ) (offers : List Offer) (n asset : ℕ) → asset < n
     → (accounts : List Account) → AllByRecursion (IsAccount n) accounts
-    → sum_by (balance_at asset) (map (account_traded prices flow offers) accounts) ≡ sum_by (balance_at asset) accounts + sum_by (λ id. proceeds prices flow offers id asset) (ids accounts)
+    → sum_by (balance_at asset) (map (account_traded prices flow offers) accounts) ≡ sum_by (balance_at asset)
+    accounts + sum_by (λ id. proceeds prices flow offers id asset) (ids accounts)
 accounts_get prices flow offers n asset lt [] all = refl
 accounts_get prices flow offers n asset lt (a ∷ accounts) all =
-    let here : balance_at asset (account_traded prices flow offers a) ≡ balance_at asset a + proceeds prices flow offers a.id.0 asset =
+    let here : balance_at asset (account_traded prices flow offers a) ≡ balance_at asset a + proceeds prices flow
+    offers a.id.0 asset =
     balance_is prices flow offers a.id.0 0 asset a.balances (omega (arith, all.0.balances))
-    ∙ ap (λ (x : ℕ). balance_at asset a + proceeds prices flow offers a.id.0 x) (let e : 0 + asset ≡ asset = omega arith in e) in
+    ∙ ap (λ (x : ℕ). balance_at asset a + proceeds prices flow offers a.id.0 x)
+    (let e : 0 + asset ≡ asset = omega arith in e) in
     omega (
       arith,
       accounts_get prices flow offers n asset lt accounts all.1,
-      sum_by-cons (balance_at asset) (account_traded prices flow offers a) (map (account_traded prices flow offers) accounts),
+      sum_by-cons (balance_at asset) (account_traded prices flow offers a)
+          (map (account_traded prices flow offers) accounts),
       sum_by-cons (balance_at asset) a accounts,
       sum_by-cons (λ id. proceeds prices flow offers id asset) a.id.0 (ids accounts),
     )
@@ -99,7 +111,11 @@ kept_all asset [] = refl
 kept_all asset (o ∷ os) =
     let rest = kept_all asset os in
     elim (cases_Bool (ltb 0 o.amount)) [
-      | inl stays ↦ rw stays (omega (arith, sum_by-cons (offered asset) o (filter (λ o. ltb 0 o.amount) os), sum_by-cons (offered asset) o os))
+      | inl stays ↦ rw stays (omega (
+        arith,
+        sum_by-cons (offered asset) o (filter (λ o. ltb 0 o.amount) os),
+        sum_by-cons (offered asset) o os,
+      ))
       | inr gone ↦
           let none : o.amount ≡ 0 = omega (arith, ltb-false 0 o.amount gone) in
           let nothing : offered asset o ≡ 0 =
@@ -118,10 +134,19 @@ module _ (prices : List ℕ) (flow : ℕ → ℕ → ℕ) (offers : List Offer) 
       elim (cases_Bool (eqb o.sell asset)) [ inl ours ↦ rw ours (omega arith) | inr others ↦ rw others refl ]
 
   offers_give : (os : List Offer) → AllByRecursion (λ o. gives prices flow offers o ≤ o.amount) os
-      → sum_by (offered asset) (map (offer_traded prices flow offers) os) + sum_by gives_of os ≡ sum_by (offered asset) os
+      → sum_by (offered asset) (map (offer_traded prices flow offers) os) + sum_by gives_of os ≡ sum_by
+      (offered asset) os
   offers_give [] all = refl
   offers_give (o ∷ os) all =
-      omega (arith, offers_give os all.1, offer_parts o all.0, sum_by-cons (offered asset) (offer_traded prices flow offers o) (map (offer_traded prices flow offers) os), sum_by-cons gives_of o os, sum_by-cons (offered asset) o os)
+      omega (
+        arith,
+        offers_give os all.1,
+        offer_parts o all.0,
+        sum_by-cons (offered asset) (offer_traded prices flow offers o)
+            (map (offer_traded prices flow offers) os),
+        sum_by-cons gives_of o os,
+        sum_by-cons (offered asset) o os,
+      )
 
 -- ---- rounding
 
@@ -143,8 +168,10 @@ prices_above : (prices : List ℕ) (n : ℕ) (accounts : List Account) (flow : �
     → ((asset : ℕ) → asset < n → 0 < price_of prices asset) → AllByRecursion (IsOffer n accounts) os
     → AllByRecursion (λ o. gives prices flow offers o ≤ o.amount) os
 prices_above prices n accounts flow offers [] above all = tt
-prices_above prices n accounts flow offers (o ∷ os) above all =
-    (gives_has prices flow offers o (above o.sell all.0.sell), prices_above prices n accounts flow offers os above all.1)
+prices_above prices n accounts flow offers (o ∷ os) above all = (
+  gives_has prices flow offers o (above o.sell all.0.sell),
+  prices_above prices n accounts flow offers os above all.1,
+)
 
 owners_stand : (n : ℕ) (accounts : List Account) (os : List Offer) → AllByRecursion (IsOffer n accounts) os
     → AllByRecursion (λ o. Stands (ids accounts) o.account.0) os
@@ -162,7 +189,8 @@ given_there parts prices flow asset is fits =
     let above : (a : ℕ) → a < n → 0 < price_of prices a =
     λ a below. let same = fits.same_assets in let p = fits.in_range a 0 (omega arith) in omega (arith, p.0) in
     let left =
-    offers_give prices flow offers asset offers (prices_above prices n parts.accounts flow offers offers above offers_are) in
+    offers_give prices flow offers asset offers
+    (prices_above prices n parts.accounts flow offers offers above offers_are) in
     omega arith
 
 pub trade_conserves : TradeConserves
@@ -174,13 +202,17 @@ trade_conserves parts prices flow rounding asset is fits rounds lt =
     λ a below. let same = fits.same_assets in let p = fits.in_range a 0 (omega arith) in omega (arith, p.0) in
     let units = gets prices flow offers in
     let balances =
-    accounts_get prices flow offers n asset lt parts.accounts (recursion_from_All (IsAccount n) parts.accounts is.accounts) in
-    let all_get : sum_by (λ id. proceeds prices flow offers id asset) (ids parts.accounts) ≡ got prices flow offers asset =
+    accounts_get prices flow offers n asset lt parts.accounts
+    (recursion_from_All (IsAccount n) parts.accounts is.accounts) in
+    let all_get : sum_by (λ id. proceeds prices flow offers id asset) (ids parts.accounts) ≡ got prices flow offers
+    asset =
     counts_all units asset (ids parts.accounts) is.by_id offers (owners_stand n parts.accounts offers offers_are) in
     let left =
-    offers_give prices flow offers asset offers (prices_above prices n parts.accounts flow offers offers above offers_are) in
+    offers_give prices flow offers asset offers
+    (prices_above prices n parts.accounts flow offers offers above offers_are) in
     let kept = kept_all asset (map (offer_traded prices flow offers) offers) in
-    let round : slice_index (added parts.rounding rounding) asset ≡ slice_index parts.rounding asset + slice_index rounding asset =
+    let round : slice_index (added parts.rounding rounding) asset ≡ slice_index parts.rounding asset + slice_index
+    rounding asset =
     added_at asset parts.rounding rounding (omega (arith, is.one_rounding)) (rounds.one_each ∙ sym is.one_rounding) in
     let keeps = rounds.is asset lt in
     omega arith

@@ -2,7 +2,9 @@
 use Rattle.std.proofs.Common.{◌≡◌, ℕ, ◌+◌, ◌≤◌, Option, None, sym, ap, subst, ◌∙◌}
 use Rattle.std.specs.Prelude.{is_some}
 use Rattle.sx_block.specs.declared.header.Block.{Block}
-use Rattle.sx_block.specs.EffectLaws.{BlockCommits, BlockConserves, BlockDropsTheImpossible, BlockKeepsLedger, BlockTradesInFull, BlockTradesMost, BlockTradesWithinLimits, BlocksChain, IsRounded, IsTradable}
+use Rattle.sx_block.specs.EffectLaws.{BlockCommits, BlockConserves, BlockDropsTheImpossible, BlockKeepsLedger}
+use Rattle.sx_block.specs.EffectLaws.{BlockTradesInFull, BlockTradesMost, BlockTradesWithinLimits, BlocksChain}
+use Rattle.sx_block.specs.EffectLaws.{IsRounded, IsTradable}
 use Rattle.sx_block.specs.Validity.{CutHolds, IsValid, flow_of_block, high_in, low_in, offers_of, undropped_low_in}
 use Rattle.sx_block.proofs.LimitLaws.{must_in_full, only_within_limit}
 use Rattle.sx_block.proofs.TradeKeeps.{trade_keeps_ledger}
@@ -40,7 +42,8 @@ module _ (parts : Parts) (block : Block) (valid : IsValid parts block) where
   least : block.header.dropped ≡ None
       → EachPair (assets_of parts) (λ sell buy. undropped_low_in parts block sell buy ≤ flow_of_block block sell buy)
   least none sell buy s b differ =
-      subst (λ (dropped : Option Cut). low_of block.header.prices block.header.mu (is_some dropped) (offers_of parts block) sell buy ≤ flow_of_block block sell buy) none
+      subst (λ (dropped : Option Cut). low_of block.header.prices block.header.mu (is_some dropped)
+      (offers_of parts block) sell buy ≤ flow_of_block block sell buy) none
       (valid.fits.circulation.within sell buy s b differ).at_least
 
 pub block_keeps_ledger : BlockKeepsLedger
@@ -63,7 +66,8 @@ blocks_chain parts block next valid valid_next =
 
 pub block_trades_most : BlockTradesMost
 block_trades_most parts block valid =
-    fit_is_greatest (assets_of parts) (low_in parts block) (high_in parts block) (flow_of_block block) (potential_of block.header.potentials) valid.fits
+    fit_is_greatest (assets_of parts) (low_in parts block) (high_in parts block) (flow_of_block block)
+    (potential_of block.header.potentials) valid.fits
 
 pub drops_the_impossible : BlockDropsTheImpossible
 drops_the_impossible parts block cut valid dropped =
@@ -73,9 +77,11 @@ drops_the_impossible parts block cut valid dropped =
 
 pub trades_within_limits : BlockTradesWithinLimits
 trades_within_limits parts block offer is valid within some =
-    only_within_limit (middle parts block valid) block.header.prices (flow_of_block block) offer (middle_is parts block valid is) (tradable parts block valid) within some
+    only_within_limit (middle parts block valid) block.header.prices (flow_of_block block) offer
+    (middle_is parts block valid is) (tradable parts block valid) within some
 
 pub trades_in_full : BlockTradesInFull
 trades_in_full parts block offer is valid none within must =
-    must_in_full (middle parts block valid) block.header.prices (flow_of_block block) block.header.mu offer (middle_is parts block valid is) (tradable parts block valid)
+    must_in_full (middle parts block valid) block.header.prices (flow_of_block block) block.header.mu offer
+    (middle_is parts block valid is) (tradable parts block valid)
     (least parts block valid none) within must

@@ -1,5 +1,6 @@
 -- A block that is valid: two offers that cannot both trade in full, so that the lower bounds are dropped.
-use Rattle.std.proofs.Common.{◌≡◌, ℕ, zero, suc, ◌-◌, ◌*◌, ◌^◌, ◌<◌, ◌≤◌, List, [], ◌∷◌, ◌++◌, length, Some, Ok, inl, inr, refl, ap, arith}
+use Rattle.std.proofs.Common.{◌≡◌, ℕ, zero, suc, ◌-◌, ◌*◌, ◌^◌, ◌<◌, ◌≤◌, List, [], ◌∷◌, ◌++◌, length, Some, Ok, inl}
+use Rattle.std.proofs.Common.{inr, refl, ap, arith}
 use Rattle.std.specs.Int.{to_be_bytes, w32}
 use Rattle.std.specs.List.{IsDistinct}
 use Rattle.std.specs.Prelude.{slice_index}
@@ -12,7 +13,8 @@ use Rattle.sha2.proofs.Facts256.{length-sha256}
 use Rattle.sx_block.specs.declared.header.Block.{Block}
 use Rattle.sx_block.specs.Block.{IsBlock}
 use Rattle.sx_block.specs.Digest.{IsDigest}
-use Rattle.sx_block.specs.Validity.{IsValid, digest_of_ledger, flow_of_block, high_in, ledger_after, low_in, offers_of, undropped_low_in}
+use Rattle.sx_block.specs.Validity.{IsValid, digest_of_ledger, flow_of_block, high_in, ledger_after, low_in}
+use Rattle.sx_block.specs.Validity.{offers_of, undropped_low_in}
 use Rattle.sx_block.proofs.Cases.{account, offer, two_pairs}
 use Rattle.sx_bytes.specs.Field.{AreBytes}
 use Rattle.sx_bytes.proofs.Field.{AreBytes-big_bytes}
@@ -43,7 +45,8 @@ digest_bytes_are : (h : List ℕ) (n : ℕ) → AreBytes (digest_bytes h n)
 unfolding digest_bytes
 digest_bytes_are h zero i = omega arith
 digest_bytes_are h (suc n) i =
-    bytes_append (digest_bytes h n) (to_be_bytes w32 (slice_index h n)) (digest_bytes_are h n) (AreBytes-big_bytes 4 (slice_index h n)) i
+    bytes_append (digest_bytes h n) (to_be_bytes w32 (slice_index h n)) (digest_bytes_are h n)
+    (AreBytes-big_bytes 4 (slice_index h n)) i
 
 is_digest : (message : List ℕ) → IsDigest (sha256 message)
 unfolding sha256
@@ -105,7 +108,8 @@ is_flow = record {
   values = record {
     full = refl;
     in_range =
-        All-from_recursion (λ entry. entry ≤ 2 ^ 102) block.header.trades.values (omega arith, (omega arith, (omega arith, (omega arith, tt))));
+        All-from_recursion (λ entry. entry ≤ 2 ^ 102) block.header.trades.values
+        (omega arith, (omega arith, (omega arith, (omega arith, tt))));
     diagonal = no_diagonal;
   };
 }
@@ -148,7 +152,8 @@ within (suc zero) (suc zero) s b differ = absurd (differ refl)
 within (suc zero) (suc (suc buy)) s b differ = absurd (omega arith)
 within (suc (suc sell)) buy s b differ = absurd (omega arith)
 
-tight : EachPair 2 (IsTight (low_in before block) (high_in before block) (flow_of_block block) (potential_of block.header.potentials))
+tight : EachPair 2 (IsTight (low_in before block) (high_in before block) (flow_of_block block)
+    (potential_of block.header.potentials))
 tight zero zero s b differ = absurd (differ refl)
 tight zero (suc zero) s b differ = record { gaining = λ gain. refl; losing = λ loss. absurd (omega (arith, ints)) }
 tight zero (suc (suc buy)) s b differ = absurd (omega arith)

@@ -2,7 +2,8 @@
 use Rattle.std.specs.Prelude.{◌≡◌, ℕ, ◌+◌, ◌*◌, ◌<◌, ◌≤◌, false, None, Some, List, length, All, Contains, slice_index}
 use Rattle.sha2.specs.Sha256.{sha256}
 use Rattle.sx_block.specs.declared.header.Block.{Block}
-use Rattle.sx_block.specs.Validity.{IsValid, digest_of_ledger, flow_of_block, high_in, ledger_after, low_in, offers_of, undropped_low_in}
+use Rattle.sx_block.specs.Validity.{IsValid, digest_of_ledger, flow_of_block, high_in, ledger_after, low_in}
+use Rattle.sx_block.specs.Validity.{offers_of, undropped_low_in}
 use Rattle.sx_dual.specs.declared.cut.Cut.{Cut}
 use Rattle.sx_dual.specs.Circulation.{HaveNoCirculation, IsBalanced, IsGreatest}
 use Rattle.sx_dual.specs.Sums.{EachPair}
@@ -57,12 +58,14 @@ abbrev pub TradesOnlyWithinLimit : Type 0
 TradesOnlyWithinLimit =
     (parts : Parts) (prices : List ℕ) (flow : ℕ → ℕ → ℕ) (offer : Offer) → IsLedger parts →
     IsTradable parts prices flow → Contains parts.offers offer →
-    0 < value_of prices flow parts.offers offer → MayTrade (price_of prices offer.sell) (price_of prices offer.buy) offer.limit
+    0 < value_of prices flow parts.offers offer →
+    MayTrade (price_of prices offer.sell) (price_of prices offer.buy) offer.limit
 
 -- where no pair trades less than its lower bound, an offer that must trade gives its whole amount
 abbrev pub MustTradeInFull : Type 0
 MustTradeInFull =
-    (parts : Parts) (prices : List ℕ) (flow : ℕ → ℕ → ℕ) (j : ℕ) (offer : Offer) → IsLedger parts → IsTradable parts prices flow →
+    (parts : Parts) (prices : List ℕ) (flow : ℕ → ℕ → ℕ) (j : ℕ) (offer : Offer) → IsLedger parts →
+    IsTradable parts prices flow →
     EachPair (assets_of parts) (λ sell buy. low_of prices j false parts.offers sell buy ≤ flow sell buy) →
     Contains parts.offers offer → MustTrade (price_of prices offer.sell) (price_of prices offer.buy) offer.limit j →
     gives prices flow parts.offers offer ≡ offer.amount
@@ -86,7 +89,8 @@ TradeConserves =
 -- the ledger after trading is a ledger
 abbrev pub TradeKeepsLedger : Type 0
 TradeKeepsLedger =
-    (parts : Parts) (prices : List ℕ) (flow : ℕ → ℕ → ℕ) (rounding : List ℕ) → IsLedger parts → parts.height < most_height →
+    (parts : Parts) (prices : List ℕ) (flow : ℕ → ℕ → ℕ) (rounding : List ℕ) → IsLedger parts →
+    parts.height < most_height →
     IsTradable parts prices flow → IsRounded parts prices flow rounding → IsLedger (traded parts prices flow rounding)
 
 -- ---- valid blocks
@@ -138,7 +142,8 @@ BlockTradesWithinLimits =
 -- where a valid block dropped no lower bound, an offer that must trade gives its whole amount
 abbrev pub BlockTradesInFull : Type 0
 BlockTradesInFull =
-    (parts : Parts) (block : Block) (offer : Offer) → IsLedger parts → IsValid parts block → block.header.dropped ≡ None →
+    (parts : Parts) (block : Block) (offer : Offer) → IsLedger parts → IsValid parts block →
+    block.header.dropped ≡ None →
     Contains (offers_of parts block) offer →
     MustTrade (price_of block.header.prices offer.sell) (price_of block.header.prices offer.buy) offer.limit
     block.header.mu →

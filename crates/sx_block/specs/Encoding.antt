@@ -26,7 +26,8 @@ cut_bytes (Some cut) = big_bytes 1 1 ++ big_bytes 4 cut.0
 
 abbrev pub front_bytes : Header → List ℕ
 front_bytes header =
-    big_bytes 1 header.version ++ (big_bytes 8 header.height ++ (header.parent ++ (header.body ++ big_bytes 1 header.mu)))
+    big_bytes 1 header.version ++ (big_bytes 8 header.height ++
+    (header.parent ++ (header.body ++ big_bytes 1 header.mu)))
 
 abbrev pub market_bytes : Header → List ℕ
 market_bytes header = flat_map (big_bytes 8) header.prices ++ (flow_bytes header.trades ++ cut_bytes header.dropped)

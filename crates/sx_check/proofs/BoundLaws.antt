@@ -1,5 +1,7 @@
 -- Tables of what offers are worth: one offer more, and what makes them bounds.
-use Rattle.std.proofs.Common.{◌≡◌, ◌≢◌, ℕ, suc, ◌+◌, ◌*◌, ◌/◌, ◌%◌, ◌^◌, ◌<◌, ◌≤◌, Bool, false, List, [], ◌∷◌, ◌++◌, length, get_or, take, drop, sum_by, inl, inr, refl, sym, ap, ap₂, subst, ◌∙◌, length-append, add-one, arith}
+use Rattle.std.proofs.Common.{◌≡◌, ◌≢◌, ℕ, suc, ◌+◌, ◌*◌, ◌/◌, ◌%◌, ◌^◌, ◌<◌, ◌≤◌, Bool, false, List, [], ◌∷◌, ◌++◌}
+use Rattle.std.proofs.Common.{length, get_or, take, drop, sum_by, inl, inr, refl, sym, ap, ap₂, subst, ◌∙◌}
+use Rattle.std.proofs.Common.{length-append, add-one, arith}
 use Rattle.std.specs.Prelude.{All, ◌==◌, ◌&&◌, if◌then◌else◌, slice_index}
 use Rattle.std.specs.List.{filter}
 use Rattle.std.proofs.lemmas.Bool.{and_parts, cases_Bool, cases_eq, cases_lt, eq-eqb, eqb-true}
@@ -11,7 +13,8 @@ use Rattle.std.proofs.Math.Seq.{drop-length, take-append_seam, take-suc}
 use Rattle.sx_check.specs.Bounds.{AreOffers, AreValues, HasBounds, IsOfPair}
 use Rattle.sx_dual.specs.Tables.{AreBounds, BoundsTable, IsAssetCount, IsTable, entry_at}
 use Rattle.sx_ledger.specs.declared.offer.Offer.{Offer}
-use Rattle.sx_ledger.specs.Bounds.{amounts, high_of as high_at, low_of as low_at, may_trade_at, must_trade_at, pair_of, price_of}
+use Rattle.sx_ledger.specs.Bounds.{amounts, high_of as high_at, low_of as low_at, may_trade_at, must_trade_at}
+use Rattle.sx_ledger.specs.Bounds.{pair_of, price_of}
 use Rattle.sx_ledger.specs.Ledger.{offered}
 use Rattle.sx_ledger.proofs.MustWithinMay.{low_within_high}
 use Rattle.sx_price.specs.Limits.{IsPrice}

@@ -1,5 +1,6 @@
 -- A block has one first reason at most, and a valid one none.
-use Rattle.std.proofs.Common.{◌≡◌, ℕ, zero, suc, ◌+◌, ◌-◌, ◌<◌, ◌≤◌, List, get_or, Option, Ok, Err, inl, inr, sym, ap, subst, ◌∙◌, arith}
+use Rattle.std.proofs.Common.{◌≡◌, ℕ, zero, suc, ◌+◌, ◌-◌, ◌<◌, ◌≤◌, List, get_or, Option, Ok, Err, inl, inr, sym, ap}
+use Rattle.std.proofs.Common.{subst, ◌∙◌, arith}
 use Rattle.std.specs.Prelude.{All}
 use Rattle.std.proofs.lemmas.Bool.{cases_order}
 use Rattle.std.proofs.lemmas.Option.{get_or_from_slice_get, slice_get_within}
@@ -7,11 +8,15 @@ use Rattle.sx_block.specs.declared.header.Block.{Block}
 use Rattle.sx_block.specs.Validity.{CutHolds, IsValid, flow_of_block, high_in, low_in, undropped_low_in}
 use Rattle.sx_body.specs.Refusal.{IsFirstRefused}
 use Rattle.sx_check.specs.declared.invalid.Invalid.{Invalid}
-use Rattle.sx_check.specs.declared.invalid.Invalid.TheVariants.{Ended, WrongHeight, WrongParent, WrongBody, WrongAssets, Tx, TwoCancels, TwoNames, Crowded, Overdrawn, Outside, Unbalanced, Slack, NoCut, Rounding, WrongAfter}
+use Rattle.sx_check.specs.declared.invalid.Invalid.TheVariants.{Ended, WrongHeight, WrongParent, WrongBody}
+use Rattle.sx_check.specs.declared.invalid.Invalid.TheVariants.{WrongAssets, Tx, TwoCancels, TwoNames, Crowded}
+use Rattle.sx_check.specs.declared.invalid.Invalid.TheVariants.{Overdrawn, Outside, Unbalanced, Slack, NoCut}
+use Rattle.sx_check.specs.declared.invalid.Invalid.TheVariants.{Rounding, WrongAfter}
 use Rattle.sx_check.specs.Invalid.{number_of}
 use Rattle.sx_check.specs.Laws.{OneReason, ValidIsNotRefused}
 use Rattle.sx_check.specs.Refusals.{IsCrowded, Refuses}
-use Rattle.sx_check.specs.Rules.{CancelsOnce, Commits, CreatesOnce, HasBody, HasCut, HasFit, HasNextHeight, HasRoom, IsForLedger, IsSound, NamesParent, PassesEach}
+use Rattle.sx_check.specs.Rules.{CancelsOnce, Commits, CreatesOnce, HasBody, HasCut, HasFit, HasNextHeight, HasRoom}
+use Rattle.sx_check.specs.Rules.{IsForLedger, IsSound, NamesParent, PassesEach}
 use Rattle.sx_check.proofs.RepeatLaws.{cancels_refuted, creates_refuted}
 use Rattle.sx_dual.specs.Circulation.{IsCirculation, IsWithin}
 use Rattle.sx_dual.specs.Sums.{EachPair}

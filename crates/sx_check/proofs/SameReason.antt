@@ -1,5 +1,6 @@
 -- Two first reasons of one number are the same.
-use Rattle.std.proofs.Common.{◌≡◌, ℕ, ◌<◌, ◌≤◌, false, List, length, get_or, Some, Ok, Err, inl, inr, refl, sym, ap, ap₂, subst, ◌∙◌, ◌==◌, arith}
+use Rattle.std.proofs.Common.{◌≡◌, ℕ, ◌<◌, ◌≤◌, false, List, length, get_or, Some, Ok, Err, inl, inr, refl, sym, ap}
+use Rattle.std.proofs.Common.{ap₂, subst, ◌∙◌, ◌==◌, arith}
 use Rattle.std.specs.Prelude.{slice_get, slice_index, take}
 use Rattle.std.proofs.lemmas.Bool.{cases_order, eq-eqb}
 use Rattle.std.proofs.lemmas.List.{get_or-take, length-take}
@@ -11,7 +12,10 @@ use Rattle.sx_body.specs.declared.overdraft.Overdraft.{Overdraft}
 use Rattle.sx_body.specs.Overdraft.{IsFirstOverdrawn}
 use Rattle.sx_body.specs.Refusal.{IsFirstRefused}
 use Rattle.sx_check.specs.declared.invalid.Invalid.{Invalid}
-use Rattle.sx_check.specs.declared.invalid.Invalid.TheVariants.{Ended, WrongHeight, WrongParent, WrongBody, WrongAssets, Tx, TwoCancels, TwoNames, Crowded, Overdrawn, Outside, Unbalanced, Slack, NoCut, Rounding, WrongAfter}
+use Rattle.sx_check.specs.declared.invalid.Invalid.TheVariants.{Ended, WrongHeight, WrongParent, WrongBody}
+use Rattle.sx_check.specs.declared.invalid.Invalid.TheVariants.{WrongAssets, Tx, TwoCancels, TwoNames, Crowded}
+use Rattle.sx_check.specs.declared.invalid.Invalid.TheVariants.{Overdrawn, Outside, Unbalanced, Slack, NoCut}
+use Rattle.sx_check.specs.declared.invalid.Invalid.TheVariants.{Rounding, WrongAfter}
 use Rattle.sx_check.specs.Invalid.{number_of}
 use Rattle.sx_check.specs.Refusals.{IsCrowded, IsMisrounded, Refuses}
 use Rattle.sx_check.specs.Rules.{Rounds}

@@ -1,7 +1,10 @@
 -- The numbers of the reasons why a block is refused, and those that misfits are.
 use Rattle.std.specs.Prelude.{ℕ}
 use Rattle.sx_check.specs.declared.invalid.Invalid.{Invalid}
-use Rattle.sx_check.specs.declared.invalid.Invalid.TheVariants.{Ended, WrongHeight, WrongParent, WrongBody, WrongAssets, Tx, TwoCancels, TwoNames, Crowded, Overdrawn, Outside, Unbalanced, Slack, NoCut, Rounding, WrongAfter}
+use Rattle.sx_check.specs.declared.invalid.Invalid.TheVariants.{Ended, WrongHeight, WrongParent, WrongBody}
+use Rattle.sx_check.specs.declared.invalid.Invalid.TheVariants.{WrongAssets, Tx, TwoCancels, TwoNames, Crowded}
+use Rattle.sx_check.specs.declared.invalid.Invalid.TheVariants.{Overdrawn, Outside, Unbalanced, Slack, NoCut}
+use Rattle.sx_check.specs.declared.invalid.Invalid.TheVariants.{Rounding, WrongAfter}
 use Rattle.sx_dual.specs.declared.misfit.Misfit.{Misfit}
 use Rattle.sx_dual.specs.declared.misfit.Misfit.TheVariants as misfit
 

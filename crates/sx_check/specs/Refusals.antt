@@ -8,10 +8,14 @@ use Rattle.sx_body.specs.Refusal.{IsFirstRefused}
 use Rattle.sx_check.specs.declared.fault.CheckFault.{CheckFault}
 use Rattle.sx_check.specs.declared.fault.CheckFault.TheVariants as check_fault
 use Rattle.sx_check.specs.declared.invalid.Invalid.{Invalid}
-use Rattle.sx_check.specs.declared.invalid.Invalid.TheVariants.{Ended, WrongHeight, WrongParent, WrongBody, WrongAssets, Tx, TwoCancels, TwoNames, Crowded, Overdrawn, Outside, Unbalanced, Slack, NoCut, Rounding, WrongAfter}
+use Rattle.sx_check.specs.declared.invalid.Invalid.TheVariants.{Ended, WrongHeight, WrongParent, WrongBody}
+use Rattle.sx_check.specs.declared.invalid.Invalid.TheVariants.{WrongAssets, Tx, TwoCancels, TwoNames, Crowded}
+use Rattle.sx_check.specs.declared.invalid.Invalid.TheVariants.{Overdrawn, Outside, Unbalanced, Slack, NoCut}
+use Rattle.sx_check.specs.declared.invalid.Invalid.TheVariants.{Rounding, WrongAfter}
 use Rattle.sx_check.specs.Invalid.{number_of}
 use Rattle.sx_check.specs.Repeats.{IsFirstRepeat, cancels, creates}
-use Rattle.sx_check.specs.Rules.{CancelsOnce, Commits, CreatesOnce, HasBody, HasCut, HasFit, HasNextHeight, HasRoom, IsForLedger, IsSound, NamesParent, PassesEach, Rounds}
+use Rattle.sx_check.specs.Rules.{CancelsOnce, Commits, CreatesOnce, HasBody, HasCut, HasFit, HasNextHeight, HasRoom}
+use Rattle.sx_check.specs.Rules.{IsForLedger, IsSound, NamesParent, PassesEach, Rounds}
 use Rattle.sx_dual.specs.Cuts.{IsCut}
 use Rattle.sx_dual.specs.declared.misfit.Misfit.{Misfit}
 use Rattle.sx_dual.specs.declared.misfit.Misfit.TheVariants as misfit

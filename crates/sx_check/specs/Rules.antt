@@ -5,7 +5,8 @@ use Rattle.std.specs.List.{IsDistinct}
 use Rattle.sha2.specs.Sha256.{sha256}
 use Rattle.sx_block.specs.declared.header.Block.{Block}
 use Rattle.sx_block.specs.Block.{IsBlock}
-use Rattle.sx_block.specs.Validity.{CutHolds, digest_of_ledger, flow_of_block, high_in, low_in, offers_of, undropped_low_in}
+use Rattle.sx_block.specs.Validity.{CutHolds, digest_of_ledger, flow_of_block, high_in, low_in, offers_of}
+use Rattle.sx_block.specs.Validity.{undropped_low_in}
 use Rattle.sx_dual.specs.Fit.{Fits}
 use Rattle.sx_dual.specs.Tables.{potential_of}
 use Rattle.sx_ledger.specs.declared.parts.Parts.{Parts}

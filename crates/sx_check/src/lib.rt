@@ -33,6 +33,3 @@ pub use fault::CheckFault;
 pub use invalid::Invalid;
 pub use judging::{check, close, judge};
 pub use laws::check_laws;
-
-#[cfg(test)]
-mod tests;

@@ -11,33 +11,12 @@ ghost use Rattle.sx_tx.specs.declared.tx.Tx.{Tx as Transaction};
 
 use std::alloc::Global;
 use std::collections::BTreeSet;
+use sx_body::{cancelled_key, created_id};
 use sx_bytes::NoMemory;
 use sx_ledger::Key;
-use sx_tx::{Kind, Tx};
+use sx_tx::Tx;
 
 // ---- cancellations
-
-// The key of the offer that a transaction cancels.
-fn cancelled_key(tx: &Tx) -> Option<Key>
-    ensures key { result ≡ cancels tx.now }
-    ensures own { IfSome result (λ key. key.account ≡ tx.now.account) }
-{
-    match tx.kind {
-        Kind::Cancel {
-            sell,
-            buy,
-            limit,
-            seq,
-        } => Some(Key {
-            sell,
-            buy,
-            limit,
-            account: tx.account,
-            seq,
-        }),
-        Kind::Pay { .. } | Kind::Create { .. } | Kind::Offer { .. } => None,
-    }
-}
 
 // Whether a transaction cancels the offer of this key.
 fn is_cancellation(tx: &Tx, key: &Key) -> bool
@@ -102,16 +81,6 @@ pub fn first_cancelled_again(txs: &[Tx]) -> Option<usize>
 }
 
 // ---- creations
-
-// The id of the account that a transaction creates.
-fn created_id(tx: &Tx) -> Option<u64>
-    ensures { result ≡ creates tx.now }
-{
-    match tx.kind {
-        Kind::Create { id } => Some(id.0),
-        Kind::Pay { .. } | Kind::Offer { .. } | Kind::Cancel { .. } => None,
-    }
-}
 
 // Whether the transaction at the place creates an account that one before it creates. Else the id of
 // the account that it creates is added to theirs.

@@ -15,9 +15,11 @@ returns-clause-own c =
     let mine : AllByRecursion (λ o. of_pair first.sell first.buy o ≡ true) (take k offers) =
     recursion_from_All (λ o. of_pair first.sell first.buy o ≡ true) (take k offers) c.count_pair.ensures.own in
     let others =
-    none_after first.sell first.buy first offers k refl refl c.requires.first (rising_is offers c.requires.ordered) c.count_pair.ensures.next in
+    none_after first.sell first.buy first offers k refl refl c.requires.first (rising_is offers c.requires.ordered)
+    c.count_pair.ensures.next in
     c.split_at.ensures.front
-    ∙ sym (ap (pair_of first.sell first.buy) (sym (take-append-drop k offers)) ∙ own_kept first.sell first.buy (take k offers) (drop k offers) mine others)
+    ∙ sym (ap (pair_of first.sell first.buy) (sym (take-append-drop k offers)) ∙
+    own_kept first.sell first.buy (take k offers) (drop k offers) mine others)
 
 pub returns-clause-apart : goal.returns-clause-apart
 returns-clause-apart c =
@@ -25,6 +27,7 @@ returns-clause-apart c =
     let offers = c.args.offers.now in
     let k = c.count_pair.result in
     let others =
-    none_after first.sell first.buy first offers k refl refl c.requires.first (rising_is offers c.requires.ordered) c.count_pair.ensures.next in
+    none_after first.sell first.buy first offers k refl refl c.requires.first (rising_is offers c.requires.ordered)
+    c.count_pair.ensures.next in
     All-from_recursion (λ o. of_pair first.sell first.buy o ≡ false) c.split_at.result.1.now
     (subst (AllByRecursion (λ o. of_pair first.sell first.buy o ≡ false)) (sym c.split_at.ensures.back) others)

@@ -19,8 +19,10 @@ overflow_add-given c =
     let there = slice_get_read offers (length offers) at o refl lt c.index-offers-fill.is in
     let is : c.from.result ≡ o.sell = c.from.ensures ∙ c.get.ensures.value in
     let fits : get_or c.loop-fill.given c.from.result 0 + (get_or c.args.fills.now k none).gives < 2 ^ 64 =
-    fits_too (λ (o : Offer). o.sell) (λ (f : Fill). f.gives) offers c.args.given.now c.loop-fill.given c.args.fills.now k none o c.from.result c.loop-fill-test.true there is
-    (in_room (λ (o : Offer). o.sell) offers (length c.args.given.now) at o c.from.result lt c.requires.sold c.index-offers-fill.is is)
+    fits_too (λ (o : Offer). o.sell) (λ (f : Fill). f.gives) offers c.args.given.now c.loop-fill.given
+    c.args.fills.now k none o c.from.result c.loop-fill-test.true there is
+    (in_room (λ (o : Offer). o.sell) offers (length c.args.given.now) at o c.from.result lt c.requires.sold
+    c.index-offers-fill.is is)
     c.loop-fill.invariant.given c.requires.given_fits in
     omega arith
 
@@ -35,8 +37,10 @@ overflow_add-got c =
     let there = slice_get_read offers (length offers) at o refl lt c.index-offers-fill.is in
     let is : c.from-in-loop-fill.result ≡ o.buy = c.from-in-loop-fill.ensures ∙ c.get-in-loop-fill.ensures.value in
     let fits : get_or c.loop-fill.got c.from-in-loop-fill.result 0 + (get_or c.args.fills.now k none).gets < 2 ^ 64 =
-    fits_too (λ (o : Offer). o.buy) (λ (f : Fill). f.gets) offers c.args.got.now c.loop-fill.got c.args.fills.now k none o c.from-in-loop-fill.result c.loop-fill-test.true there is
-    (in_room (λ (o : Offer). o.buy) offers (length c.args.got.now) at o c.from-in-loop-fill.result lt c.requires.bought c.index-offers-fill.is is)
+    fits_too (λ (o : Offer). o.buy) (λ (f : Fill). f.gets) offers c.args.got.now c.loop-fill.got c.args.fills.now k
+    none o c.from-in-loop-fill.result c.loop-fill-test.true there is
+    (in_room (λ (o : Offer). o.buy) offers (length c.args.got.now) at o c.from-in-loop-fill.result lt
+    c.requires.bought c.index-offers-fill.is is)
     c.loop-fill.invariant.got c.requires.got_fits in
     omega arith
 
@@ -53,11 +57,15 @@ loop-fill-preserved c =
     let bought : c.from-in-loop-fill.result ≡ o.buy = c.from-in-loop-fill.ensures ∙ c.get-in-loop-fill.ensures.value in
     record {
       given =
-          one_added (λ (o : Offer). o.sell) (λ (f : Fill). f.gives) offers c.args.given.now c.loop-fill.given c.args.fills.now k none o c.from.result c.loop-fill-test.true there sold
-          (in_room (λ (o : Offer). o.sell) offers (length c.args.given.now) at o c.from.result lt c.requires.sold c.index-offers-fill.is sold)
+          one_added (λ (o : Offer). o.sell) (λ (f : Fill). f.gives) offers c.args.given.now c.loop-fill.given
+          c.args.fills.now k none o c.from.result c.loop-fill-test.true there sold
+          (in_room (λ (o : Offer). o.sell) offers (length c.args.given.now) at o c.from.result lt c.requires.sold
+          c.index-offers-fill.is sold)
           c.loop-fill.invariant.given c.loop-fill.auto.given;
       got =
-          one_added (λ (o : Offer). o.buy) (λ (f : Fill). f.gets) offers c.args.got.now c.loop-fill.got c.args.fills.now k none o c.from-in-loop-fill.result c.loop-fill-test.true there bought
-          (in_room (λ (o : Offer). o.buy) offers (length c.args.got.now) at o c.from-in-loop-fill.result lt c.requires.bought c.index-offers-fill.is bought)
+          one_added (λ (o : Offer). o.buy) (λ (f : Fill). f.gets) offers c.args.got.now c.loop-fill.got
+          c.args.fills.now k none o c.from-in-loop-fill.result c.loop-fill-test.true there bought
+          (in_room (λ (o : Offer). o.buy) offers (length c.args.got.now) at o c.from-in-loop-fill.result lt
+          c.requires.bought c.index-offers-fill.is bought)
           c.loop-fill.invariant.got c.loop-fill.auto.got;
     }

@@ -11,4 +11,5 @@ returns c =
     let long : length (added numbers more) ≡ length numbers = added_length numbers more c.requires.as_many in
     same_number_lists c.loop-place.numbers (added numbers more) (c.loop-place.auto.numbers ∙ sym long)
     (λ k lt. let below : k < length numbers = omega (arith, c.loop-place.auto.numbers) in
-    c.loop-place.invariant.done k (omega (arith, c.loop-place-test.false)) ∙ sym (added_at k numbers more below c.requires.as_many))
+    c.loop-place.invariant.done k (omega (arith, c.loop-place-test.false)) ∙
+    sym (added_at k numbers more below c.requires.as_many))

@@ -36,8 +36,10 @@ returns-clause-conserves c =
     let tradable = tradable_of ledger header kept clears in
     let new = traded ledger header.prices (value_of header.trades) header.rounding in
     IfOk-weaker c.execute.result (λ (after : Parts). after ≡ new)
-    (λ (after : Parts). (asset : ℕ) → asset < assets_of ledger → held ledger asset ≡ held after asset + slice_index header.rounding asset)
-    (λ after e asset lt. held_is ledger header.prices (value_of header.trades) header.rounding kept c.requires.below_last tradable clears.rounded asset lt
+    (λ (after : Parts). (asset : ℕ) → asset < assets_of ledger →
+    held ledger asset ≡ held after asset + slice_index header.rounding asset)
+    (λ after e asset lt. held_is ledger header.prices (value_of header.trades) header.rounding kept
+    c.requires.below_last tradable clears.rounded asset lt
     ∙ ap (λ (p : Parts). held p asset + slice_index header.rounding asset) (sym e))
     c.execute.ensures
 
@@ -50,7 +52,9 @@ returns-clause-keeps_rounding c =
     let tradable = tradable_of ledger header kept clears in
     let new = traded ledger header.prices (value_of header.trades) header.rounding in
     IfOk-weaker c.execute.result (λ (after : Parts). after ≡ new)
-    (λ (after : Parts). (asset : ℕ) → asset < assets_of ledger → slice_index after.rounding asset ≡ slice_index ledger.rounding asset + slice_index header.rounding asset)
+    (λ (after : Parts). (asset : ℕ) → asset < assets_of ledger →
+    slice_index after.rounding asset ≡ slice_index ledger.rounding asset + slice_index header.rounding asset)
     (λ after e asset lt. ap (λ (p : Parts). slice_index p.rounding asset) e
-    ∙ rounding_is ledger header.prices (value_of header.trades) header.rounding kept c.requires.below_last tradable clears.rounded asset lt)
+    ∙ rounding_is ledger header.prices (value_of header.trades) header.rounding kept c.requires.below_last tradable
+    clears.rounded asset lt)
     c.execute.ensures

@@ -1,4 +1,5 @@
-use Rattle.sx_block.proofs.ValidBlocks.{block_commits, block_keeps_ledger, block_conserves, blocks_chain, block_trades_most, trades_within_limits, trades_in_full, drops_the_impossible}
+use Rattle.sx_block.proofs.ValidBlocks.{block_commits, block_keeps_ledger, block_conserves, blocks_chain}
+use Rattle.sx_block.proofs.ValidBlocks.{block_trades_most, trades_within_limits, trades_in_full, drops_the_impossible}
 use Rattle.sx_block.proofs.effect_laws.block_effect_laws.Goals as goal
 
 pub returns-clause-ledger : goal.returns-clause-ledger

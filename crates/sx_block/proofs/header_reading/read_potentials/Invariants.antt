@@ -7,4 +7,5 @@ use Rattle.sx_block.proofs.header_reading.read_potentials.Given as goal
 abbrev pub invariant-loop : goal.invariant-loop
 invariant-loop l =
     (length l.potentials.items ≡ l.counter) × (l.counter ≤ l.assets)
-    × (with_front l.potentials.items (many_at potential_at (l.assets - l.counter) l.from) ≡ many_at potential_at l.assets l.fn.from)
+    × (with_front l.potentials.items (many_at potential_at (l.assets - l.counter) l.from) ≡ many_at potential_at
+    l.assets l.fn.from)

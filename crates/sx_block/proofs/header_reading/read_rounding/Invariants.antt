@@ -5,4 +5,5 @@ use Rattle.sx_bytes.proofs.ListReading.{with_front}
 use Rattle.sx_block.proofs.header_reading.read_rounding.Given as goal
 
 abbrev pub invariant-loop : goal.invariant-loop
-invariant-loop l = with_front l.rounding.items (many_at units_field_at (l.assets - l.counter) l.from) ≡ many_at units_field_at l.assets l.fn.from
+invariant-loop l = with_front l.rounding.items (many_at units_field_at (l.assets - l.counter) l.from) ≡ many_at
+    units_field_at l.assets l.fn.from

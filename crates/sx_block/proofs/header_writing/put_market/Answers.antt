@@ -11,5 +11,7 @@ returns-clause-ok c =
     let new = c.put_cut.new.to in
     let h = c.args.header.now in
     let cut : List ℕ = cut_bytes h.dropped in
-    written_then r c.args.to.now (flat_map (big_bytes 8) h.prices) c.put_prices.new.to (flow_bytes h.trades ++ cut) new (rw c.items.ensures at c.in_ok-put_prices.ensures.ok)
-    (written_then r c.put_prices.new.to (flow_bytes h.trades) c.put_flow.new.to cut new c.in_ok-put_flow.ensures.ok c.put_cut.ensures.ok)
+    written_then r c.args.to.now (flat_map (big_bytes 8) h.prices) c.put_prices.new.to (flow_bytes h.trades ++ cut)
+    new (rw c.items.ensures at c.in_ok-put_prices.ensures.ok)
+    (written_then r c.put_prices.new.to (flow_bytes h.trades) c.put_flow.new.to cut new c.in_ok-put_flow.ensures.ok
+    c.put_cut.ensures.ok)

@@ -9,5 +9,7 @@ returns-clause-ok c =
     let new = c.put_u128.new.self in
     let value : List ℕ = big_bytes 16 c.args.value in
     let buy : List ℕ = big_bytes 1 c.args.buy in
-    written_then r c.args.to.now (big_bytes 1 c.args.sell) c.put_u8.new.self (buy ++ value) new c.in_ok-put_u8.ensures.ok
-    (written_then r c.put_u8.new.self buy c.put_u8-2.new.self value new c.in_ok-put_u8-2.ensures.ok c.put_u128.ensures.ok)
+    written_then r c.args.to.now (big_bytes 1 c.args.sell) c.put_u8.new.self (buy ++ value) new
+    c.in_ok-put_u8.ensures.ok
+    (written_then r c.put_u8.new.self buy c.put_u8-2.new.self value new c.in_ok-put_u8-2.ensures.ok
+    c.put_u128.ensures.ok)

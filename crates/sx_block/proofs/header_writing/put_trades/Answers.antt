@@ -11,7 +11,10 @@ loop-place-preserved c =
     let i = c.loop-place.place in
     elim c.if-value-ne0.branch [
       | then-value-ne0+in_ok-put_trade w ↦
-          w.to-is ∙ bytes_more c.args.assets xs i (get_or xs i 0) c.args.to.now c.loop-place.to w.put_trade.new.to c.loop-place-test.true refl w.if-value-ne0.true c.loop-place.invariant w.in_ok-put_trade.ensures.ok
+          w.to-is ∙ bytes_more c.args.assets xs i (get_or xs i 0) c.args.to.now c.loop-place.to w.put_trade.new.to
+          c.loop-place-test.true refl w.if-value-ne0.true c.loop-place.invariant w.in_ok-put_trade.ensures.ok
       | else-value-ne0 w ↦
-          w.to-is ∙ c.loop-place.invariant ∙ ap (λ ts. c.args.to.now ++ flat_map trade_bytes ts) (sym (none_more c.args.assets xs i (get_or xs i 0) c.loop-place-test.true refl w.if-value-ne0.false))
+          w.to-is ∙ c.loop-place.invariant ∙
+          ap (λ ts. c.args.to.now ++ flat_map trade_bytes ts)
+          (sym (none_more c.args.assets xs i (get_or xs i 0) c.loop-place-test.true refl w.if-value-ne0.false))
     ]

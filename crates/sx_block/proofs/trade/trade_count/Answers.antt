@@ -8,8 +8,19 @@ loop-value-preserved c =
     let xs = c.args.entries.now in
     let i = c.loop-value.value-index in
     elim c.if-value-ne0.branch [
-      | then-value-ne0 w ↦
-          (omega (arith, w.count-is), omega (arith, w.count-is, count_more c.args.assets xs i (get_or xs i 0) c.loop-value-test.true refl w.if-value-ne0.true))
-      | else-value-ne0 w ↦
-          (omega (arith, w.count-is), w.count-is ∙ c.loop-value.invariant.1 ∙ sym (ap length (none_more c.args.assets xs i (get_or xs i 0) c.loop-value-test.true refl w.if-value-ne0.false)))
+      | then-value-ne0 w ↦ (
+        omega (arith, w.count-is),
+        omega (
+          arith,
+          w.count-is,
+          count_more c.args.assets xs i (get_or xs i 0) c.loop-value-test.true refl
+              w.if-value-ne0.true,
+        ),
+      )
+      | else-value-ne0 w ↦ (
+        omega (arith, w.count-is),
+        w.count-is ∙ c.loop-value.invariant.1 ∙
+            sym (ap length (none_more c.args.assets xs i (get_or xs i 0) c.loop-value-test.true refl
+            w.if-value-ne0.false)),
+      )
     ]

@@ -9,5 +9,6 @@ use Rattle.sx_block.proofs.trade_reading.read_trades.Given as goal
 abbrev pub invariant-loop : goal.invariant-loop
 invariant-loop l =
     All (IsTrade l.assets) l.trades.items
-    × (with_front l.trades.items (ordered_at (trade_at l.assets) trade_before form.TradeOrder (l.count - l.counter) l.before l.from)
+    × (with_front l.trades.items (ordered_at (trade_at l.assets) trade_before form.TradeOrder (l.count - l.counter)
+    l.before l.from)
     ≡ trades_at l.assets l.count l.fn.from)
