@@ -1,0 +1,11 @@
+pub mod Indexing
+pub mod Growing
+pub mod Scanning
+pub mod Leading
+pub mod Tracing
+pub mod Shifting
+pub mod Simple
+pub mod Entering
+pub mod Found
+pub mod Sounding
+pub mod Balance
