@@ -1,9 +1,11 @@
 -- The quotes of a pair up to a limit stand together, so that two sums of first quotes tell theirs; and how great
 -- those are.
-use Rattle.std.proofs.Common.{◌≡◌, ℕ, zero, suc, ◌+◌, ◌-◌, ◌*◌, ◌^◌, ◌<◌, ◌≤◌, Bool, true, false, cond, ◌&&◌, ◌==◌, nat_lt, List, length, get_or, take, sum_by, All, inl, inr, refl, sym, ap, ◌∙◌, arith}
+use Rattle.std.proofs.Common.{◌≡◌, ℕ, zero, suc, ◌+◌, ◌-◌, ◌*◌, ◌^◌, ◌<◌, ◌≤◌, Bool, true, false, cond, ◌&&◌, ◌==◌}
+use Rattle.std.proofs.Common.{nat_lt, List, length, get_or, take, sum_by, All, inl, inr, refl, sym, ap, ◌∙◌, arith}
 use Rattle.std.specs.List.{AllWithin, slice_range}
 use Rattle.std.specs.List.Sorted.{IsNonDecreasingBy, IsPermutation}
-use Rattle.std.proofs.lemmas.Bool.{and_from, and_parts, cases_lt, eq-eqb, eqb-true, false_from_ne_true, le-ltb, lt-ltb, ne_eqb}
+use Rattle.std.proofs.lemmas.Bool.{and_from, and_parts, cases_lt, eq-eqb, eqb-true, false_from_ne_true, le-ltb}
+use Rattle.std.proofs.lemmas.Bool.{lt-ltb, ne_eqb}
 use Rattle.std.proofs.lemmas.Bool.Decides.{nat_tests}
 use Rattle.std.proofs.lemmas.List.Edits.{get_or-between, length-between}
 use Rattle.std.proofs.lemmas.List.Elements.{All-filter}
@@ -12,9 +14,11 @@ use Rattle.std.proofs.lemmas.List.Sums.{sum_by-le-sum_by}
 use Rattle.std.proofs.Math.Nat.{mul-le-mul_left}
 use Rattle.sx_curve.specs.declared.prefixes.Prefix.{Prefix}
 use Rattle.sx_curve.specs.declared.quote.Quote.{Quote}
-use Rattle.sx_curve.specs.Curves.{AreInOrder, AreQuotes, HasLimit, IsAmong, IsPairRange, ReachesTo, place_of_pair, place_of_quote}
+use Rattle.sx_curve.specs.Curves.{AreInOrder, AreQuotes, HasLimit, IsAmong, IsPairRange, ReachesTo, place_of_pair}
+use Rattle.sx_curve.specs.Curves.{place_of_quote}
 use Rattle.sx_curve.specs.Quotes.{amounts, is_below, pair_of, quotes_below, sellers_of, weighted_amounts}
-use Rattle.sx_curve.proofs.ListSums.{masked, sum_by-bounded, sum_by-filter, sum_by-filter-permuted, sum_by-filter_twice, sum_by-parts, sum_by-zero}
+use Rattle.sx_curve.proofs.ListSums.{masked, sum_by-bounded, sum_by-filter, sum_by-filter-permuted}
+use Rattle.sx_curve.proofs.ListSums.{sum_by-filter_twice, sum_by-parts, sum_by-zero}
 use Rattle.sx_curve.proofs.Segments.{segment}
 
 abbrev is_of : ℕ → ℕ → Quote → Bool

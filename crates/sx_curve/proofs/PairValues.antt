@@ -1,5 +1,6 @@
 -- What a pair sells.
-use Rattle.std.proofs.Common.{◌≡◌, ℕ, suc, zero, ◌+◌, ◌-◌, ◌*◌, ◌/◌, ◌^◌, ◌<◌, ◌≤◌, ◌&&◌, List, get_or, sym, ap, subst, ◌∙◌, ◌==◌, arith}
+use Rattle.std.proofs.Common.{◌≡◌, ℕ, suc, zero, ◌+◌, ◌-◌, ◌*◌, ◌/◌, ◌^◌, ◌<◌, ◌≤◌, ◌&&◌, List, get_or, sym, ap}
+use Rattle.std.proofs.Common.{subst, ◌∙◌, ◌==◌, arith}
 use Rattle.std.specs.List.{filter}
 use Rattle.std.specs.Prelude.{nat_le}
 use Rattle.std.proofs.lemmas.Bool.{and_parts, leb-false, leb-true, not-true}

@@ -1,5 +1,7 @@
 -- What the search keeps, and what it mends.
-use Rattle.std.proofs.Common.{◌≡◌, ℕ, zero, suc, ◌+◌, ◌-◌, ◌<◌, ◌≤◌, max, false, cond, not, ◌&&◌, ◌==◌, List, map, length, get_or, All, sum_by, ℤ, pos, ◌-ℤ◌, nat_lt, nat_le, unsigned_abs, int_lt, refl, sym, ap, subst, ◌∙◌, arith}
+use Rattle.std.proofs.Common.{◌≡◌, ℕ, zero, suc, ◌+◌, ◌-◌, ◌<◌, ◌≤◌, max, false, cond, not, ◌&&◌, ◌==◌, List, map}
+use Rattle.std.proofs.Common.{length, get_or, All, sum_by, ℤ, pos, ◌-ℤ◌, nat_lt, nat_le, unsigned_abs, int_lt, refl}
+use Rattle.std.proofs.Common.{sym, ap, subst, ◌∙◌, arith}
 use Rattle.std.specs.List.{range_with_len}
 use Rattle.std.specs.List.Sorted.{IsPermutation}
 use Rattle.std.proofs.lemmas.Bool.{and_left, cond-false, cond_both, eq-eqb, ltb-true, not_from_true}
@@ -7,8 +9,10 @@ use Rattle.std.proofs.lemmas.List.FromFn.{get_or-map-range_with_len, length-map-
 use Rattle.sx_price.specs.Limits.{IsPrice}
 use Rattle.sx_curve.specs.declared.quote.Quote.{Quote}
 use Rattle.sx_curve.specs.Demand.{assets_of, imbalance, net_of, price_of, value_into, value_out, volume_of}
-use Rattle.sx_curve.specs.Laws.{BalancedStays, NoRoundsStay, SearchKeepsLength, SearchKeepsRange, SearchMends, SearchPermuted}
-use Rattle.sx_curve.specs.Search.{Held, after_trial, cut_to_range, first_held, goes_on, held_after, moved_price, price_change, trial_prices}
+use Rattle.sx_curve.specs.Laws.{BalancedStays, NoRoundsStay, SearchKeepsLength, SearchKeepsRange, SearchMends}
+use Rattle.sx_curve.specs.Laws.{SearchPermuted}
+use Rattle.sx_curve.specs.Search.{Held, after_trial, cut_to_range, first_held, goes_on, held_after, moved_price}
+use Rattle.sx_curve.specs.Search.{price_change, trial_prices}
 use Rattle.sx_curve.proofs.PairValues.{sold_permuted}
 
 -- ---- what each trial keeps

@@ -1,5 +1,6 @@
 -- What curves keep: quotes in order, the sums of the first of them, and where each pair begins.
-use Rattle.std.specs.Prelude.{◌≡◌, ◌≢◌, ℕ, ◌+◌, ◌*◌, ◌^◌, ◌<◌, ◌≤◌, true, false, List, length, take, All, slice_index, slice_index_or}
+use Rattle.std.specs.Prelude.{◌≡◌, ◌≢◌, ℕ, ◌+◌, ◌*◌, ◌^◌, ◌<◌, ◌≤◌, true, false, List, length, take, All, slice_index}
+use Rattle.std.specs.Prelude.{slice_index_or}
 use Rattle.std.specs.List.{AllWithin}
 use Rattle.sx_curve.specs.declared.prefixes.Prefix.{Prefix}
 use Rattle.sx_curve.specs.declared.quote.Quote.{Quote}

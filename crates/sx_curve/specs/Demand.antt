@@ -1,6 +1,7 @@
 -- What the quotes of a market sell at given prices, and what is wanted of each asset in excess. Prices and limits are
 -- in units of 2^-24, values are price times amount, and μ is 2^-j.
-use Rattle.std.specs.Prelude.{ℕ, ◌+◌, ◌-◌, ◌*◌, ◌/◌, ◌^◌, Bool, not, ◌&&◌, List, length, slice_index, ℤ, pos, ◌-ℤ◌, unsigned_abs}
+use Rattle.std.specs.Prelude.{ℕ, ◌+◌, ◌-◌, ◌*◌, ◌/◌, ◌^◌, Bool, not, ◌&&◌, List, length, slice_index, ℤ, pos, ◌-ℤ◌}
+use Rattle.std.specs.Prelude.{unsigned_abs}
 use Rattle.std.specs.List.{filter, range_with_len, sum_by}
 use Rattle.sx_price.specs.Limits.{may_trade, must_trade}
 use Rattle.sx_curve.specs.declared.quote.Quote.{Quote}

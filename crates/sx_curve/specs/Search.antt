@@ -1,6 +1,7 @@
 -- The search for prices: it holds prices and tries others, each moved with what is wanted of its asset in excess, and
 -- it holds those instead where they leave less imbalance.
-use Rattle.std.specs.Prelude.{ℕ, zero, suc, ◌+◌, ◌-◌, ◌*◌, ◌/◌, ◌^◌, min, max, Bool, not, nat_lt, nat_le, ◌==◌, ◌&&◌, if◌then◌else◌, List, map, ℤ, pos, unsigned_abs, int_lt}
+use Rattle.std.specs.Prelude.{ℕ, zero, suc, ◌+◌, ◌-◌, ◌*◌, ◌/◌, ◌^◌, min, max, Bool, not, nat_lt, nat_le, ◌==◌, ◌&&◌}
+use Rattle.std.specs.Prelude.{if◌then◌else◌, List, map, ℤ, pos, unsigned_abs, int_lt}
 use Rattle.std.specs.Int.{leading_zeros, w128}
 use Rattle.sx_price.specs.Limits.{least_price, most_price}
 use Rattle.sx_curve.specs.declared.quote.Quote.{Quote}
@@ -59,7 +60,7 @@ after_trial quotes j held =
 abbrev pub goes_on : List Quote → ℕ → Held → Bool
 goes_on quotes j held = not (imbalance quotes held.prices j == 0) && nat_le held.exponent 40
 
--- what is held after at most so many trials
+-- what is held after at most this many trials
 unfoldable pub held_after : List Quote → ℕ → ℕ → Held → Held
 held_after quotes j zero held = held
 held_after quotes j (suc trials) held =
@@ -69,6 +70,6 @@ held_after quotes j (suc trials) held =
 abbrev pub first_held : List ℕ → Held
 first_held prices = record { prices = prices; exponent = 4 }
 
--- the prices that the search from these ones ends at, in at most so many rounds
+-- the prices that the search from these ones ends at, in at most this many rounds
 abbrev pub searched_prices : List Quote → List ℕ → ℕ → ℕ → List ℕ
 searched_prices quotes prices j rounds = (held_after quotes j rounds (first_held prices)).prices

@@ -46,7 +46,7 @@ fn sorted(alloc: Global, quotes: &[Quote]) -> Result<Vec<Quote>, NoMemory>
 }
 
 impl Curves {
-    /// The curves of these quotes among so many assets, 1 to 32. Each quote sells an asset below
+    /// The curves of these quotes, where there are 1 to 32 assets. Each quote sells an asset below
     /// that number for another one, and the amounts that sell an asset add up to at most `2^62`.
     /// `NoMemory` is the only error. It sorts a copy of the quotes, of which the order is free, and
     /// goes over it once: n log n for n quotes.
@@ -72,6 +72,13 @@ impl Curves {
         ensures quotes { AreQuotes self.now.assets self.now.quotes }
     {
         self.number
+    }
+
+    /// The number of quotes.
+    pub fn count(&self) -> usize
+        ensures { result ≡ length self.now.quotes }
+    {
+        self.sorted.len()
     }
 
     // Where the quotes of a pair begin, and where they end.

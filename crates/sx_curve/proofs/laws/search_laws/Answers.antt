@@ -1,5 +1,6 @@
 use Rattle.sx_curve.proofs.Digits.{digits_are_least}
-use Rattle.sx_curve.proofs.SearchLaws.{balanced_stays, no_rounds_stay, search_keeps_length, search_keeps_range, search_mends, search_permuted}
+use Rattle.sx_curve.proofs.SearchLaws.{balanced_stays, no_rounds_stay, search_keeps_length, search_keeps_range}
+use Rattle.sx_curve.proofs.SearchLaws.{search_mends, search_permuted}
 use Rattle.sx_curve.proofs.laws.search_laws.Goals as goal
 
 pub returns-clause-length : goal.returns-clause-length

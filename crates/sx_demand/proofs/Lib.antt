@@ -1,0 +1,3 @@
+pub mod RangeSums
+pub mod Splits
+pub mod Sold

@@ -1,0 +1,6 @@
+use Rattle.std.proofs.Common.{arith}
+use Rattle.sx_demand.proofs.Splits.{price_in_parts}
+use Rattle.sx_demand.proofs.parts.sums_must.Goals as goal
+
+pub below-requires : goal.below-requires
+below-requires c = price_in_parts c.from-2.result c.get.result (omega arith) (omega arith)

@@ -1,0 +1,22 @@
+//! What is wanted of each asset in excess, at given prices.
+//!
+//! [`excess`] answers an [`Imbalance`]: for each asset by how much more value is wanted of it than is
+//! sold of it, and both values together. What a pair of assets sells is told by its supply curve, by
+//! two binary searches. Where there are many quotes the pairs are shared among threads, and the answer
+//! is the same whatever threads run. A [`Demand`] keeps the memory that this takes, so that
+//! [`Demand::update`] takes none but what threads take.
+//!
+//! Not here: how prices are changed by it.
+#![tactic(auto)]
+
+mod balance;
+mod demand;
+mod imbalance;
+mod pair;
+mod parts;
+mod sums;
+mod table;
+
+pub use balance::excess;
+pub use demand::Demand;
+pub use imbalance::{Imbalance, Nets, Volumes};

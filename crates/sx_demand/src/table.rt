@@ -1,0 +1,103 @@
+//! The values that all pairs sell, in a table with a row of 32 entries for each sold asset.
+
+ghost use Rattle.std.specs.Prelude.{◌≡◌, ◌*◌, ◌/◌, ◌%◌, ◌<◌, ◌≤◌, ◌^◌, length};
+ghost use Rattle.sx_curve.specs.Demand.{sold_value};
+ghost use Rattle.sx_demand.specs.Table.{IsSoldAt, IsTable};
+
+use crate::pair::{Pair, value_of};
+use rayon::prelude::*;
+use std::thread::Threads;
+use sx_base::AssetId;
+use sx_curve::Curves;
+use sx_price::{Mu, Price};
+
+// How many entries a row has: one for each asset that there may be.
+pub(crate) const ROW: usize = 32;
+
+// From how many assets and quotes on the places are shared among threads. A place takes some hundred
+// nanoseconds where its quotes are far from the processor, and to start threads as much as hundreds of
+// places.
+const MANY_ASSETS: usize = 16;
+
+const MANY_QUOTES: usize = 1 << 15;
+
+// The asset of this number.
+fn asset_of(number: usize) -> AssetId
+    requires { number < 32 }
+    ensures { result ≡ number }
+{
+    AssetId::new(number as u8).unwrap()
+}
+
+// The value that the pair at a place sells, or 0 where there is no price of its bought asset.
+fn value_at(curves: &Curves, prices: &[Price], mu: Mu, place: usize) -> u128
+    requires place { place < 32 * length prices.now }
+    requires few { length prices.now ≤ 32 }
+    ensures { IsSoldAt curves.now.quotes prices.now mu place result }
+{
+    let (sell, buy) = (place / ROW, place % ROW);
+    if buy >= prices.len() {
+        return 0;
+    }
+    let pair = Pair {
+        sell: asset_of(sell),
+        buy: asset_of(buy),
+        sell_price: prices[sell],
+        buy_price: prices[buy],
+    };
+    value_of(curves, &pair, mu)
+}
+
+// The values of all pairs, one after another.
+fn fill_here(values: &mut [u128], curves: &Curves, prices: &[Price], mu: Mu)
+    requires size { length values.old ≡ 32 * length prices.now }
+    requires few { length prices.now ≤ 32 }
+    ensures { IsTable curves.now.quotes prices.now mu values.new }
+{
+    for (place, value) in values.iter_mut().enumerate() {
+        *value = value_at(curves, prices, mu, place);
+    }
+}
+
+// The same, with the places shared among threads.
+fn fill_in_threads<R: Threads + Sync>(
+    rt: &R,
+    values: &mut [u128],
+    curves: &Curves,
+    prices: &[Price],
+    mu: Mu,
+)
+    requires size { length values.old ≡ 32 * length prices.now }
+    requires few { length prices.now ≤ 32 }
+    ensures { IsTable curves.now.quotes prices.now mu values.new }
+{
+    par_for_each_mut(
+        rt,
+        values,
+        |place: usize, value: &mut u128|
+            requires { (place < 32 * length prices.now) × (length prices.now ≤ 32) }
+            ensures { IsSoldAt curves.entry.now.quotes prices.entry.now mu place value.new }
+        {
+            *value = value_at(curves, prices, mu, place);
+        },
+    );
+}
+
+// The values of all pairs.
+pub(crate) fn fill<R: Threads + Sync>(
+    rt: &R,
+    values: &mut [u128],
+    curves: &Curves,
+    prices: &[Price],
+    mu: Mu,
+)
+    requires size { length values.old ≡ 32 * length prices.now }
+    requires few { length prices.now ≤ 32 }
+    ensures { IsTable curves.now.quotes prices.now mu values.new }
+{
+    if prices.len() >= MANY_ASSETS && curves.count() >= MANY_QUOTES {
+        fill_in_threads(rt, values, curves, prices, mu);
+    } else {
+        fill_here(values, curves, prices, mu);
+    }
+}
