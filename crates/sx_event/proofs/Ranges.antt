@@ -1,5 +1,6 @@
 -- The fifth part of the rule, where views change.
-use Rattle.std.proofs.Common.{◌≡◌, ◌≢◌, ℕ, ◌+◌, ◌<◌, ◌≤◌, Bool, true, false, cond, ◌&&◌, List, [], ◌∷◌, ◌++◌, length, get_or, set, sum_by, count_by, sym, ap, refl, inl, inr, arith, zero-add, ◌∙◌}
+use Rattle.std.proofs.Common.{◌≡◌, ◌≢◌, ℕ, ◌+◌, ◌<◌, ◌≤◌, Bool, true, false, cond, ◌&&◌, List, [], ◌∷◌, ◌++◌, length}
+use Rattle.std.proofs.Common.{get_or, set, sum_by, count_by, sym, ap, refl, inl, inr, arith, zero-add, ◌∙◌}
 use Rattle.std.specs.Prelude.{nat_lt, nat_le}
 use Rattle.std.proofs.lemmas.Bool.{cases_lt, true≢false, lt-ltb, le-ltb, le-leb, lt-leb}
 use Rattle.std.proofs.lemmas.List.Elements.{All-set, All-push}
@@ -29,15 +30,24 @@ lies_above c from end le = elim (cases_lt c from) [
 ]
 
 -- two ranges that meet are one
-pub lies_either : (c from at end : ℕ) → from ≤ at → at ≤ end → one (lies c from at) + one (lies c at end) ≡ one (lies c from end)
+pub lies_either : (c from at end : ℕ) → from ≤ at → at ≤ end →
+    one (lies c from at) + one (lies c at end) ≡ one (lies c from end)
 lies_either c from at end low high =
     elim (cases_lt c at) [
       | inl left ↦ elim (cases_lt c from) [
         | inl out ↦ rw (lies_below c from at out, lies_below c at end left, lies_below c from end out) refl
-        | inr in' ↦ rw (lies_within c from at in' left, lies_below c at end left, lies_within c from end in' (omega arith)) refl
+        | inr in' ↦ rw (
+          lies_within c from at in' left,
+          lies_below c at end left,
+          lies_within c from end in' (omega arith),
+        ) refl
       ]
       | inr right ↦ elim (cases_lt c end) [
-        | inl in' ↦ rw (lies_above c from at right, lies_within c at end right in', lies_within c from end (omega arith) in') refl
+        | inl in' ↦ rw (
+          lies_above c from at right,
+          lies_within c at end right in',
+          lies_within c from end (omega arith) in',
+        ) refl
         | inr out ↦ rw (lies_above c from at right, lies_above c at end out, lies_above c from end out) refl
       ]
     ]
@@ -52,7 +62,8 @@ pub owned_is_below : (count : ℕ) (views : List View) (k c : ℕ) → RangesPar
 owned_is_below count views k c rule lt live low high =
     let v = get_or views k spent in
     let yes : owns c v ≡ true = owns_live c v live ∙ lies_within c v.from v.end low high in
-    let here : one (owns c v) ≤ sum_by (λ w. one (owns c w)) views = get_or-le-sum_by (λ w. one (owns c w)) views k spent lt in
+    let here : one (owns c v) ≤ sum_by (λ w. one (owns c w)) views =
+    get_or-le-sum_by (λ w. one (owns c w)) views k spent lt in
     let counts : one (owns c v) ≡ 1 = ap one yes in
     elim (cases_lt c count) [
       | inl below ↦ below
@@ -62,7 +73,8 @@ owned_is_below count views k c rule lt live low high =
     ]
 
 -- two live views: there are candidates
-pub two_live : (count : ℕ) (views : List View) (k other : ℕ) → RangesPart count views → k < length views → other < length views → other ≢ k
+pub two_live : (count : ℕ) (views : List View) (k other : ℕ) → RangesPart count views → k < length views →
+    other < length views → other ≢ k
     → (get_or views k spent).live ≡ true → (get_or views other spent).live ≡ true → 0 < count
 two_live count views k other rule lt within apart live live' =
     elim (cases_lt 0 count) [
@@ -75,8 +87,10 @@ two_live count views k other rule lt within apart live live' =
     ]
 
 -- where one view changes, and not its range
-pub ranges_kept : (count : ℕ) (views : List View) (k : ℕ) (v : View) → k < length views → (get_or views k spent).live ≡ true → v.live ≡ true
-    → v.from ≡ (get_or views k spent).from → v.end ≡ (get_or views k spent).end → RangesPart count views → RangesPart count (set views k v)
+pub ranges_kept : (count : ℕ) (views : List View) (k : ℕ) (v : View) → k < length views →
+    (get_or views k spent).live ≡ true → v.live ≡ true
+    → v.from ≡ (get_or views k spent).from → v.end ≡ (get_or views k spent).end → RangesPart count views →
+    RangesPart count (set views k v)
 ranges_kept count views k v lt was live from end rule = let old = get_or views k spent in record {
   one_owner = λ c.
       let same : owns c v ≡ owns c old = rw (owns_live c v live, owns_live c old was, from, end) refl in
@@ -88,14 +102,19 @@ ranges_kept count views k v lt was live from end rule = let old = get_or views k
 }
 
 -- where one view is cut in two
-pub ranges_split : (count : ℕ) (views : List View) (k at : ℕ) (left right : View) → k < length views → (get_or views k spent).live ≡ true
+pub ranges_split : (count : ℕ) (views : List View) (k at : ℕ) (left right : View) → k < length views →
+    (get_or views k spent).live ≡ true
     → (get_or views k spent).from < at → at < (get_or views k spent).end
     → left.live ≡ true → left.from ≡ (get_or views k spent).from → left.end ≡ at
     → right.live ≡ true → right.from ≡ at → right.end ≡ (get_or views k spent).end
     → RangesPart count views → RangesPart count (set views k left ++ right ∷ [])
-ranges_split count views k at left right lt was low high left_live left_from left_end right_live right_from right_end rule =
+ranges_split count views k at left right lt was low high left_live left_from left_end right_live right_from
+    right_end rule =
     let old = get_or views k spent in
-    let some : 0 < count = omega (arith, owned_is_below count views k old.from rule lt was (omega arith) (omega arith)) in
+    let some : 0 < count = omega (
+      arith,
+      owned_is_below count views k old.from rule lt was (omega arith) (omega arith),
+    ) in
     let left_bare : IsBare left = λ dead. absurd (true≢false (sym left_live ∙ dead)) in
     let right_bare : IsBare right = λ dead. absurd (true≢false (sym right_live ∙ dead)) in
     let left_filled : IsFilled left = λ _. omega arith in
@@ -103,16 +122,26 @@ ranges_split count views k at left right lt was low high left_live left_from lef
     record {
       one_owner = λ c.
           let same : one (owns c left) + one (owns c right) ≡ one (owns c old) =
-          rw (owns_live c left left_live, owns_live c right right_live, owns_live c old was, left_from, left_end, right_from, right_end)
+          rw (
+            owns_live c left left_live,
+            owns_live c right right_live,
+            owns_live c old was,
+            left_from,
+            left_end,
+            right_from,
+            right_end,
+          )
           (lies_either c old.from at old.end (omega arith) (omega arith)) in
           sum_split (λ w. one (owns c w)) views k left right lt same ∙ rule.one_owner c;
-      filled = λ _. All-push IsFilled (set views k left) right (All-set IsFilled views k left left_filled (rule.filled some)) right_filled;
+      filled = λ _. All-push IsFilled (set views k left) right
+          (All-set IsFilled views k left left_filled (rule.filled some)) right_filled;
       lone = λ none. absurd (omega arith);
       bare = All-push IsBare (set views k left) right (All-set IsBare views k left left_bare rule.bare) right_bare;
     }
 
 -- where one view takes in the next
-pub ranges_joined : (count : ℕ) (views : List View) (k other : ℕ) (both : View) → k < length views → other < length views → other ≢ k
+pub ranges_joined : (count : ℕ) (views : List View) (k other : ℕ) (both : View) → k < length views →
+    other < length views → other ≢ k
     → (get_or views k spent).live ≡ true → (get_or views other spent).live ≡ true
     → (get_or views other spent).from ≡ (get_or views k spent).end
     → both.live ≡ true → both.from ≡ (get_or views k spent).from → both.end ≡ (get_or views other spent).end
@@ -131,9 +160,11 @@ ranges_joined count views k other both lt within apart was was' meet live from e
           rw (owns_live c both live, owns_live c old was, owns_live c next was', from, end, meet)
           (sym (lies_either c old.from old.end next.end (omega arith) (omega arith))) in
           sum_joined (λ w. one (owns c w)) views k other both lt within apart refl same ∙ rule.one_owner c;
-      filled = λ _. All-set IsFilled (set views k both) other spent (λ live'. absurd (true≢false (sym live'))) (All-set IsFilled views k both both_filled (rule.filled some));
+      filled = λ _. All-set IsFilled (set views k both) other spent (λ live'. absurd (true≢false (sym live')))
+          (All-set IsFilled views k both both_filled (rule.filled some));
       lone = λ none. absurd (omega arith);
-      bare = All-set IsBare (set views k both) other spent (λ _. refl) (All-set IsBare views k both both_bare rule.bare);
+      bare = All-set IsBare (set views k both) other spent (λ _. refl)
+          (All-set IsBare views k both both_bare rule.bare);
     }
 
 -- at the start

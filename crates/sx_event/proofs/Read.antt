@@ -1,8 +1,11 @@
 -- What the steps and the rule say of a word, of a note, of the ranges, and of a view that has all candidates.
-use Rattle.std.proofs.Common.{◌≡◌, ◌≢◌, ℕ, suc, ◌+◌, ◌<◌, ◌≤◌, Bool, true, false, ◌&&◌, eqb, count_by, All, List, [], ◌∷◌, length, get_or, set, Option, Some, None, refl, sym, ap, subst, inl, inr, arith, ◌∙◌, length-set, get_or-set_other}
+use Rattle.std.proofs.Common.{◌≡◌, ◌≢◌, ℕ, suc, ◌+◌, ◌<◌, ◌≤◌, Bool, true, false, ◌&&◌, eqb, count_by, All, List, []}
+use Rattle.std.proofs.Common.{◌∷◌, length, get_or, set, Option, Some, None, refl, sym, ap, subst, inl, inr, arith}
+use Rattle.std.proofs.Common.{◌∙◌, length-set, get_or-set_other}
 use Rattle.std.specs.Prelude.{slice_index, nat_le, nat_lt}
 use Rattle.std.specs.List.{Contains}
-use Rattle.std.proofs.lemmas.Bool.{cases_Bool, cases_lt, cases_eq, and_parts, eqb-true, eqb-false, leb-true, ltb-true, false_from_ne_true, false≢true, lt-ltb}
+use Rattle.std.proofs.lemmas.Bool.{cases_Bool, cases_lt, cases_eq, and_parts, eqb-true, eqb-false, leb-true, ltb-true}
+use Rattle.std.proofs.lemmas.Bool.{false_from_ne_true, false≢true, lt-ltb}
 use Rattle.std.proofs.lemmas.List.{get_or_past, get_or_append_left, set_past}
 use Rattle.std.proofs.lemmas.List.Elements.{All-head, All-tail}
 use Rattle.std.proofs.lemmas.List.Sums.{sum_by-cons}
@@ -23,8 +26,10 @@ use Rattle.sx_event.proofs.Words.{bit_after}
 -- ---- a lost Take
 
 -- what the last of two notes tells is one of theirs
-latest : (opening present : List ℕ) (purse : ℕ) (note : Note) (value : ℕ) (later : Option ℕ) → LowFits opening present note
-    → (later ≡ Some value → slice_index present purse ≤ value) → or_else later (low_in purse note) ≡ Some value → slice_index present purse ≤ value
+latest : (opening present : List ℕ) (purse : ℕ) (note : Note) (value : ℕ) (later : Option ℕ) →
+    LowFits opening present note
+    → (later ≡ Some value → slice_index present purse ≤ value) → or_else later (low_in purse note) ≡ Some value →
+    slice_index present purse ≤ value
 latest opening present purse note value (Some told) fit rest e = rest e
 latest opening present purse (Set word bit) value None fit rest e = absurd (none-some value e)
 latest opening present purse (Low of told) value None fit rest e = elim (cases_Bool (eqb of purse)) [
@@ -35,7 +40,8 @@ latest opening present purse (Low of told) value None fit rest e = elim (cases_B
 ]
 
 -- the purse has at most what the last Low note tells
-last_low_fits : (opening present : List ℕ) (purse : ℕ) (notes : List Note) (value : ℕ) → All (LowFits opening present) notes
+last_low_fits : (opening present : List ℕ) (purse : ℕ) (notes : List Note) (value : ℕ) →
+    All (LowFits opening present) notes
     → last_low purse notes ≡ Some value → slice_index present purse ≤ value
 last_low_fits opening present purse [] value fits e = absurd (none-some value e)
 last_low_fits opening present purse (note ∷ notes) value fits e =
@@ -78,7 +84,8 @@ others_stay s actor (Take purse need) view apart ne lt = get_or-set_other s.view
 others_stay s actor (Claim word bit) view apart ne lt = get_or-set_other s.views actor view _ spent apart
 others_stay s actor (Split at) view apart ne lt =
     let left = left_part (view_of s actor) at in
-    get_or_append_left (set s.views actor left) (right_part (view_of s actor) at ∷ []) spent view (omega (arith, length-set s.views actor left))
+    get_or_append_left (set s.views actor left) (right_part (view_of s actor) at ∷ []) spent view
+    (omega (arith, length-set s.views actor left))
     ∙ get_or-set_other s.views actor view left spent apart
 others_stay s actor (Join other) view apart ne lt =
     let both = joined (view_of s actor) (view_of s other) in
@@ -92,7 +99,8 @@ has_note : (s : State) (view : ℕ) (note : Note) → Contains (view_of s view).
 has_note s view note has = elim (cases_lt view (length s.views)) [
   | inl lt ↦ lt
   | inr past ↦
-      let none : length (view_of s view).notes ≡ 0 = ap (λ (v : View). length v.notes) (get_or_past s.views view spent past) in
+      let none : length (view_of s view).notes ≡ 0 =
+      ap (λ (v : View). length v.notes) (get_or_past s.views view spent past) in
       absurd (omega (arith, has.1))
 ]
 
@@ -116,7 +124,8 @@ is_spent s other rule dead = elim (cases_lt other (length s.views)) [
 -- ---- ranges
 
 -- what is counted is somewhere
-some_counted : (p : View → Bool) (views : List View) → 1 ≤ count_by p views → (k : ℕ) × (p (get_or views k spent) ≡ true)
+some_counted : (p : View → Bool) (views : List View) → 1 ≤ count_by p views → (k : ℕ) ×
+    (p (get_or views k spent) ≡ true)
 some_counted p [] some = absurd (omega arith)
 some_counted p (v ∷ views) some = elim (cases_Bool (p v)) [
   | inl is ↦ (0, is)
@@ -128,14 +137,19 @@ some_counted p (v ∷ views) some = elim (cases_Bool (p v)) [
 
 -- no two live views are counted where one is
 only_one : (p : View → Bool) (s : State) (name other : ℕ) → p spent ≡ false → count_by p s.views ≡ 1
-    → (view_of s name).live ≡ true → p (view_of s name) ≡ true → (view_of s other).live ≡ true → p (view_of s other) ≡ true → other ≡ name
+    → (view_of s name).live ≡ true → p (view_of s name) ≡ true → (view_of s other).live ≡ true →
+    p (view_of s other) ≡ true → other ≡ name
 only_one p s name other none all live is live' is' = elim (cases_eq other name) [
   | inl same ↦ same
   | inr apart ↦
       let first : one (p (view_of s name)) ≡ 1 = ap one is in
       let second : one (p (view_of s other)) ≡ 1 = ap one is' in
       let zero_is : one (p spent) ≡ 0 = ap one none in
-      absurd (omega (arith, two_at_most (λ v. one (p v)) s.views name other (live_is_within s.views name live) (live_is_within s.views other live') apart))
+      absurd (omega (
+        arith,
+        two_at_most (λ v. one (p v)) s.views name other (live_is_within s.views name live)
+            (live_is_within s.views other live') apart,
+      ))
 ]
 
 -- a test that is passed says that the view is live, and where its range is
@@ -154,12 +168,18 @@ test_owned s name candidate is =
 pub ranges_read : RangesRead
 ranges_read s rule = record {
   owner = λ candidate lt.
-      let all : count_by (owns candidate) s.views ≡ 1 = rule.ranges.one_owner candidate ∙ ap one (lt-ltb candidate s.count lt) in
+      let all : count_by (owns candidate) s.views ≡ 1 = rule.ranges.one_owner candidate ∙
+      ap one (lt-ltb candidate s.count lt) in
       let some = some_counted (owns candidate) s.views (omega arith) in
-      let is = owned_by s some.0 candidate some.1 in
-      (some.0, is, λ other it. only_one (owns candidate) s some.0 other refl all is.live some.1 it.live (test_owned s other candidate it));
+      let is = owned_by s some.0 candidate some.1 in (
+        some.0,
+        is,
+        λ other it. only_one (owns candidate) s some.0 other refl all is.live some.1 it.live
+            (test_owned s other candidate it),
+      );
   candidates = λ name candidate is.
-      owned_is_below s.count s.views name candidate rule.ranges (live_is_within s.views name is.live) is.live is.from is.end;
+      owned_is_below s.count s.views name candidate rule.ranges (live_is_within s.views name is.live) is.live
+      is.from is.end;
   filled = λ name some live. rule.ranges.filled some name spent (live_is_within s.views name live) live;
   lone = λ none.
       let all = rule.ranges.lone none in
@@ -170,7 +190,8 @@ ranges_read s rule = record {
 
 -- ---- a view that has all candidates
 
-alone : (s : State) (name other : ℕ) → Rule s → (view_of s name).live ≡ true → (view_of s name).from ≡ 0 → (view_of s name).end ≡ s.count
+alone : (s : State) (name other : ℕ) → Rule s → (view_of s name).live ≡ true → (view_of s name).from ≡ 0 →
+    (view_of s name).end ≡ s.count
     → other ≢ name → (view_of s other).live ≢ true
 alone s name other rule live from end apart live' =
     let v = view_of s name in
@@ -179,21 +200,29 @@ alone s name other rule live from end apart live' =
     let within = live_is_within s.views other live' in
     let some : 0 < s.count = two_live s.count s.views name other rule.ranges lt within apart live live' in
     let filled : o.from < o.end = rule.ranges.filled some other spent within live' in
-    let below : o.from < s.count = owned_is_below s.count s.views other o.from rule.ranges within live' (omega arith) filled in
-    let first : owns o.from v ≡ true = owns_live o.from v live ∙ lies_within o.from v.from v.end (omega arith) (omega arith) in
-    let second : owns o.from o ≡ true = owns_live o.from o live' ∙ lies_within o.from o.from o.end (omega arith) filled in
+    let below : o.from < s.count = owned_is_below s.count s.views other o.from rule.ranges within live'
+    (omega arith) filled in
+    let first : owns o.from v ≡ true = owns_live o.from v live ∙
+    lies_within o.from v.from v.end (omega arith) (omega arith) in
+    let second : owns o.from o ≡ true = owns_live o.from o live' ∙
+    lies_within o.from o.from o.end (omega arith) filled in
     let one_first : one (owns o.from v) ≡ 1 = ap one first in
     let one_second : one (owns o.from o) ≡ 1 = ap one second in
-    let both : one (owns o.from v) + one (owns o.from o) ≤ count_by (owns o.from) s.views + 0 = two_at_most (λ u. one (owns o.from u)) s.views name other lt within apart in
-    let counted : count_by (owns o.from) s.views ≡ 1 = rule.ranges.one_owner o.from ∙ ap one (lt-ltb o.from s.count below) in
+    let both : one (owns o.from v) + one (owns o.from o) ≤ count_by (owns o.from) s.views + 0 =
+    two_at_most (λ u. one (owns o.from u)) s.views name other lt within apart in
+    let counted : count_by (owns o.from) s.views ≡ 1 = rule.ranges.one_owner o.from ∙
+    ap one (lt-ltb o.from s.count below) in
     omega arith
 
 pub whole_has_all : WholeHasAll
 whole_has_all s name rule live from end =
     let lt = live_is_within s.views name live in
-    let bare = λ (other : ℕ) (apart : other ≢ name). is_spent s other rule (alone s name other rule live from end apart) in
+    let bare = λ (other : ℕ) (apart : other ≢ name). is_spent s other rule
+    (alone s name other rule live from end apart) in
     record {
       alone = λ other apart. alone s name other rule live from end apart;
-      debits = λ p. sum_alone (λ u. debits u.claims p) s.views name lt refl (λ other apart. ap (λ (u : View). debits u.claims p) (bare other apart));
-      times = λ p b. sum_alone (λ u. times u.claims p b) s.views name lt refl (λ other apart. ap (λ (u : View). times u.claims p b) (bare other apart));
+      debits = λ p. sum_alone (λ u. debits u.claims p) s.views name lt refl
+          (λ other apart. ap (λ (u : View). debits u.claims p) (bare other apart));
+      times = λ p b. sum_alone (λ u. times u.claims p b) s.views name lt refl
+          (λ other apart. ap (λ (u : View). times u.claims p b) (bare other apart));
     }

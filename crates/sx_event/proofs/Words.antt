@@ -1,5 +1,6 @@
 -- What a step does to its word, and what stays true of the words that notes tell of.
-use Rattle.std.proofs.Common.{◌≡◌, ℕ, ◌-◌, ◌^◌, ◌<◌, ◌≤◌, true, cond, eqb, max, List, length, get_or, set, refl, sym, ap, inl, inr, arith, get_or-set_same, get_or-set_other, ◌∙◌, Option, Some, None}
+use Rattle.std.proofs.Common.{◌≡◌, ℕ, ◌-◌, ◌^◌, ◌<◌, ◌≤◌, true, cond, eqb, max, List, length, get_or, set, refl, sym}
+use Rattle.std.proofs.Common.{ap, inl, inr, arith, get_or-set_same, get_or-set_other, ◌∙◌, Option, Some, None}
 use Rattle.std.specs.Prelude.{slice_index, bit_or, IsSomeAnd}
 use Rattle.std.specs.Int.{bit_at}
 use Rattle.std.proofs.lemmas.Bool.{cases_lt, cases_eq, eqb-true, eq-eqb, ne_eqb}
@@ -15,16 +16,20 @@ use Rattle.sx_event.specs.Rule.{bit_in, LowFits, LowsFit, SetFits, SetsFit}
 -- one bit of a word that was or-ed with one bit
 or_one : (x bit b : ℕ) → bit_at (bit_or x (2 ^ bit)) b ≡ max (bit_at x b) (cond (eqb bit b) 1 0)
 or_one x bit b = elim (cases_eq bit b) [
-  | inl same ↦ rw (eq-eqb bit b same) (bit_at_or x (2 ^ bit) b ∙ ap (λ y. max (bit_at x b) y) (rw same (bit_at-pow_same b)))
-  | inr apart ↦ rw (ne_eqb bit b apart) (bit_at_or x (2 ^ bit) b ∙ ap (λ y. max (bit_at x b) y) (bit_at-pow_other bit b (λ e. apart (sym e))))
+  | inl same ↦ rw (eq-eqb bit b same)
+      (bit_at_or x (2 ^ bit) b ∙ ap (λ y. max (bit_at x b) y) (rw same (bit_at-pow_same b)))
+  | inr apart ↦ rw (ne_eqb bit b apart)
+      (bit_at_or x (2 ^ bit) b ∙ ap (λ y. max (bit_at x b) y) (bit_at-pow_other bit b (λ e. apart (sym e))))
 ]
 
 -- each bit after a Claim
 pub bit_after : (bits : List ℕ) (word bit w b : ℕ) → word < length bits
-    → bit_at (slice_index (set bits word (word_after_claim bit (slice_index bits word))) w) b ≡ max (bit_at (slice_index bits w) b) (bit_in w b (Bit word bit))
+    → bit_at (slice_index (set bits word (word_after_claim bit (slice_index bits word))) w) b ≡ max
+    (bit_at (slice_index bits w) b) (bit_in w b (Bit word bit))
 bit_after bits word bit w b lt = elim (cases_eq word w) [
   | inl same ↦
-      let at : slice_index (set bits word (bit_or (slice_index bits word) (2 ^ bit))) w ≡ bit_or (slice_index bits w) (2 ^ bit) =
+      let at : slice_index (set bits word (bit_or (slice_index bits word) (2 ^ bit))) w ≡ bit_or
+      (slice_index bits w) (2 ^ bit) =
       rw (← same) (get_or-set_same bits word (bit_or (slice_index bits word) (2 ^ bit)) 0 lt) in
       rw (at, eq-eqb word w same) (or_one (slice_index bits w) bit b)
   | inr apart ↦
@@ -61,23 +66,28 @@ taken_falls purses purse found need other is = elim (cases_eq other purse) [
 ]
 
 -- a Take that is won finds what was seen, and so its need
-pub won_covers : (seen : Option ℕ) (found need : ℕ) → IsSomeAnd seen (λ value. need ≤ value) → is_as_seen seen found ≡ true → need ≤ found
+pub won_covers : (seen : Option ℕ) (found need : ℕ) → IsSomeAnd seen (λ value. need ≤ value) →
+    is_as_seen seen found ≡ true → need ≤ found
 won_covers None found need noted same = absurd noted
 won_covers (Some value) found need noted same = omega (arith, eqb-true found value same)
 
 -- where purses fall, what Low notes tell stays true
-pub lows_stay : (opening old new : List ℕ) (views : List View) → ((purse : ℕ) → slice_index new purse ≤ slice_index old purse)
+pub lows_stay : (opening old new : List ℕ) (views : List View) →
+    ((purse : ℕ) → slice_index new purse ≤ slice_index old purse)
     → LowsFit opening old views → LowsFit opening new views
-lows_stay opening old new views falls fits = λ k d lt i e in'. low_stays (get_or (get_or views k d).notes i e) (fits k d lt i e in')
+lows_stay opening old new views falls fits =
+    λ k d lt i e in'. low_stays (get_or (get_or views k d).notes i e) (fits k d lt i e in')
   where
     low_stays : (note : Note) → LowFits opening old note → LowFits opening new note
     low_stays (Low purse value) fit = (omega (arith, falls purse, fit.0), fit.1)
     low_stays (Set word bit) fit = tt
 
 -- where bits are gained, what Set notes tell stays true
-pub sets_stay : (old new : List ℕ) (views : List View) → ((word bit : ℕ) → bit_at (slice_index old word) bit ≤ bit_at (slice_index new word) bit)
+pub sets_stay : (old new : List ℕ) (views : List View) →
+    ((word bit : ℕ) → bit_at (slice_index old word) bit ≤ bit_at (slice_index new word) bit)
     → SetsFit old views → SetsFit new views
-sets_stay old new views gains fits = λ k d lt i e in'. set_stays' (get_or (get_or views k d).notes i e) (fits k d lt i e in')
+sets_stay old new views gains fits =
+    λ k d lt i e in'. set_stays' (get_or (get_or views k d).notes i e) (fits k d lt i e in')
   where
     set_stays' : (note : Note) → SetFits old note → SetFits new note
     set_stays' (Low purse value) fit = tt

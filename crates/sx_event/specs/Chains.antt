@@ -1,5 +1,6 @@
 -- The chains of tables: which tables a view looks into, the newest first.
-use Rattle.std.specs.Prelude.{◌≡◌, ℕ, ◌<◌, zero, suc, ◌≤◌, sum_by, List, [], ◌∷◌, length, slice_index_or, Option, None, Some}
+use Rattle.std.specs.Prelude.{◌≡◌, ℕ, ◌<◌, zero, suc, ◌≤◌, sum_by, List, [], ◌∷◌, length, slice_index_or, Option}
+use Rattle.std.specs.Prelude.{None, Some}
 use Rattle.sx_event.specs.View.{or_else}
 use Rattle.sx_event.specs.declared.lows.Link.{Link}
 use Rattle.sx_event.specs.Tables.{value_in}

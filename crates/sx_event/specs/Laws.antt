@@ -1,5 +1,6 @@
 -- The laws of the steps and the rule, over all states.
-use Rattle.std.specs.Prelude.{◌≡◌, ◌≢◌, ◌⊎◌, ◌↔◌, ℕ, ◌+◌, ◌<◌, ◌≤◌, List, [], ◌∷◌, length, slice_index, Some, true, false}
+use Rattle.std.specs.Prelude.{◌≡◌, ◌≢◌, ◌⊎◌, ◌↔◌, ℕ, ◌+◌, ◌<◌, ◌≤◌, List, [], ◌∷◌, length, slice_index, Some, true}
+use Rattle.std.specs.Prelude.{false}
 use Rattle.std.specs.List.{Contains}
 use Rattle.std.specs.Int.{bit_at}
 use Rattle.sx_event.specs.declared.event.Event.{Event}
@@ -117,7 +118,8 @@ pub record RangesMean (state : State) : Type 0 where
   pub owner : (candidate : ℕ) → candidate < state.count →
       (name : ℕ) × Owns state name candidate × ((other : ℕ) → Owns state other candidate → other ≡ name)
   pub candidates : (name candidate : ℕ) → Owns state name candidate → candidate < state.count
-  pub filled : (name : ℕ) → 0 < state.count → (view_of state name).live ≡ true → (view_of state name).from < (view_of state name).end
+  pub filled : (name : ℕ) → 0 < state.count → (view_of state name).live ≡ true →
+      (view_of state name).from < (view_of state name).end
   pub lone : state.count ≡ 0 →
       (name : ℕ) × ((view_of state name).live ≡ true) × ((other : ℕ) → (view_of state other).live ≡ true → other ≡ name)
   pub bare : (name : ℕ) → (view_of state name).live ≡ false → view_of state name ≡ spent

@@ -1,5 +1,6 @@
 -- The rule that every step keeps, in five parts.
-use Rattle.std.specs.Prelude.{◌≡◌, ℕ, ◌+◌, ◌<◌, ◌≤◌, ◌==◌, ◌&&◌, Bool, true, false, nat_lt, nat_le, if◌then◌else◌, List, length, slice_index, sum_by, count_by, All}
+use Rattle.std.specs.Prelude.{◌≡◌, ℕ, ◌+◌, ◌<◌, ◌≤◌, ◌==◌, ◌&&◌, Bool, true, false, nat_lt, nat_le, if◌then◌else◌}
+use Rattle.std.specs.Prelude.{List, length, slice_index, sum_by, count_by, All}
 use Rattle.std.specs.Int.{bit_at}
 use Rattle.sx_event.specs.declared.marks.Claim.{Claim}
 use Rattle.sx_event.specs.declared.marks.Claim.TheVariants.{Debit, Bit}

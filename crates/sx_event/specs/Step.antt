@@ -1,5 +1,6 @@
 -- The five kinds of step: what each does to its word and to the views, and what it answers.
-use Rattle.std.specs.Prelude.{◌≡◌, ◌≢◌, ℕ, ◌-◌, ◌^◌, ◌<◌, ◌≤◌, ◌==◌, Bool, true, false, if◌then◌else◌, [], ◌∷◌, ◌++◌, length, slice_set, Option, None, Some, IsSomeAnd, bit_or}
+use Rattle.std.specs.Prelude.{◌≡◌, ◌≢◌, ℕ, ◌-◌, ◌^◌, ◌<◌, ◌≤◌, ◌==◌, Bool, true, false, if◌then◌else◌, [], ◌∷◌, ◌++◌}
+use Rattle.std.specs.Prelude.{length, slice_set, Option, None, Some, IsSomeAnd, bit_or}
 use Rattle.std.specs.Int.{bit_at}
 use Rattle.sx_event.specs.declared.event.Event.{Event}
 use Rattle.sx_event.specs.declared.event.Event.TheVariants.{Look, Take, Claim, Split, Join}

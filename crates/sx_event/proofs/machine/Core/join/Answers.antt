@@ -5,5 +5,6 @@ use Rattle.sx_event.proofs.machine.Core.join.Goals as goal
 
 pub invariant_of-self : goal.invariant_of-self
 invariant_of-self c =
-    sound_after c.self.inside _ c.args.self.now c.args.actor (Join c.args.other) c.self.view_is c.self.invariant c.requires.allowed
+    sound_after c.self.inside _ c.args.self.now c.args.actor (Join c.args.other) c.self.view_is c.self.invariant
+    c.requires.allowed
     (rw c.join.ensures.views refl) (omega (arith, c.join.ensures.room, c.self.invariant.room))

@@ -5,5 +5,6 @@ use Rattle.sx_event.proofs.machine.Core.split.Goals as goal
 
 pub invariant_of-self : goal.invariant_of-self
 invariant_of-self c =
-    sound_after c.self.inside _ c.args.self.now c.args.actor (Split c.args.at) c.self.view_is c.self.invariant c.requires.allowed
+    sound_after c.self.inside _ c.args.self.now c.args.actor (Split c.args.at) c.self.view_is c.self.invariant
+    c.requires.allowed
     (rw c.split.ensures.views refl) (omega (arith, c.split.ensures.room, c.self.invariant.room))

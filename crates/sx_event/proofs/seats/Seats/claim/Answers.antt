@@ -12,9 +12,15 @@ returns-clause-views c =
     let ns = c.self.inside.notes.lists in
     let seats = c.self.inside.seats.items in
     let seat = c.index-seat.result.now in
-    let lt = seat_is_there cs ns seats c.args.self.now.views c.args.view (ap (λ (s : Seated). s.views) c.self.view_is) c.requires.known in
+    let lt = seat_is_there cs ns seats c.args.self.now.views c.args.view
+    (ap (λ (s : Seated). s.views) c.self.view_is) c.requires.known in
     let list = list_at cs seat.claims ++ c.args.claim ∷ [] in
-    rw (← c.self.view_is, c.push-claims.ensures.lists, c.push-claims.ensures.name, view_at cs ns seats c.args.view seat lt c.index-seat.ensures)
+    rw (
+      ← c.self.view_is,
+      c.push-claims.ensures.lists,
+      c.push-claims.ensures.name,
+      view_at cs ns seats c.args.view seat lt c.index-seat.ensures,
+    )
     (set_shown cs (cs ++ list ∷ []) ns ns (extends_pushed cs list) (extends_itself ns) seats c.args.view
     record { live = seat.live; from = seat.from; end = seat.end; claims = length cs; notes = seat.notes }
     (with_claim (shown cs ns seat) c.args.claim) c.self.invariant (rw (at_pushed cs list) refl))

@@ -11,7 +11,8 @@ returns-clause-views c =
     let ns = c.self.inside.notes.lists in
     let seats = c.self.inside.seats.items in
     let seat = c.index-seat.result.now in
-    let lt = seat_is_there cs ns seats c.args.self.now.views c.args.view (ap (λ (s : Seated). s.views) c.self.view_is) c.requires in
+    let lt = seat_is_there cs ns seats c.args.self.now.views c.args.view
+    (ap (λ (s : Seated). s.views) c.self.view_is) c.requires in
     rw (← c.self.view_is, view_at cs ns seats c.args.view seat lt c.index-seat.ensures)
     (set_shown cs cs ns ns (extends_itself cs) (extends_itself ns) seats c.args.view
     record { live = seat.live; from = seat.from; end = c.args.at; claims = seat.claims; notes = seat.notes }

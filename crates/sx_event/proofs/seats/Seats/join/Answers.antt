@@ -6,7 +6,8 @@ use Rattle.sx_event.specs.Step.{joined}
 use Rattle.sx_event.specs.Ropes.{list_at}
 use Rattle.sx_event.specs.Seats.{shown}
 use Rattle.sx_event.specs.Seated.{Seated}
-use Rattle.sx_event.proofs.Seating.{extends_itself, extends_pushed, at_pushed, set_shown, set_are, seat_is_there, view_at}
+use Rattle.sx_event.proofs.Seating.{extends_itself, extends_pushed, at_pushed, set_shown, set_are, seat_is_there}
+use Rattle.sx_event.proofs.Seating.{view_at}
 use Rattle.sx_event.proofs.seats.Seats.join.Goals as goal
 
 pub returns-clause-views : goal.returns-clause-views
@@ -23,15 +24,27 @@ returns-clause-views c =
     let notes = list_at ns seat.notes ++ list_at ns next.notes in
     let cs' = cs ++ claims ∷ [] in
     let ns' = ns ++ notes ∷ [] in
-    let both : Seat = record { live = seat.live; from = seat.from; end = next.end; claims = length cs; notes = length ns } in
+    let both : Seat = record {
+      live = seat.live;
+      from = seat.from;
+      end = next.end;
+      claims = length cs;
+      notes =
+          length ns;
+    } in
     let bare : Seat = record { live = false; from = 0; end = 0; claims = 0; notes = 0 } in
-    let first : map (shown cs' ns') (set seats c.args.view both) ≡ set (map (shown cs ns) seats) c.args.view (joined (shown cs ns seat) (shown cs ns next)) =
-    set_shown cs cs' ns ns' (extends_pushed cs claims) (extends_pushed ns notes) seats c.args.view both (joined (shown cs ns seat) (shown cs ns next)) c.self.invariant
+    let first : map (shown cs' ns') (set seats c.args.view both) ≡ set (map (shown cs ns) seats) c.args.view
+    (joined (shown cs ns seat) (shown cs ns next)) =
+    set_shown cs cs' ns ns' (extends_pushed cs claims) (extends_pushed ns notes) seats c.args.view both
+    (joined (shown cs ns seat) (shown cs ns next)) c.self.invariant
     (rw (at_pushed cs claims, at_pushed ns notes) refl) in
-    let are = set_are cs cs' ns ns' (extends_pushed cs claims) (extends_pushed ns notes) seats c.args.view both c.self.invariant
+    let are = set_are cs cs' ns ns' (extends_pushed cs claims) (extends_pushed ns notes) seats c.args.view both
+    c.self.invariant
     (omega (arith, length_push cs claims), omega (arith, length_push ns notes)) in
-    let second : map (shown cs' ns') (set (set seats c.args.view both) c.args.other bare) ≡ set (map (shown cs' ns') (set seats c.args.view both)) c.args.other spent =
-    set_shown cs' cs' ns' ns' (extends_itself cs') (extends_itself ns') (set seats c.args.view both) c.args.other bare spent are (rw (are.no_claims, are.no_notes) refl) in
+    let second : map (shown cs' ns') (set (set seats c.args.view both) c.args.other bare) ≡ set
+    (map (shown cs' ns') (set seats c.args.view both)) c.args.other spent =
+    set_shown cs' cs' ns' ns' (extends_itself cs') (extends_itself ns') (set seats c.args.view both) c.args.other
+    bare spent are (rw (are.no_claims, are.no_notes) refl) in
     rw (
       ← c.self.view_is,
       c.join-claims.ensures.lists,

@@ -7,5 +7,7 @@ use Rattle.sx_event.proofs.views.Views.note_set.Goals as goal
 pub invariant_of-self : goal.invariant_of-self
 invariant_of-self c =
     let views = c.self.inside.seats.views in
-    let live : (get_or views c.args.view spent).live ≡ true = ap (λ (s : Seated). (get_or s.views c.args.view spent).live) c.self.view_is ∙ c.requires.live in
-    rw c.note.ensures.views (agree_note_set views c.args.view c.args.word c.args.bit c.self.inside.lows live c.self.invariant)
+    let live : (get_or views c.args.view spent).live ≡ true =
+    ap (λ (s : Seated). (get_or s.views c.args.view spent).live) c.self.view_is ∙ c.requires.live in
+    rw c.note.ensures.views (agree_note_set views c.args.view c.args.word c.args.bit c.self.inside.lows live
+    c.self.invariant)
