@@ -4,7 +4,8 @@ use Rattle.sx_bytes.specs.declared.fault.Form.TheVariants as form
 use Rattle.sx_bytes.specs.declared.fault.FormFault.{FormFault}
 use Rattle.sx_bytes.specs.Grammar.{many_at}
 use Rattle.sx_layout.specs.declared.outcome.Outcome.{Outcome}
-use Rattle.sx_layout.specs.declared.outcome.Outcome.TheVariants.{Accepted, Static, SeqTaken, OfferTaken, NameTaken, Overdraft}
+use Rattle.sx_layout.specs.declared.outcome.Outcome.TheVariants.{Accepted, Static, SeqTaken, OfferTaken, NameTaken}
+use Rattle.sx_layout.specs.declared.outcome.Outcome.TheVariants.{Overdraft}
 use Rattle.sx_layout.specs.declared.script.Script.{Script}
 use Rattle.sx_layout.specs.OutcomeDecoding.{overdraft_at, outcome_at, outcome_list_at, outcomes_at}
 use Rattle.sx_layout.specs.Outcomes.{outcomes_bytes}

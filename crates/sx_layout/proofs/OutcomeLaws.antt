@@ -1,5 +1,6 @@
 -- Decoding an outcome inverts encoding it.
-use Rattle.std.proofs.Common.{◌≡◌, ℕ, zero, suc, ◌+◌, ◌^◌, ◌≤◌, List, [], ◌++◌, length, Result, Ok, refl, sym, ap, subst, ◌∙◌, append_assoc, arith}
+use Rattle.std.proofs.Common.{◌≡◌, ℕ, zero, suc, ◌+◌, ◌^◌, ◌≤◌, List, [], ◌++◌, length, Result, Ok, refl, sym, ap}
+use Rattle.std.proofs.Common.{subst, ◌∙◌, append_assoc, arith}
 use Rattle.byteorder.specs.Endian.{big_bytes}
 use Rattle.sx_bytes.specs.declared.fault.Form.TheVariants as form
 use Rattle.sx_bytes.specs.declared.fault.FormFault.{FormFault}
@@ -15,7 +16,9 @@ use Rattle.sx_layout.specs.Laws.{NumbersNameStatics}
 use Rattle.sx_layout.specs.OutcomeDecoding.{static_numbered, static_at, overdraft_at, fields_at, outcome_at}
 use Rattle.sx_layout.specs.Outcomes.{outcome_bytes, IsOutcome, IsShortage}
 use Rattle.sx_ledger.specs.declared.statics.Static.{Static}
-use Rattle.sx_ledger.specs.declared.statics.Static.TheVariants.{UnknownAccount, SeqBehind, SeqBeyond, UnknownAsset, SamePair, UnknownPayee, AccountExists, NoSuchOffer, Dust}
+use Rattle.sx_ledger.specs.declared.statics.Static.TheVariants.{UnknownAccount, SeqBehind, SeqBeyond, UnknownAsset}
+use Rattle.sx_ledger.specs.declared.statics.Static.TheVariants.{SamePair, UnknownPayee, AccountExists, NoSuchOffer}
+use Rattle.sx_ledger.specs.declared.statics.Static.TheVariants.{Dust}
 use Rattle.sx_ledger.specs.Static.{number_of_static}
 
 -- ---- the number of a static refusal

@@ -1,5 +1,6 @@
 -- Decoding a script, or a payload of one, inverts encoding it.
-use Rattle.std.proofs.Common.{◌≡◌, ℕ, ◌<◌, ◌≤◌, cond, eqb, ltb, List, [], ◌∷◌, ◌++◌, length, Result, Ok, Err, refl, sym, ap, subst, ◌∙◌, append_assoc, arith}
+use Rattle.std.proofs.Common.{◌≡◌, ℕ, ◌<◌, ◌≤◌, cond, eqb, ltb, List, [], ◌∷◌, ◌++◌, length, Result, Ok, Err, refl}
+use Rattle.std.proofs.Common.{sym, ap, subst, ◌∙◌, append_assoc, arith}
 use Rattle.std.specs.Prelude.{IfOk}
 use Rattle.std.specs.List.{flat_map}
 use Rattle.std.proofs.Math.Nat.{mod-eq_of_lt}
@@ -13,7 +14,8 @@ use Rattle.sx_bytes.specs.declared.fault.ReadError.{ReadError}
 use Rattle.sx_bytes.specs.Field.{AreBytes}
 use Rattle.sx_bytes.specs.Cursor.{Cursor, rest, left}
 use Rattle.sx_bytes.specs.Grammar.{◌>>=◌, Gives, between, field_at, many_at}
-use Rattle.sx_bytes.proofs.Grammar.{bind_ok, done, guard_ok, length-rest, field_takes, field_again, Takes, Takes-then, Again, many_takes, many_again}
+use Rattle.sx_bytes.proofs.Grammar.{bind_ok, done, guard_ok, length-rest, field_takes, field_again, Takes, Takes-then}
+use Rattle.sx_bytes.proofs.Grammar.{Again, many_takes, many_again}
 use Rattle.sx_bytes.proofs.DecodingSteps.{bytes_after, range_takes, range_again, again_then}
 use Rattle.sx_bytes.proofs.Parts.{TakesAll, ReadsAgain, made_is}
 use Rattle.sx_layout.specs.declared.script.Script.{Script}

@@ -4,3 +4,17 @@ pub mod Scripts
 pub mod ScriptDecoding
 pub mod Room
 pub mod Laws
+pub mod Dealing
+pub mod NewIds
+pub mod Plan
+pub mod PlanLaws
+pub mod Actors
+pub mod Deciding
+pub mod Running
+pub mod RunKeeps
+pub mod Ahead
+pub mod RunOf
+pub mod RunForm
+pub mod Gathering
+pub mod Marks
+pub mod RunGathers

@@ -9,7 +9,9 @@ use Rattle.sx_layout.specs.declared.outcome.Outcome.{Outcome}
 use Rattle.sx_layout.specs.declared.outcome.Outcome.TheVariants as outcome
 use Rattle.sx_layout.specs.Outcomes.{most_outcomes}
 use Rattle.sx_ledger.specs.declared.statics.Static.{Static}
-use Rattle.sx_ledger.specs.declared.statics.Static.TheVariants.{UnknownAccount, SeqBehind, SeqBeyond, UnknownAsset, SamePair, UnknownPayee, AccountExists, NoSuchOffer, Dust}
+use Rattle.sx_ledger.specs.declared.statics.Static.TheVariants.{UnknownAccount, SeqBehind, SeqBeyond, UnknownAsset}
+use Rattle.sx_ledger.specs.declared.statics.Static.TheVariants.{SamePair, UnknownPayee, AccountExists, NoSuchOffer}
+use Rattle.sx_ledger.specs.declared.statics.Static.TheVariants.{Dust}
 
 -- the static refusal of a number from 1 to 9
 abbrev pub static_numbered : ℕ → Static

@@ -5,6 +5,8 @@ ghost use Rattle.sx_bytes.specs.Laws.{DecodesOnlyEncodings, DecodesEveryEncoding
 ghost use Rattle.sx_layout.specs.Laws.{NumbersNameStatics, OutcomesFit, ScriptsFit};
 ghost use Rattle.sx_layout.specs.OutcomeDecoding.{outcome_at, outcome_list_at};
 ghost use Rattle.sx_layout.specs.Outcomes.{outcome_bytes, outcomes_bytes, most_outcomes, IsOutcome, AreOutcomes};
+ghost use Rattle.sx_layout.specs.Marks.{ClosingGathers};
+ghost use Rattle.sx_layout.specs.PlanLaws.{PursesApart, BitsApart, PursesThere, BitsThere, WordsFit, NewIdsAreCreated, NewIdsAreFound, OtherIdsAreNot};
 ghost use Rattle.sx_layout.specs.ScriptDecoding.{script_fields_at};
 ghost use Rattle.sx_layout.specs.Scripts.{script_bytes, most_actors, most_turns, IsScript};
 
@@ -41,4 +43,26 @@ pub fn script_laws()
     ensures fits { ScriptsFit }
     ensures most_actors { MOST_ACTORS ≡ most_actors }
     ensures most_turns { MOST_TURNS ≡ most_turns }
+{}
+
+/// Of every layout: no two balances share a purse, and no two sequence numbers, offers or new ids share a
+/// bit. There is a word at the spot of each, it has at the opening what belongs there, and its bit is
+/// below 64. A shard has fewer than `2^31` words. The new ids are exactly those that candidates create,
+/// each has a bit, and no other id has one.
+pub fn layout_laws()
+    ensures purses_apart { PursesApart }
+    ensures bits_apart { BitsApart }
+    ensures purses_there { PursesThere }
+    ensures bits_there { BitsThere }
+    ensures fit { WordsFit }
+    ensures new_ids { NewIdsAreCreated }
+    ensures new_ids_found { NewIdsAreFound }
+    ensures others_not { OtherIdsAreNot }
+{}
+
+/// Whatever the order of steps and on how many shards: where the words of a gathering and the claims that
+/// its outcomes stand for add up to the opening words, and each refusal is one that the closing words show,
+/// the outcomes and the body of the accepted candidates are those of a gathering.
+pub fn closing_law()
+    ensures { ClosingGathers }
 {}

@@ -1,5 +1,5 @@
 //! What gathering tells and is told: the outcomes of candidates, scripts of who makes the next step,
-//! and whether a ledger has room for all that candidates ask for.
+//! whether a ledger has room for all that candidates ask for, and which words it works on.
 //!
 //! An [`Outcome`] says what became of one candidate: accepted, or why not. [`read_outcomes`] answers a
 //! list of them exactly where a payload is its encoding, and else the first fault from left to right;
@@ -11,27 +11,55 @@
 //! [`room`] answers whether a block may follow on a ledger, and whether all accounts and offers of the
 //! candidates would fit into it. It counts, takes no memory, and looks at no id and no key.
 //!
-//! Not here: what gathering makes of candidates, and which word of memory stands for what.
+//! A [`Layout`] says which word of which shard holds what: each balance is a purse, and each sequence
+//! number, each offer and each new id is a bit, at a [`Spot`]. [`layout_laws`] says that no two of them
+//! share a purse or a bit, that each has a word, and what the words are at the opening.
+//!
+//! `specs/Gathering` says which outcomes and which body are those of a gathering, and `specs/Marks`
+//! which claims decided candidates leave in a shard. [`closing_law`] ties the two: where the closing
+//! words, these claims and the opening words add up, and each refusal is one that the closing words
+//! show, the outcomes are those of a gathering. It speaks of lists alone, whoever made the steps.
+//!
+//! Not here: who decides which candidate, and when.
 #![tactic(auto)]
 
+mod acting;
+mod deciding;
 mod fault;
+mod hand;
 mod laws;
+mod layout;
+mod new_ids;
+mod opening;
 mod outcome;
 mod outcome_reading;
 mod outcome_writing;
+mod run_form;
+mod running;
 mod script;
 mod script_reading;
 mod script_writing;
+mod setting;
 mod space;
+mod spot;
+mod stage;
 
-pub use laws::{outcome_laws, outcome_list_laws, script_laws};
+pub use laws::{closing_law, layout_laws, outcome_laws, outcome_list_laws, script_laws};
+pub use layout::Layout;
 pub use outcome::{MOST_OUTCOMES, Outcome, Outcomes};
 pub use outcome_reading::read_outcomes;
 pub use outcome_writing::write_outcomes;
+pub use run_form::{gathering_law, run_laws};
+pub use running::run_script;
 pub use script::{MOST_ACTORS, MOST_TURNS, Script};
 pub use script_reading::read_script;
 pub use script_writing::write_script;
 pub use space::{NoRoom, room};
+pub use spot::Spot;
 
+#[cfg(test)]
+mod layout_tests;
+#[cfg(test)]
+mod running_tests;
 #[cfg(test)]
 mod tests;

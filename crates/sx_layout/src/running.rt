@@ -1,0 +1,132 @@
+//! Running a script.
+
+ghost use Rattle.std.specs.Prelude.{◌≡◌, ◌<◌, ◌≤◌, length, max, IfOk, OnOk};
+ghost use Rattle.std.specs.List.{flat_map};
+ghost use Rattle.sx_layout.specs.Actors.{working as at_work, part_begin as the_begin, starting, all_starting};
+ghost use Rattle.sx_layout.specs.Running.{after_turns, all_to_end as all_at_end, opening_run, outcomes_of_run};
+ghost use Rattle.sx_layout.specs.RunOf.{Fit, run_of};
+ghost use Rattle.sx_layout.specs.Scripts.{most_actors};
+ghost use Rattle.sx_tx.specs.Transactions.{most_transactions};
+
+use crate::acting::{all_to_end, all_turns, step};
+use crate::hand::Hand;
+use crate::outcome::Outcomes;
+use crate::setting::Setting;
+use std::alloc::Global;
+use sx_bytes::NoMemory;
+use sx_event::{Core, Event};
+use sx_ledger::Ledger;
+use sx_tx::Tx;
+
+// How many actors work.
+fn working(actors: u32, count: u32) -> u32
+    ensures number { result ≡ at_work actors count }
+{
+    actors.min(count).max(1)
+}
+
+// Where the part of an actor begins.
+fn part_begin(count: u32, n: u32, k: u32) -> u32
+    requires count { count ≤ most_transactions }
+    requires some { 1 ≤ n }
+    requires few { n ≤ most_actors }
+    requires within { k ≤ n }
+    ensures begin { result ≡ the_begin count n k }
+    ensures within { result ≤ count }
+{
+    count * k / n
+}
+
+// The core before the first turn, with a view for each of the actors.
+fn opening_core(alloc: Global, setting: &Setting, count: u32, n: u32) -> Result<Core, NoMemory>
+    requires count { count ≡ length setting.now.candidates }
+    requires few_candidates { count ≤ most_transactions }
+    requires some { 1 ≤ n }
+    requires few { n ≤ most_actors }
+    requires enough { n ≤ max 1 count }
+    ensures { IfOk result (λ core. core.state ≡ (opening_run setting.now.parts setting.now.plan setting.now.candidates n).state) }
+{
+    let mut core = setting.start(alloc, count)?;
+    for k in 0..n - 1 {
+        let at = part_begin(count, n, k + 1);
+        step(&mut core, k, Event::Split { at })?;
+    }
+    Ok(core)
+}
+
+// An actor before the first turn.
+fn hand<'a>(alloc: Global, candidates: &'a [Tx], n: u32, k: u32) -> Result<Hand<'a>, NoMemory>
+    requires few_candidates { length candidates.now ≤ most_transactions }
+    requires few { n ≤ most_actors }
+    requires below { k < n }
+    ensures { IfOk result (λ hand. hand ≡ starting candidates.now n k) }
+{
+    let count = candidates.len() as u32;
+    let begin = part_begin(count, n, k);
+    let end = part_begin(count, n, k + 1);
+    Hand::new(alloc, &candidates[begin as usize..end as usize])
+}
+
+// All actors before the first turn.
+#[tactic(auto, using(crate::proofs::DealtLists::shards_more))]
+fn all_hands<'a>(alloc: Global, candidates: &'a [Tx], n: u32) -> Result<Vec<Hand<'a>>, NoMemory>
+    requires few_candidates { length candidates.now ≤ most_transactions }
+    requires few { n ≤ most_actors }
+    ensures { IfOk result (λ hands. hands.items ≡ all_starting candidates.now n) }
+{
+    let mut hands = Vec::with_capacity(alloc, n as usize)?;
+    for k in 0..n {
+        hands.push(hand(alloc, candidates, n, k)?)?;
+    }
+    Ok(hands)
+}
+
+// All turns, and then what is left to do.
+fn run(setting: &Setting, core: &mut Core, hands: &mut [Hand], turns: &[u8]) -> Result<(), NoMemory>
+    requires few { length hands.old ≤ 8 }
+    requires fit { Fit setting.now core.old.state hands.old }
+    ensures { OnOk result (run_of core.new.state hands.new ≡ all_at_end setting.now.parts setting.now.plan (length hands.old) (after_turns setting.now.parts setting.now.plan turns.now (run_of core.old.state hands.old))) }
+{
+    all_turns(setting, core, hands, turns)?;
+    all_to_end(setting, core, hands)
+}
+
+// The outcomes of all actors, one actor after the other. There is room for `count` from the start.
+fn all_done(alloc: Global, count: u32, hands: &[Hand]) -> Result<Outcomes, NoMemory>
+    ensures { IfOk result (λ outcomes. outcomes ≡ flat_map (λ actor. actor.done) hands.now) }
+{
+    let mut outcomes = Vec::with_capacity(alloc, count as usize)?;
+    for hand in hands {
+        outcomes.extend_from_slice(hand.done())?;
+    }
+    Ok(Outcomes::of(outcomes))
+}
+
+/// Gathers at most 1,000,000 candidates of a ledger by 1 to 8 actors, which take turns as the script
+/// says: each turn is one event on one word that they share. After the last turn the first actor runs
+/// to its end, then the next one, and so on. It answers the outcomes, in the order of the candidates, or
+/// `NoMemory`.
+///
+/// Each actor has a part of the candidates, as even as can be. A turn of an actor that is not there, or
+/// that has nothing left to do, does nothing. An event costs the same however many candidates there are,
+/// but for the search for an account, an offer or a new id.
+pub fn run_script(
+    alloc: Global,
+    ledger: &Ledger,
+    candidates: &[Tx],
+    actors: u32,
+    turns: &[u8],
+) -> Result<Outcomes, NoMemory>
+    requires few_candidates { length candidates.now ≤ most_transactions }
+    requires some_actor { 1 ≤ actors }
+    requires few_actors { actors ≤ most_actors }
+    ensures exact { IfOk result (λ outcomes. outcomes ≡ outcomes_of_run ledger.now candidates.now actors turns.now) }
+{
+    let setting = Setting::new(alloc, ledger, candidates)?;
+    let count = candidates.len() as u32;
+    let n = working(actors, count);
+    let mut core = opening_core(alloc, &setting, count, n)?;
+    let mut hands = all_hands(alloc, candidates, n)?;
+    run(&setting, &mut core, &mut hands, turns)?;
+    all_done(alloc, count, &hands)
+}
