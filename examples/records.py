@@ -7,7 +7,8 @@
 It is written apart from the program, from docs/FORMATS.md and docs/RULES.md, and nothing of it is proved.
 
 The text has one entry a line. Words are parted by spaces, numbers are decimal, and `#` starts a comment.
-A line `state`, `block` or `outcomes` begins a record, and the lines after it, up to the next such line, belong to it.
+A line `state`, `block`, `candidates`, `outcomes` or `script` begins a record, and the lines after it, up to the next
+such line, belong to it.
 
     state version 1 height H assets N                        a ledger at height H, with N assets
     asset A price P rounding R                               for each asset; a price of 1 is 16777216
@@ -27,13 +28,19 @@ A line `state`, `block` or `outcomes` begins a record, and the lines after it, u
     tx ACCOUNT SEQ offer SELL BUY limit M amount E
     tx ACCOUNT SEQ cancel SELL BUY limit M seq S
 
+    candidates COUNT                                         transactions that a block may take; not looked at
+    tx ..                                                    as in a block
+
+    script actors A turns T                                  who makes the next step; the number of turns is not looked at
+    turn K                                                   an actor, from 0; or several, as `turn 0 1 0 1`
+
     outcomes COUNT                                           what became of candidates; the number is not looked at
     I accepted                                               or `seq-taken`, `offer-taken`, `name-taken`
     I static NUMBER
     I overdraft seen S need D
 
-Lines of one kind stand in the order in which they are to be written: accounts by id, offers and transactions
-as docs/FORMATS.md says. `write` tests neither order nor ranges, so it can make wrong records on purpose.
+Lines of one kind stand in the order in which they are to be written: accounts by id, offers and the transactions
+of a block as docs/FORMATS.md says. `write` tests neither order nor ranges, so it can make wrong records on purpose.
 
 `version 1` may be left out, and in a block everything but the lines `tx`. A line `block` alone has the next
 height and μ = 2^-10. Without lines that say otherwise the prices are those of the ledger before the block, the
@@ -45,7 +52,7 @@ import hashlib
 import struct
 import sys
 
-STATE, BLOCK, OUTCOMES = 1, 3, 4
+STATE, CANDIDATES, BLOCK, OUTCOMES, SCRIPT = 1, 2, 3, 4, 5
 KINDS = {"pay": (1, "QBQ"), "create": (2, "Q"), "offer": (3, "BBQQ"), "cancel": (4, "BBQQ")}
 RESULTS = {
     "accepted": (0, ""),
@@ -87,6 +94,10 @@ def body_bytes(txs):
     return b"".join(out)
 
 
+def candidates_record(txs):
+    return record(CANDIDATES, body_bytes(txs))
+
+
 def block_record(block):
     out = struct.pack(">BQ", 1, block["height"]) + block["parent"] + block["body"]
     out += struct.pack(">BB", block["mu"], len(block["prices"])) + numbers("Q", block["prices"])
@@ -104,6 +115,11 @@ def outcomes_record(outcomes):
         tag, widths = RESULTS[name]
         out += struct.pack(">B" + widths, tag, *fields)
     return record(OUTCOMES, out)
+
+
+def script_record(script):
+    turns = script["turns"]
+    return record(SCRIPT, struct.pack(">BI", script["actors"], len(turns)) + bytes(turns))
 
 
 def numbers(width, items):
@@ -157,8 +173,17 @@ def read_block(at):
     block["cut"] = at.one("I") if at.one("B") else None
     block["potentials"], block["roundings"] = at.fields(f"{assets}I"), at.fields(f"{assets}Q")
     block["after"] = at.take(32)
-    block["txs"] = [read_tx(at) for _ in range(at.one("I"))]
+    block["txs"] = read_txs(at)
     return block
+
+
+def read_txs(at):
+    return [read_tx(at) for _ in range(at.one("I"))]
+
+
+def read_script(at):
+    actors, count = at.fields("BI")
+    return {"actors": actors, "turns": list(at.take(count))}
 
 
 def read_outcome(at):
@@ -262,36 +287,27 @@ def number_after(words, name, other):
 
 def write(lines):
     """The bytes of the records that the text says."""
-    out, state, block, outcomes, is_new = [], None, None, None, False
+    out, state, kind, value = [], None, None, None
 
     def close():
-        nonlocal state, block, outcomes, is_new
-        if outcomes is not None:
-            out.append(outcomes_record(outcomes))
-        elif block:
-            whole, state = completed(block, state)
-            out.append(block_record(whole))
-        elif is_new:
+        nonlocal state
+        if kind == "state":
+            state = value
             out.append(state_record(state))
-        block = outcomes = None
-        is_new = False
+        elif kind == "block":
+            whole, state = completed(value, state)
+            out.append(block_record(whole))
+        elif kind:
+            out.append(RECORDS[kind](value))
 
     for at, line in enumerate(lines, 1):
         words = line.split("#")[0].split()
         try:
-            if words[:1] == ["state"]:
+            if words and words[0] in BEGINS:
                 close()
-                state, is_new = state_of(words), True
-            elif words[:1] == ["block"]:
-                close()
-                block = block_of(words)
-            elif words[:1] == ["outcomes"]:
-                close()
-                outcomes = []
-            elif words and outcomes is not None:
-                outcomes.append((words[1], [int(it) for it in words[2:] if it.isdigit()]))
+                kind, value = words[0], BEGINS[words[0]](words)
             elif words:
-                add_line(block or state, words, block is None)
+                add_line(kind, value, words)
         except WRONG:
             sys.exit(f"records: line {at}, or the record that ends before it, is not understood: {line.strip()}")
     try:
@@ -311,28 +327,67 @@ def block_of(words):
     return {**block, **{it: number_after(words, it, None) for it in ("height", "assets")}}
 
 
-def add_line(to, words, is_state):
-    """Adds a line to a state or a block."""
+def script_of(words):
+    return {"actors": number_after(words, "actors", 1), "turns": []}
+
+
+# what a line that begins a record says, and how the record is written; a state and a block are completed first
+BEGINS = {
+    "state": state_of,
+    "block": block_of,
+    "candidates": lambda words: [],
+    "outcomes": lambda words: [],
+    "script": script_of,
+}
+RECORDS = {"candidates": candidates_record, "outcomes": outcomes_record, "script": script_record}
+
+
+def add_line(kind, to, words):
+    """Adds a line to a record of this kind."""
     found = [int(it) for it in words if it.isdigit()]
-    if words[0] == "asset" and is_state:
-        to["prices"].append(found[1])
-        to["roundings"].append(found[2])
-    elif words[0] == "account" and is_state:
-        to["accounts"].append((found[0], found[1], found[2:]))
-    elif words[0] == "offer" and is_state:
-        to["offers"].append(tuple(found))
-    elif words[0] == "asset":
-        to["rows"][found[0]] = found[1:]
-    elif words[0] == "trade":
-        to["trades"][found[0], found[1]] = found[2]
-    elif words[0] == "dropped":
-        to["cut"] = None if words[1] == "none" else int(words[1], 16)
-    elif words[0] in ("parent", "body", "after"):
-        to[words[0]] = bytes.fromhex(words[1])
-    elif words[0] == "tx" and len(found) == 2 + len(KINDS[words[3]][1]):
-        to["txs"].append((found[0], found[1], words[3], found[2:]))
-    elif words[0] != "transactions":
+    if kind == "state":
+        add_to_state(to, words, found)
+    elif kind == "block":
+        add_to_block(to, words, found)
+    elif kind == "candidates":
+        to.append(tx_of(words, found))
+    elif kind == "outcomes":
+        to.append((words[1], [int(it) for it in words[2:] if it.isdigit()]))
+    elif kind == "script" and words[0] == "turn" and len(found) + 1 == len(words):
+        to["turns"] += found
+    else:
         raise ValueError
+
+
+def tx_of(words, found):
+    if words[0] != "tx" or len(found) != 2 + len(KINDS[words[3]][1]):
+        raise ValueError
+    return found[0], found[1], words[3], found[2:]
+
+
+def add_to_state(state, words, found):
+    if words[0] == "asset":
+        state["prices"].append(found[1])
+        state["roundings"].append(found[2])
+    elif words[0] == "account":
+        state["accounts"].append((found[0], found[1], found[2:]))
+    elif words[0] == "offer":
+        state["offers"].append(tuple(found))
+    else:
+        raise ValueError
+
+
+def add_to_block(block, words, found):
+    if words[0] == "asset":
+        block["rows"][found[0]] = found[1:]
+    elif words[0] == "trade":
+        block["trades"][found[0], found[1]] = found[2]
+    elif words[0] == "dropped":
+        block["cut"] = None if words[1] == "none" else int(words[1], 16)
+    elif words[0] in ("parent", "body", "after"):
+        block[words[0]] = bytes.fromhex(words[1])
+    elif words[0] != "transactions":
+        block["txs"].append(tx_of(words, found))
 
 
 def show(data):
@@ -344,8 +399,12 @@ def show(data):
             print(*state_lines(read_state(at)), sep="\n")
         elif tag == BLOCK:
             print(*block_lines(read_block(at)), sep="\n")
+        elif tag == CANDIDATES:
+            print(*candidates_lines(read_txs(at)), sep="\n")
         elif tag == OUTCOMES:
             print(*outcomes_lines(read_outcomes(at)), sep="\n")
+        elif tag == SCRIPT:
+            print(*script_lines(read_script(at)), sep="\n")
         else:
             sys.exit(f"records: this script shows no record of tag {tag}")
         if at.at != end:
@@ -373,8 +432,22 @@ def block_lines(block):
     yield "dropped none" if block["cut"] is None else f"dropped {block['cut']:08x}"
     yield f"after {block['after'].hex()}"
     yield f"transactions {len(block['txs'])}"
-    for account, seq, kind, fields in block["txs"]:
+    yield from tx_lines(block["txs"])
+
+
+def tx_lines(txs):
+    for account, seq, kind, fields in txs:
         yield f"tx {account} {seq} {kind} " + " ".join(f"{name}{it}" for name, it in zip(NAMES[kind], fields))
+
+
+def candidates_lines(txs):
+    yield f"candidates {len(txs)}"
+    yield from tx_lines(txs)
+
+
+def script_lines(script):
+    yield f"script actors {script['actors']} turns {len(script['turns'])}"
+    yield from (f"turn {it}" for it in script["turns"])
 
 
 def outcomes_lines(outcomes):

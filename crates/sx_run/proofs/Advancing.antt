@@ -25,6 +25,7 @@ closes parts block after sound same real = record {
 }
 
 pub refuses : (parts : Parts) (block : Block) (after : List ℕ) (why : Invalid) → IsSound parts block
-    → IsWrongAfter block.header after why → after ≡ digest_of_ledger (ledger_after parts block) → Refuses parts block why
+    → IsWrongAfter block.header after why → after ≡ digest_of_ledger (ledger_after parts block) →
+    Refuses parts block why
 refuses parts block after why sound wrong real =
     subst (λ w. Refuses parts block w) (sym wrong.is) (sound, refl, real, wrong.differ)

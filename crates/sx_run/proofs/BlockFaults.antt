@@ -1,7 +1,8 @@
 -- A fault of a block is not after the end of its payload.
 use Rattle.std.proofs.Common.{ℕ, ◌-◌, ◌*◌, ◌^◌, true, eqb, List, None, refl, arith}
 use Rattle.sx_base.specs.Ranges.{most_assets}
-use Rattle.sx_block.specs.Decoding.{block_at, body_at, cut_at, digest_at, fields_at, flow_at, front_at, header_at, market_at, outcome_at, potential_at, set_at, trade_at, trades_at}
+use Rattle.sx_block.specs.Decoding.{block_at, body_at, cut_at, digest_at, fields_at, flow_at, front_at, header_at}
+use Rattle.sx_block.specs.Decoding.{market_at, outcome_at, potential_at, set_at, trade_at, trades_at}
 use Rattle.sx_block.specs.Trades.{trade_before}
 use Rattle.sx_bytes.specs.declared.fault.Form.TheVariants as form
 use Rattle.sx_bytes.specs.Cursor.{left}
@@ -9,9 +10,11 @@ use Rattle.sx_bytes.specs.Grammar.{between, field_at, many_at}
 use Rattle.sx_ledger.specs.Body.{tx_before}
 use Rattle.sx_ledger.specs.Decoding.{buy_at, price_at, sell_at, units_field_at}
 use Rattle.sx_ledger.specs.Ledger.{most_height}
-use Rattle.sx_run.proofs.FaultPlaces.{IsAny, IsOn, Keeps, Stays, either, field_stays, many_stays, ordered_stays, raw_stays, tested, then}
+use Rattle.sx_run.proofs.FaultPlaces.{IsAny, IsOn, Keeps, Stays, either, field_stays, many_stays, ordered_stays}
+use Rattle.sx_run.proofs.FaultPlaces.{raw_stays, tested, then}
 use Rattle.sx_run.proofs.StateFaults.{buy_stays, id_stays, price_stays, sell_stays, units_stay}
-use Rattle.sx_tx.specs.TransactionDecoding.{amount_at, asset_at, cancel_at, create_at, fields_at as kind_fields_at, id_at, kind_at, limit_at, offer_at, pay_at, seq_at, terms_at, tx_at}
+use Rattle.sx_tx.specs.TransactionDecoding.{amount_at, asset_at, cancel_at, create_at, fields_at as kind_fields_at}
+use Rattle.sx_tx.specs.TransactionDecoding.{id_at, kind_at, limit_at, offer_at, pay_at, seq_at, terms_at, tx_at}
 use Rattle.sx_tx.specs.Transactions.{most_transactions}
 
 -- ---- transactions
@@ -38,7 +41,8 @@ unfolding pay_at
 pay_stays bytes c same place =
     then bytes (IsOn bytes) (IsOn bytes) (id_at c) _ (id_stays bytes c same place) (λ to a.
     then bytes (IsOn bytes) (IsOn bytes) (asset_at to.1) _ (asset_stays bytes to.1 a.0 a.1) (λ asset b.
-    then bytes (IsOn bytes) (IsOn bytes) (amount_at asset.1) _ (amount_stays bytes asset.1 b.0 b.1) (λ amount after. after)))
+    then bytes (IsOn bytes) (IsOn bytes) (amount_at asset.1) _ (amount_stays bytes asset.1 b.0 b.1)
+    (λ amount after. after)))
 
 create_stays : Stays create_at
 unfolding create_at
@@ -49,7 +53,8 @@ offer_stays : Stays offer_at
 unfolding offer_at
 offer_stays bytes c same place =
     then bytes (IsOn bytes) (IsOn bytes) (terms_at c) _ (terms_stay bytes c same place) (λ terms a.
-    then bytes (IsOn bytes) (IsOn bytes) (amount_at terms.1) _ (amount_stays bytes terms.1 a.0 a.1) (λ amount after. after))
+    then bytes (IsOn bytes) (IsOn bytes) (amount_at terms.1) _ (amount_stays bytes terms.1 a.0 a.1)
+    (λ amount after. after))
 
 cancel_stays : Stays cancel_at
 unfolding cancel_at
@@ -67,9 +72,10 @@ kind_stays : Stays kind_at
 unfolding kind_at
 kind_stays bytes c same place =
     then bytes (IsOn bytes) (IsOn bytes) (field_at 1 (between 1 4) form.Tag c) _
-    (field_stays 1 (between 1 4) form.Tag bytes c same place) (λ byte on. kind_fields_stay byte.0 bytes byte.1 on.0 on.1)
+    (field_stays 1 (between 1 4) form.Tag bytes c same place)
+    (λ byte on. kind_fields_stay byte.0 bytes byte.1 on.0 on.1)
 
-tx_stays : Stays tx_at
+pub tx_stays : Stays tx_at
 unfolding tx_at
 tx_stays bytes c same place =
     then bytes (IsOn bytes) (IsOn bytes) (id_at c) _ (id_stays bytes c same place) (λ account a.

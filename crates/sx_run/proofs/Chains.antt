@@ -6,7 +6,8 @@ use Rattle.sx_block.specs.Validity.{IsValid, ledger_after}
 use Rattle.sx_ledger.specs.declared.parts.Parts.{Parts}
 use Rattle.sx_ledger.specs.Ledger.{assets_of}
 use Rattle.sx_run.specs.Laws.{ChainConserves, ChainKeepsLedger, ReplaysChains}
-use Rattle.sx_run.specs.Replays.{AreValid, Item, MayComeAll, Standing, block, blocks_of, most_blocks, outcomes, stands_after, start}
+use Rattle.sx_run.specs.Replays.{AreValid, Item, MayComeAll, Standing, block, blocks_of, most_blocks, outcomes}
+use Rattle.sx_run.specs.Replays.{stands_after, start}
 
 valid_along : (at : Standing) (items : List Item) → MayComeAll at items → AreValid at.ledger (blocks_of items)
 valid_along at [] each = tt
@@ -33,12 +34,14 @@ module _ (keeps : BlockKeepsLedger) where
       chain_keeps_ledger (ledger_after parts next) others (keeps parts next is valid.0) valid.1
 
   -- a valid block leaves as many assets as there were
-  same_assets : (parts : Parts) (next : Block) → IsValid parts next → assets_of (ledger_after parts next) ≡ assets_of parts
+  same_assets : (parts : Parts) (next : Block) → IsValid parts next →
+      assets_of (ledger_after parts next) ≡ assets_of parts
   same_assets parts next valid = valid.same_assets
 
   pub chain_conserves : BlockConserves → ChainConserves
   chain_conserves conserves parts [] asset is valid there = refl
   chain_conserves conserves parts (next ∷ others) asset is valid there =
       let same = same_assets parts next valid.0 in
-      chain_conserves conserves (ledger_after parts next) others asset (keeps parts next is valid.0) valid.1 (omega (arith, same))
+      chain_conserves conserves (ledger_after parts next) others asset (keeps parts next is valid.0) valid.1
+      (omega (arith, same))
       ∙ conserves parts next asset is valid.0 there

@@ -6,8 +6,10 @@ use Rattle.sx_run.specs.Answers.{Answers, Completes, Finding, malformed, output,
 use Rattle.sx_run.specs.Laws.{FindsOne}
 use Rattle.sx_run.specs.Running.{IsWritten}
 
-pub completes : (Finds : Option (List ℕ) → Finding → Type 0) → FindsOne Finds → (input before after : Option (List ℕ)) (s : Status)
-    → Answers (Finds input) before after s → (s ≡ status.ReadFault → ⊥) → (s ≡ status.WriteFault → ⊥) → Completes Finds input s
+pub completes : (Finds : Option (List ℕ) → Finding → Type 0) → FindsOne Finds →
+    (input before after : Option (List ℕ)) (s : Status)
+    → Answers (Finds input) before after s → (s ≡ status.ReadFault → ⊥) → (s ≡ status.WriteFault → ⊥) →
+    Completes Finds input s
 completes Finds one None before after s answer no_read no_write = tt
 completes Finds one (Some bytes) before after status.Done answer no_read no_write = λ found finds.
     inl (ap status_of (one bytes (output answer.0) found answer.1 finds))
@@ -21,7 +23,8 @@ completes Finds one (Some bytes) before after (status.Refused block why) answer 
 completes Finds one (Some bytes) before after status.NoMemory answer no_read no_write = λ found finds. inr refl
 
 -- what was written is the output that was found
-pub answers : (Finds : Finding → Type 0) (before after : Option (List ℕ)) (text : List ℕ) (s : Status) → Finds (output text)
+pub answers : (Finds : Finding → Type 0) (before after : Option (List ℕ)) (text : List ℕ) (s : Status) →
+    Finds (output text)
     → IsWritten before after text s → Answers Finds before after s
 answers Finds before after text status.Done finds written = (text, finds, written)
 answers Finds before after text status.Usage finds written = absurd written

@@ -1,5 +1,6 @@
 -- Decoding stays within its bytes: a fault is at or before their end.
-use Rattle.std.proofs.Common.{◌≡◌, ℕ, zero, suc, ◌+◌, ◌^◌, ◌<◌, ◌≤◌, Bool, true, false, cond, ltb, List, length, take, Option, Some, Result, Ok, Err, refl, ap, arith}
+use Rattle.std.proofs.Common.{◌≡◌, ℕ, zero, suc, ◌+◌, ◌^◌, ◌<◌, ◌≤◌, Bool, true, false, cond, ltb, List, length, take}
+use Rattle.std.proofs.Common.{Option, Some, Result, Ok, Err, refl, ap, arith}
 use Rattle.std.proofs.lemmas.Bool.{ltb-false}
 use Rattle.byteorder.specs.Endian.{big_number}
 use Rattle.sx_bytes.specs.declared.fault.Form.{Form}
@@ -22,7 +23,8 @@ IsOn bytes x = (x.1.bytes ≡ bytes) × (x.1.place ≤ length bytes)
 
 -- a step that begins on the bytes
 abbrev pub Stays : {X : Type 0} → (Cursor → Result (X × Cursor) FormFault) → Type 0
-Stays {X} read = (bytes : List ℕ) (c : Cursor) → c.bytes ≡ bytes → c.place ≤ length bytes → Keeps bytes (IsOn bytes) (read c)
+Stays {X} read = (bytes : List ℕ) (c : Cursor) → c.bytes ≡ bytes → c.place ≤ length bytes →
+    Keeps bytes (IsOn bytes) (read c)
 
 -- a step after another
 pub then : {X Y : Type 0} (bytes : List ℕ) (P : X → Type 0) (Q : Y → Type 0) (r : Result X FormFault)
@@ -42,7 +44,8 @@ abbrev pub IsAny : {X : Type 0} → X → Type 0
 IsAny x = Unit {0}
 
 -- one of two steps
-pub either : {X : Type 0} (bytes : List ℕ) (b : Bool) (one other : Result (X × Cursor) FormFault) → Keeps bytes (IsOn bytes) one
+pub either : {X : Type 0} (bytes : List ℕ) (b : Bool) (one other : Result (X × Cursor) FormFault) →
+    Keeps bytes (IsOn bytes) one
     → Keeps bytes (IsOn bytes) other → Keeps bytes (IsOn bytes) (cond b one other)
 either bytes true one other p q = p
 either bytes false one other p q = q
@@ -50,7 +53,8 @@ either bytes false one other p q = q
 -- ---- fields
 
 enough : {X : Type 0} (bytes : List ℕ) (n : ℕ) (c : Cursor) (x : X) → c.bytes ≡ bytes → c.place ≤ length bytes
-    → Keeps bytes (IsOn bytes) (or_fault (cond (ltb (left c) n) (Err (record { at = length c.bytes })) (Ok (x, moved n c))))
+    → Keeps bytes (IsOn bytes) (or_fault
+    (cond (ltb (left c) n) (Err (record { at = length c.bytes })) (Ok (x, moved n c))))
 enough bytes n c x same place =
     elim (ltb (left c) n) as (λ b. ltb (left c) n ≡ b
     → Keeps bytes (IsOn bytes) (or_fault (cond b (Err (record { at = length c.bytes })) (Ok (x, moved n c))))) [
@@ -73,7 +77,8 @@ field_stays n passes fault bytes c same place =
 
 -- ---- lists
 
-pub many_stays : {X : Type 0} (entry : Cursor → Result (X × Cursor) FormFault) → Stays entry → (n : ℕ) → Stays (many_at entry n)
+pub many_stays : {X : Type 0} (entry : Cursor → Result (X × Cursor) FormFault) → Stays entry → (n : ℕ) →
+    Stays (many_at entry n)
 unfolding many_at
 many_stays entry stays zero bytes c same place = (same, place)
 many_stays entry stays (suc n) bytes c same place =
@@ -81,14 +86,17 @@ many_stays entry stays (suc n) bytes c same place =
     then bytes (IsOn bytes) (IsOn bytes) (many_at entry n first.1) _ (many_stays entry stays n bytes first.1 on.0 on.1)
     (λ others more. more))
 
-pub ordered_stays : {X : Type 0} (entry : Cursor → Result (X × Cursor) FormFault) (precedes : X → X → Bool) (fault : Form) → Stays entry
+pub ordered_stays : {X : Type 0} (entry : Cursor → Result (X × Cursor) FormFault) (precedes : X → X → Bool)
+    (fault : Form) → Stays entry
     → (n : ℕ) (before : Option X) → Stays (ordered_at entry precedes fault n before)
 unfolding ordered_at
 ordered_stays entry precedes fault stays zero before bytes c same place = (same, place)
 ordered_stays entry precedes fault stays (suc n) before bytes c same place =
     then bytes (IsOn bytes) (IsOn bytes) (entry c) _ (stays bytes c same place) (λ first on.
-    then bytes (IsOn bytes) (IsOn bytes) (cond (may_follow precedes before first.0) (Ok first) (Err (record { at = c.place; fault = fault }))) _
-    (tested bytes (IsOn bytes) (may_follow precedes before first.0) first (record { at = c.place; fault = fault }) on place) (λ placed after.
+    then bytes (IsOn bytes) (IsOn bytes)
+    (cond (may_follow precedes before first.0) (Ok first) (Err (record { at = c.place; fault = fault }))) _
+    (tested bytes (IsOn bytes) (may_follow precedes before first.0) first (record { at = c.place; fault = fault })
+    on place) (λ placed after.
     then bytes (IsOn bytes) (IsOn bytes) (ordered_at entry precedes fault n (Some first.0) placed.1) _
     (ordered_stays entry precedes fault stays n (Some first.0) bytes placed.1 after.0 after.1)
     (λ others more. more)))

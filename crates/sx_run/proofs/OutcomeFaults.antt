@@ -4,7 +4,8 @@ use Rattle.sx_base.specs.Ranges.{most_amount}
 use Rattle.sx_bytes.specs.declared.fault.Form.TheVariants as form
 use Rattle.sx_bytes.specs.Cursor.{left}
 use Rattle.sx_bytes.specs.Grammar.{between, field_at}
-use Rattle.sx_layout.specs.OutcomeDecoding.{fields_at, outcome_at, outcome_list_at, outcomes_at, overdraft_at, static_at}
+use Rattle.sx_layout.specs.OutcomeDecoding.{fields_at, outcome_at, outcome_list_at, outcomes_at, overdraft_at}
+use Rattle.sx_layout.specs.OutcomeDecoding.{static_at}
 use Rattle.sx_layout.specs.Outcomes.{most_outcomes}
 use Rattle.sx_run.proofs.FaultPlaces.{IsAny, IsOn, Keeps, Stays, either, field_stays, many_stays, tested, then}
 
@@ -34,7 +35,8 @@ outcome_stays : Stays outcome_at
 unfolding outcome_at
 outcome_stays bytes c same place =
     then bytes (IsOn bytes) (IsOn bytes) (field_at 1 (between 0 5) form.Tag c) _
-    (field_stays 1 (between 0 5) form.Tag bytes c same place) (λ number on. fields_stay number.0 bytes number.1 on.0 on.1)
+    (field_stays 1 (between 0 5) form.Tag bytes c same place)
+    (λ number on. fields_stay number.0 bytes number.1 on.0 on.1)
 
 list_stays : Stays outcome_list_at
 unfolding outcome_list_at
@@ -48,4 +50,5 @@ unfolding outcomes_at
 outcomes_within bytes =
     then bytes (IsOn bytes) IsAny (outcome_list_at (record { bytes = bytes; place = 0 })) _
     (list_stays bytes (record { bytes = bytes; place = 0 }) refl (omega arith)) (λ outcomes on.
-    tested bytes IsAny (eqb (left outcomes.1) 0) outcomes.0 (record { at = outcomes.1.place; fault = form.Rest }) tt on.1)
+    tested bytes IsAny (eqb (left outcomes.1) 0) outcomes.0 (record { at = outcomes.1.place; fault = form.Rest }) tt
+    on.1)

@@ -26,7 +26,8 @@ may_stop decoded stop.ReadFault h = tt
 may_stop decoded (stop.Malformed fault) h = tt
 may_stop decoded (stop.Refused block why) h = absurd h
 
-faulty : {X Y : Type 0} (p : Result X FormFault × List ℕ) (next : X → StreamDecoding Y) (fault : FormFault) → p.0 ≡ Err fault
+faulty : {X Y : Type 0} (p : Result X FormFault × List ℕ) (next : X → StreamDecoding Y) (fault : FormFault) →
+    p.0 ≡ Err fault
     → (go_on p next).0 ≡ Err fault
 faulty (Ok x, rest) next fault e = absurd cc
 faulty (Err other, rest) next fault e = cc
@@ -39,7 +40,8 @@ stops p next (stop.Malformed fault) h = faulty p next fault h
 stops p next (stop.Refused block why) h = absurd h
 
 -- a first step that stopped
-pub stopped : {X Y Z W : Type 0} (view : X → Y) (other : Z → W) (decode : StreamDecoding Y) (next : Y → StreamDecoding W)
+pub stopped : {X Y Z W : Type 0} (view : X → Y) (other : Z → W) (decode : StreamDecoding Y)
+    (next : Y → StreamDecoding W)
     (a b c : Option (List ℕ)) (s : Stop) → Reads view decode a b (Err s) → Reads other (decode >>= next) a c (Err s)
 stopped view other decode next None b c s reads = reads
 stopped view other decode next (Some bytes) b c s reads = stops (decode bytes) next s reads
@@ -75,7 +77,8 @@ payload_stops decoded (stop.Malformed fault) h = h
 payload_stops decoded (stop.Refused block why) h = absurd h
 
 -- decoding a payload reads no more bytes
-pub payload_reads : {X Y : Type 0} (view : X → Y) (read : List ℕ → Result Y FormFault) (found : Record) (a : Option (List ℕ))
+pub payload_reads : {X Y : Type 0} (view : X → Y) (read : List ℕ → Result Y FormFault) (found : Record)
+    (a : Option (List ℕ))
     (r : Result X Stop) → Holds view found.at (read found.payload) r → Reads view (payload_at read found) a a r
 payload_reads view read found None (Ok x) holds = tt
 payload_reads {X} {Y} view read found (Some bytes) (Ok x) holds =

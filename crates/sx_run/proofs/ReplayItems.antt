@@ -9,19 +9,23 @@ use Rattle.byteorder.specs.Endian.{big_bytes}
 use Rattle.sx_ledger.specs.declared.parts.Parts.{Parts}
 use Rattle.sx_record.specs.Frame.{frame_bytes, record_bytes}
 use Rattle.sx_run.specs.Inputs.{state_record}
-use Rattle.sx_run.specs.Replays.{Item, MayCome, MayComeAll, Standing, block, blocks_of, input_of, item_record, ledger_after_all, outcomes, standing_of, stands_after, start}
+use Rattle.sx_run.specs.Replays.{Item, MayCome, MayComeAll, Standing, block, blocks_of, input_of, item_record}
+use Rattle.sx_run.specs.Replays.{ledger_after_all, outcomes, standing_of, stands_after, start}
 
 -- the ledger is that after the blocks
-ledger_along : (at : Standing) (items : List Item) → (fold stands_after at items).ledger ≡ ledger_after_all at.ledger (blocks_of items)
+ledger_along : (at : Standing) (items : List Item) →
+    (fold stands_after at items).ledger ≡ ledger_after_all at.ledger (blocks_of items)
 ledger_along at [] = refl
 ledger_along at (block said ∷ items) = ledger_along (stands_after at (block said)) items
 ledger_along at (outcomes told ∷ items) = ledger_along (stands_after at (outcomes told)) items
 
-pub ledger_of : (parts : Parts) (items : List Item) → (standing_of parts items).ledger ≡ ledger_after_all parts (blocks_of items)
+pub ledger_of : (parts : Parts) (items : List Item) →
+    (standing_of parts items).ledger ≡ ledger_after_all parts (blocks_of items)
 ledger_of parts items = ledger_along (start parts) items
 
 -- and the number is that of the blocks
-blocks_along : (at : Standing) (items : List Item) → (fold stands_after at items).blocks ≡ at.blocks + length (blocks_of items)
+blocks_along : (at : Standing) (items : List Item) →
+    (fold stands_after at items).blocks ≡ at.blocks + length (blocks_of items)
 blocks_along at [] = omega arith
 blocks_along at (block said ∷ items) = omega (arith, blocks_along (stands_after at (block said)) items)
 blocks_along at (outcomes told ∷ items) = blocks_along (stands_after at (outcomes told)) items
@@ -31,7 +35,8 @@ number_of parts items = omega (arith, blocks_along (start parts) items)
 
 -- ---- one more
 
-pub come_then : (at : Standing) (items : List Item) (item : Item) → MayComeAll at items → MayCome (fold stands_after at items) item
+pub come_then : (at : Standing) (items : List Item) (item : Item) → MayComeAll at items →
+    MayCome (fold stands_after at items) item
     → MayComeAll at (items ++ item ∷ [])
 come_then at [] item each next = (next, tt)
 come_then at (first ∷ items) item each next = (each.0, come_then (stands_after at first) items item each.1 next)
@@ -40,7 +45,8 @@ pub stands_then : (parts : Parts) (items : List Item) (item : Item)
     → standing_of parts (items ++ item ∷ []) ≡ stands_after (standing_of parts items) item
 stands_then parts items item = fold-append stands_after (start parts) items (item ∷ [])
 
-records_then : (items : List Item) (item : Item) → flat_map item_record (items ++ item ∷ []) ≡ flat_map item_record items ++ item_record item
+records_then : (items : List Item) (item : Item) →
+    flat_map item_record (items ++ item ∷ []) ≡ flat_map item_record items ++ item_record item
 records_then [] item = append-nil (item_record item)
 records_then (first ∷ items) item =
     ap (λ (t : List ℕ). item_record first ++ t) (records_then items item)

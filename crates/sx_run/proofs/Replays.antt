@@ -1,5 +1,6 @@
 -- What a replay knows of the input, record after record.
-use Rattle.std.proofs.Common.{◌≡◌, ℕ, ◌+◌, ◌≤◌, false, List, [], ◌∷◌, ◌++◌, length, Option, Some, None, Result, Ok, Err, inr, refl, sym, ap, subst, ◌∙◌, append_assoc, arith}
+use Rattle.std.proofs.Common.{◌≡◌, ℕ, ◌+◌, ◌≤◌, false, List, [], ◌∷◌, ◌++◌, length, Option, Some, None, Result, Ok}
+use Rattle.std.proofs.Common.{Err, inr, refl, sym, ap, subst, ◌∙◌, append_assoc, arith}
 use Rattle.std.proofs.lemmas.List.{append-nil, length-append}
 use Rattle.sx_bytes.specs.declared.fault.FormFault.{FormFault}
 use Rattle.sx_check.specs.declared.invalid.Invalid.{Invalid}
@@ -18,7 +19,8 @@ use Rattle.sx_run.specs.Answers.{FindsInReplay, Found, IsFaultOfReplay, IsInput,
 use Rattle.sx_run.specs.Head.{IsHead}
 use Rattle.sx_run.specs.Inputs.{state_record}
 use Rattle.sx_run.specs.Replaying.{HasReplayed, IsNext, RefusesNext, Steps, StepsTo, stand_of}
-use Rattle.sx_run.specs.Replays.{BeginsWithFault, IsFaultOf, MayCome, Standing, blocks_of, input_of, ledger_after_all, standing_of, stands_after, start, tags_after}
+use Rattle.sx_run.specs.Replays.{BeginsWithFault, IsFaultOf, MayCome, Standing, blocks_of, input_of, ledger_after_all}
+use Rattle.sx_run.specs.Replays.{standing_of, stands_after, start, tags_after}
 use Rattle.sx_run.specs.Stream.{Reads, TakesItem}
 use Rattle.sx_run.proofs.ReplayItems.{come_then, input_then, ledger_of, length-record, number_of, stands_then}
 
@@ -42,7 +44,8 @@ begins input left head at ledger is_head took long near =
 
 -- ---- a record more
 
-more_taken : (input left after : Option (List ℕ)) (text piece both : List ℕ) → Took input left text → Took left after piece
+more_taken : (input left after : Option (List ℕ)) (text piece both : List ℕ) → Took input left text →
+    Took left after piece
     → both ≡ text ++ piece → Took input after both
 more_taken None left after text piece both took more e = tt
 more_taken (Some bytes) None after text piece both took more e = absurd (let n : Some took.0 ≡ None = sym took.2 in cc)
@@ -58,8 +61,10 @@ pub goes_on : (input left after : Option (List ℕ)) (place next : Place) (found
     → TakesItem left after (Some found) → IsNext place found → StepsTo place found next → HasReplayed input after next
 goes_on input left after place next found so_far took is_next steps =
     let items = so_far.items in
-    let more : input_of so_far.parts (items ++ steps.item ∷ []) ≡ input_of so_far.parts items ++ record_bytes found.tag found.payload =
-    input_then so_far.parts items steps.item ∙ ap (λ (t : List ℕ). input_of so_far.parts items ++ t) (sym steps.encoded) in
+    let more : input_of so_far.parts (items ++ steps.item ∷ []) ≡ input_of so_far.parts items ++ record_bytes
+    found.tag found.payload =
+    input_then so_far.parts items steps.item ∙
+    ap (λ (t : List ℕ). input_of so_far.parts items ++ t) (sym steps.encoded) in
     let long = ap length more in
     record {
       parts = so_far.parts;
@@ -67,7 +72,8 @@ goes_on input left after place next found so_far took is_next steps =
       ledger = so_far.ledger;
       each = come_then (start so_far.parts) items steps.item so_far.each
           (subst (λ (s : Standing). MayCome s steps.item) (sym so_far.stands) steps.may_come);
-      took = more_taken input left after (input_of so_far.parts items) (record_bytes found.tag found.payload) _ so_far.took took more;
+      took = more_taken input left after (input_of so_far.parts items) (record_bytes found.tag found.payload) _
+          so_far.took took more;
       stands = stands_then so_far.parts items steps.item
           ∙ ap (λ (s : Standing). stands_after s steps.item) so_far.stands ∙ sym steps.stands;
       offset = omega (
@@ -118,7 +124,8 @@ finishes input left after place text so_far ended is_record =
 -- ---- a form fault
 
 fault_here : (bytes rest : List ℕ) (place : Place) (fault : FormFault) → HasReplayed (Some bytes) (Some rest) place
-    → IsFaultOf (stand_of place) place.at ((record_at (tags_after place.after_block) place.at rest).0) fault → IsFaultOfReplay fault bytes
+    → IsFaultOf (stand_of place) place.at ((record_at (tags_after place.after_block) place.at rest).0) fault →
+    IsFaultOfReplay fault bytes
 fault_here bytes rest place fault so_far faulty =
     let same : rest ≡ so_far.took.0 = cc in
     let here : BeginsWithFault (stand_of place) place.at rest fault = faulty in
@@ -131,7 +138,8 @@ fault_here bytes rest place fault so_far faulty =
       ledger = so_far.ledger;
       each = so_far.each;
       read = so_far.took.1 ∙ ap (λ (r : List ℕ). input_of so_far.parts so_far.items ++ r) (sym same);
-      faulty = subst (λ (n : ℕ). BeginsWithFault (standing_of so_far.parts so_far.items) n rest fault) so_far.offset there;
+      faulty = subst (λ (n : ℕ). BeginsWithFault (standing_of so_far.parts so_far.items) n rest fault) so_far.offset
+          there;
     })
 
 pub stops : (input left after : Option (List ℕ)) (place : Place) (s : Stop) → HasReplayed input left place
@@ -158,10 +166,12 @@ refused_here (Some bytes) (Some rest) after text piece took more =
     let same : rest ≡ took.0 = cc in
     (more.0, took.1 ∙ ap (λ (r : List ℕ). text ++ r) (sym same ∙ more.1))
 
-pub refuses : (input left after : Option (List ℕ)) (place : Place) (found : Record) (number : ℕ) (why : Invalid) → HasReplayed input left place
+pub refuses : (input left after : Option (List ℕ)) (place : Place) (found : Record) (number : ℕ) (why : Invalid) →
+    HasReplayed input left place
     → TakesItem left after (Some found) → RefusesNext place found number why → IsRefusedAmong input number why
 refuses input left after place found number why so_far took refusal =
-    let here = refused_here input left after (input_of so_far.parts so_far.items) (record_bytes found.tag found.payload) so_far.took took in
+    let here = refused_here input left after (input_of so_far.parts so_far.items)
+    (record_bytes found.tag found.payload) so_far.took took in
     let count : place.blocks ≡ length (blocks_of so_far.items) =
     ap (λ (s : Standing). s.blocks) (sym so_far.stands) ∙ number_of so_far.parts so_far.items in
     record {
@@ -172,13 +182,16 @@ refuses input left after place found number why so_far took refusal =
       ledger = so_far.ledger;
       each = so_far.each;
       form = refusal.form;
-      read = subst (λ (t : List ℕ). IsInput input (input_of so_far.parts so_far.items ++ (t ++ here.0))) refusal.encoded here.1;
+      read = subst (λ (t : List ℕ). IsInput input (input_of so_far.parts so_far.items ++ (t ++ here.0)))
+          refusal.encoded here.1;
       is_number = refusal.is_number ∙ count;
       few = omega (arith, refusal.is_number, refusal.few);
-      refused = subst (λ (l : Parts). Refuses l refusal.block why) (same_ledger input left after place so_far) refusal.refused;
+      refused = subst (λ (l : Parts). Refuses l refusal.block why) (same_ledger input left after place so_far)
+          refusal.refused;
     }
 
-pub fails : (input left after : Option (List ℕ)) (place : Place) (found : Record) (s : Stop) → HasReplayed input left place
+pub fails : (input left after : Option (List ℕ)) (place : Place) (found : Record) (s : Stop) →
+    HasReplayed input left place
     → Reads (λ (x : Option Record). x) (record_at (tags_after place.after_block) place.at) left after (Ok (Some found))
     → TakesItem left after (Some found) → Steps place found (Err s) → Found (FindsInReplay input) (Err s)
 fails input left after place found stop.NoMemory so_far reads took steps = tt

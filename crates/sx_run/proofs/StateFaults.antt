@@ -6,7 +6,9 @@ use Rattle.sx_bytes.specs.Cursor.{left}
 use Rattle.sx_bytes.specs.Grammar.{between, field_at, many_at, may_follow}
 use Rattle.sx_ledger.specs.declared.account.Account.{Account}
 use Rattle.sx_ledger.specs.declared.key.Key.{Key}
-use Rattle.sx_ledger.specs.Decoding.{account_at, account_list_at, buy_at, head_at, last_at, next_account_at, next_offer_at, offer_at, offer_list_at, parts_at, price_at, sell_at, state_at, totals_fit, units_field_at}
+use Rattle.sx_ledger.specs.Decoding.{account_at, account_list_at, buy_at, head_at, last_at, next_account_at}
+use Rattle.sx_ledger.specs.Decoding.{next_offer_at, offer_at, offer_list_at, parts_at, price_at, sell_at, state_at}
+use Rattle.sx_ledger.specs.Decoding.{totals_fit, units_field_at}
 use Rattle.sx_ledger.specs.Ledger.{assets_of, has_owner, most_accounts, most_height, most_offers}
 use Rattle.sx_ledger.specs.Order.{key_before, key_of}
 use Rattle.sx_price.specs.Limits.{least_price, most_price}
@@ -36,7 +38,8 @@ account_stays assets bytes c same place =
 next_account_stays : (assets : ℕ) (before : Option ℕ) → Stays (next_account_at assets before)
 unfolding next_account_at
 next_account_stays assets before bytes c same place =
-    then bytes (IsOn bytes) (IsOn bytes) (account_at assets c) _ (account_stays assets bytes c same place) (λ account on.
+    then bytes (IsOn bytes) (IsOn bytes) (account_at assets c) _ (account_stays assets bytes c same place)
+    (λ account on.
     tested bytes (IsOn bytes) (may_follow ltb before account.0.id.0) account
     (record { at = c.place; fault = form.Order }) on place)
 
@@ -63,21 +66,27 @@ offer_stays : (assets : ℕ) → Stays (offer_at assets)
 unfolding offer_at
 offer_stays assets bytes c same place =
     then bytes (IsOn bytes) (IsOn bytes) (sell_at assets c) _ (sell_stays assets bytes c same place) (λ sell a.
-    then bytes (IsOn bytes) (IsOn bytes) (buy_at assets sell.0 sell.1) _ (buy_stays assets sell.0 bytes sell.1 a.0 a.1) (λ buy b.
-    then bytes (IsOn bytes) (IsOn bytes) (limit_at buy.1) _ (field_stays 8 _ form.LimitRange bytes buy.1 b.0 b.1) (λ limit d.
+    then bytes (IsOn bytes) (IsOn bytes) (buy_at assets sell.0 sell.1) _
+    (buy_stays assets sell.0 bytes sell.1 a.0 a.1) (λ buy b.
+    then bytes (IsOn bytes) (IsOn bytes) (limit_at buy.1) _ (field_stays 8 _ form.LimitRange bytes buy.1 b.0 b.1)
+    (λ limit d.
     then bytes (IsOn bytes) (IsOn bytes) (id_at limit.1) _ (id_stays bytes limit.1 d.0 d.1) (λ account e.
-    then bytes (IsOn bytes) (IsOn bytes) (seq_at account.1) _ (field_stays 8 _ form.SeqRange bytes account.1 e.0 e.1) (λ seq f.
-    then bytes (IsOn bytes) (IsOn bytes) (amount_at seq.1) _ (field_stays 8 _ form.AmountRange bytes seq.1 f.0 f.1) (λ amount after.
+    then bytes (IsOn bytes) (IsOn bytes) (seq_at account.1) _
+    (field_stays 8 _ form.SeqRange bytes account.1 e.0 e.1) (λ seq f.
+    then bytes (IsOn bytes) (IsOn bytes) (amount_at seq.1) _ (field_stays 8 _ form.AmountRange bytes seq.1 f.0 f.1)
+    (λ amount after.
     after))))))
 
-next_offer_stays : (accounts : List Account) (assets : ℕ) (before : Option Key) → Stays (next_offer_at accounts assets before)
+next_offer_stays : (accounts : List Account) (assets : ℕ) (before : Option Key) →
+    Stays (next_offer_at accounts assets before)
 unfolding next_offer_at
 next_offer_stays accounts assets before bytes c same place =
     then bytes (IsOn bytes) (IsOn bytes) (offer_at assets c) _ (offer_stays assets bytes c same place) (λ offer on.
     then bytes (IsOn bytes) (IsOn bytes) _ _
     (tested bytes (IsOn bytes) (may_follow key_before before (key_of offer.0)) offer
     (record { at = c.place; fault = form.Order }) on place) (λ placed after.
-    tested bytes (IsOn bytes) (has_owner accounts placed.0) placed (record { at = c.place; fault = form.Owner }) after place))
+    tested bytes (IsOn bytes) (has_owner accounts placed.0) placed (record { at = c.place; fault = form.Owner })
+    after place))
 
 offer_list_stays : (accounts : List Account) (assets : ℕ) → Stays (offer_list_at accounts assets)
 unfolding offer_list_at
@@ -120,4 +129,5 @@ state_within bytes =
     then bytes (IsOn bytes) IsAny _ _
     (tested bytes (IsOn bytes) (totals_fit parts.0 (assets_of parts.0)) parts (record { at = 0; fault = form.Total }) on
     (omega arith)) (λ fitting after.
-    tested bytes IsAny (eqb (left fitting.1) 0) fitting.0 (record { at = fitting.1.place; fault = form.Rest }) tt after.1))
+    tested bytes IsAny (eqb (left fitting.1) 0) fitting.0 (record { at = fitting.1.place; fault = form.Rest }) tt
+    after.1))

@@ -12,11 +12,13 @@ use Rattle.sx_check.specs.Refusals.{Refuses}
 use Rattle.sx_ledger.specs.declared.parts.Parts.{Parts}
 use Rattle.sx_ledger.specs.Ledger.{IsLedger}
 use Rattle.sx_run.specs.declared.status.Status.{Status}
-use Rattle.sx_run.specs.declared.status.Status.TheVariants.{Done, Usage, ReadFault, WriteFault, Malformed, Refused, NoMemory}
+use Rattle.sx_run.specs.declared.status.Status.TheVariants.{Done, Usage, ReadFault, WriteFault, Malformed, Refused}
+use Rattle.sx_run.specs.declared.status.Status.TheVariants.{NoMemory}
 use Rattle.sx_run.specs.declared.stop.Stop.{Stop}
 use Rattle.sx_run.specs.declared.stop.Stop.TheVariants as stop
 use Rattle.sx_run.specs.Inputs.{block_record, check_at, opening_at, state_record}
-use Rattle.sx_run.specs.Replays.{BeginsWithFault, Item, MayComeAll, blocks_of, input_of, ledger_after_all, most_blocks, standing_of, start}
+use Rattle.sx_run.specs.Replays.{BeginsWithFault, Item, MayComeAll, blocks_of, input_of, ledger_after_all}
+use Rattle.sx_run.specs.Replays.{most_blocks, standing_of, start}
 use Rattle.sx_run.specs.Texts.{checked_text}
 use Rattle.sx_run.specs.Words.{AreCommand}
 

@@ -1,17 +1,23 @@
 -- Records in their places: what has to stand at the beginning of an input, with the first fault where it does not.
-use Rattle.std.specs.Prelude.{ℕ, ◌+◌, List, [], ◌∷◌, length, Option, None, Some, Result, Ok, Err}
+use Rattle.std.specs.Prelude.{ℕ, ◌+◌, List, [], ◌∷◌, ◌++◌, length, Option, None, Some, Result, Ok, Err}
 use Rattle.sx_block.specs.declared.header.Block.{Block}
 use Rattle.sx_block.specs.Decoding.{block_at}
 use Rattle.sx_block.specs.Encoding.{block_bytes}
 use Rattle.sx_bytes.specs.declared.fault.Form.TheVariants as form
 use Rattle.sx_bytes.specs.declared.fault.FormFault.{FormFault}
+use Rattle.sx_layout.specs.declared.script.Script.{Script}
+use Rattle.sx_layout.specs.ScriptDecoding.{script_at}
+use Rattle.sx_layout.specs.Scripts.{script_bytes}
 use Rattle.sx_ledger.specs.declared.parts.Parts.{Parts}
 use Rattle.sx_ledger.specs.Decoding.{state_at}
 use Rattle.sx_ledger.specs.Encoding.{state_bytes}
 use Rattle.sx_record.specs.declared.frame.Record.{Record}
 use Rattle.sx_record.specs.Decoding.{StreamDecoding, ◌>>=◌, done, fails, record_at}
 use Rattle.sx_record.specs.Frame.{record_bytes}
-use Rattle.sx_record.specs.Tags.{block_tag, state_tag}
+use Rattle.sx_record.specs.Tags.{block_tag, candidates_tag, script_tag, state_tag}
+use Rattle.sx_tx.specs.declared.tx.Tx.{Tx}
+use Rattle.sx_tx.specs.TransactionDecoding.{candidates_at}
+use Rattle.sx_tx.specs.Transactions.{list_bytes}
 
 -- ---- encoding
 
@@ -20,6 +26,17 @@ state_record parts = record_bytes state_tag (state_bytes parts)
 
 abbrev pub block_record : Block → List ℕ
 block_record block = record_bytes block_tag (block_bytes block)
+
+abbrev pub candidates_record : List Tx → List ℕ
+candidates_record candidates = record_bytes candidates_tag (list_bytes candidates)
+
+abbrev pub script_record : Script → List ℕ
+script_record script = record_bytes script_tag (script_bytes script)
+
+-- the input of `interleave`
+abbrev pub interleave_records : Parts → List Tx → Script → List ℕ
+interleave_records parts candidates script =
+    state_record parts ++ (candidates_record candidates ++ script_record script)
 
 -- ---- decoding
 
@@ -69,3 +86,14 @@ check_at = do
   block ← payload_at block_at found
   end ← end_at (end_of found)
   done (opening.0, block)
+
+-- a state, candidates, a script, and nothing more
+unfoldable pub interleave_at : StreamDecoding (Parts × List Tx × Script)
+interleave_at = do
+  opening ← opening_at
+  found ← required_at candidates_tag opening.1
+  candidates ← payload_at candidates_at found
+  last ← required_at script_tag (end_of found)
+  script ← payload_at script_at last
+  end ← end_at (end_of last)
+  done (opening.0, candidates, script)

@@ -7,6 +7,7 @@ pub mod Status
 pub mod Texts
 pub mod Answers
 pub mod Checking
+pub mod Interleaving
 pub mod Replaying
 pub mod Running
 pub mod Head

@@ -14,7 +14,8 @@ use Rattle.sx_run.specs.declared.stop.Stop.{Stop}
 use Rattle.sx_run.specs.declared.stop.Stop.TheVariants as stop
 use Rattle.sx_run.specs.Head.{IsHead}
 use Rattle.sx_run.specs.Inputs.{block_record, end_of}
-use Rattle.sx_run.specs.Replays.{IsFaultOfRecord, Item, MayCome, MayComeAll, Standing, input_of, item_record, most_blocks, standing_of, stands_after, start, tags_after}
+use Rattle.sx_run.specs.Replays.{IsFaultOfRecord, Item, MayCome, MayComeAll, Standing, input_of, item_record}
+use Rattle.sx_run.specs.Replays.{most_blocks, standing_of, stands_after, start, tags_after}
 
 abbrev pub stand_of : Place → Standing
 stand_of place = record { ledger = place.head.ledger; blocks = place.blocks; after_block = place.after_block }

@@ -1,5 +1,6 @@
 -- The input of a replay: a state, and then blocks, each of which may have the outcomes of its candidates after it.
-use Rattle.std.specs.Prelude.{◌≡◌, ℕ, ◌+◌, ◌<◌, Bool, true, false, List, [], ◌∷◌, ◌++◌, fold, Option, None, Some, Result, Ok, Err, IsTrue, MatchBool, ◌==◌, ◌⊎◌}
+use Rattle.std.specs.Prelude.{◌≡◌, ℕ, ◌+◌, ◌<◌, Bool, true, false, List, [], ◌∷◌, ◌++◌, fold, Option, None, Some}
+use Rattle.std.specs.Prelude.{Result, Ok, Err, IsTrue, MatchBool, ◌==◌, ◌⊎◌}
 use Rattle.std.specs.List.{filter_map, flat_map}
 use Rattle.sx_block.specs.declared.header.Block.{Block}
 use Rattle.sx_block.specs.Decoding.{block_at}

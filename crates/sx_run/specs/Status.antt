@@ -1,7 +1,8 @@
 -- The codes of the answers, and what holds at some of them.
 use Rattle.std.specs.Prelude.{ℕ, Bool, true, false}
 use Rattle.sx_run.specs.declared.status.Status.{Status}
-use Rattle.sx_run.specs.declared.status.Status.TheVariants.{Done, Usage, ReadFault, WriteFault, Malformed, Refused, NoMemory}
+use Rattle.sx_run.specs.declared.status.Status.TheVariants.{Done, Usage, ReadFault, WriteFault, Malformed, Refused}
+use Rattle.sx_run.specs.declared.status.Status.TheVariants.{NoMemory}
 use Rattle.sx_run.specs.declared.stop.Stop.{Stop}
 use Rattle.sx_run.specs.declared.stop.Stop.TheVariants as stop
 

@@ -7,7 +7,10 @@ use Rattle.sx_bytes.specs.declared.fault.FormFault.{FormFault}
 use Rattle.sx_bytes.specs.Fault.{name_of, number_of}
 use Rattle.sx_check.specs.declared.checked.Checked.{Checked}
 use Rattle.sx_check.specs.declared.invalid.Invalid.{Invalid}
-use Rattle.sx_check.specs.declared.invalid.Invalid.TheVariants.{Ended, WrongHeight, WrongParent, WrongBody, WrongAssets, Tx, TwoCancels, TwoNames, Crowded, Overdrawn, Outside, Unbalanced, Slack, NoCut, Rounding, WrongAfter}
+use Rattle.sx_check.specs.declared.invalid.Invalid.TheVariants.{Ended, WrongHeight, WrongParent, WrongBody}
+use Rattle.sx_check.specs.declared.invalid.Invalid.TheVariants.{WrongAssets, Tx, TwoCancels, TwoNames, Crowded}
+use Rattle.sx_check.specs.declared.invalid.Invalid.TheVariants.{Overdrawn, Outside, Unbalanced, Slack, NoCut}
+use Rattle.sx_check.specs.declared.invalid.Invalid.TheVariants.{Rounding, WrongAfter}
 use Rattle.sx_ledger.specs.Static.{number_of_static}
 use Rattle.sx_run.specs.declared.status.Status.{Status}
 use Rattle.sx_run.specs.declared.status.Status.TheVariants as status
@@ -41,7 +44,8 @@ reason_text (Tx index why) =
 reason_text (TwoCancels index) = codes "7 TwoCancels" ++ (codes " index " ++ decimal index)
 reason_text (TwoNames index) = codes "8 TwoNames" ++ (codes " index " ++ decimal index)
 reason_text (Crowded have more limit) =
-    codes "9 Crowded have " ++ (decimal have ++ (codes " more " ++ (decimal more ++ (codes " limit " ++ decimal limit))))
+    codes "9 Crowded have " ++ (decimal have ++
+    (codes " more " ++ (decimal more ++ (codes " limit " ++ decimal limit))))
 reason_text (Overdrawn account asset opening debits) =
     codes "10 Overdrawn account " ++ (decimal account.0 ++ (codes " asset " ++ (decimal asset
     ++ (codes " opening " ++ (decimal opening ++ (codes " debits " ++ decimal debits))))))
@@ -49,12 +53,14 @@ reason_text (Outside sell buy low high y) =
     codes "11 Outside" ++ (pair_text sell buy ++ (codes " low " ++ (decimal low ++ (codes " high " ++ (decimal high
     ++ (codes " y " ++ decimal y))))))
 reason_text (Unbalanced asset out into) =
-    codes "12 Unbalanced asset " ++ (decimal asset ++ (codes " out " ++ (decimal out ++ (codes " into " ++ decimal into))))
+    codes "12 Unbalanced asset " ++
+    (decimal asset ++ (codes " out " ++ (decimal out ++ (codes " into " ++ decimal into))))
 reason_text (Slack sell buy gain y) =
     codes "13 Slack" ++ (pair_text sell buy ++ (codes " gain " ++ (signed_decimal gain ++ (codes " y " ++ decimal y))))
 reason_text (NoCut cut) = codes "14 NoCut cut " ++ encode_lower (big_bytes 4 cut.0)
 reason_text (Rounding asset said real) =
-    codes "15 Rounding asset " ++ (decimal asset ++ (codes " said " ++ (decimal said ++ (codes " real " ++ decimal real))))
+    codes "15 Rounding asset " ++ (decimal asset ++
+    (codes " said " ++ (decimal said ++ (codes " real " ++ decimal real))))
 reason_text (WrongAfter said real) = codes "16 WrongAfter" ++ digests_text said real
 
 -- ---- the line that says how a run ended

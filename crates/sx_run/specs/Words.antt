@@ -28,6 +28,10 @@ AskForWorkers options workers =
 abbrev pub AreCheck : List (String Global) → Type 0
 AreCheck words = texts words ≡ codes "check" ∷ []
 
+-- `interleave`, and nothing more
+abbrev pub AreInterleave : List (String Global) → Type 0
+AreInterleave words = texts words ≡ codes "interleave" ∷ []
+
 -- `replay`, and how many workers
 abbrev pub AreReplayBy : List (String Global) → ℕ → Type 0
 AreReplayBy words workers =
@@ -38,4 +42,4 @@ AreReplay words = (workers : ℕ) × AreReplayBy words workers
 
 -- the words are one of the commands
 abbrev pub AreCommand : List (String Global) → Type 0
-AreCommand words = AreCheck words ⊎ AreReplay words
+AreCommand words = AreCheck words ⊎ AreReplay words ⊎ AreInterleave words

@@ -8,19 +8,23 @@
 //!
 //! `check` tells whether a block is valid for a state, and `replay` runs a chain of blocks from a state
 //! to the state after them. What a block leaves is `ledger_after`: plain sums over the list of
-//! transactions and the list of offers. [`input_laws`] says that one thing is found of an input, and
-//! [`chain_laws`] that a chain of valid blocks makes and loses nothing of any asset.
+//! transactions and the list of offers. `interleave` tells what becomes of candidates where a script says
+//! who makes the next step: `outcomes_of_run`, a function of the state, the candidates and the script.
+//! [`input_laws`] says that one thing is found of an input, and [`chain_laws`] that a chain of valid
+//! blocks makes and loses nothing of any asset.
 //!
 //! Not promised: how long a run takes, that the system runs a thread to its end, that two ledgers of
 //! one digest are the same, and what a source gave or a sink received that tells nothing of its bytes.
 //!
 //! The way of the data: `stream` (bytes to records in their places), `payloads` and `opening` (records
-//! to a state, a block or outcomes), `head` (a block on a ledger), `checking` and `replaying` (the
-//! commands), `running` (output to bytes and status), `text` (answers to lines).
+//! to a state, a block, outcomes, candidates or a script), `head` (a block on a ledger), `checking`,
+//! `replaying` and `interleaving` (the commands), `running` (output to bytes and status), `text` (answers
+//! to lines).
 #![tactic(auto)]
 
 mod checking;
 mod head;
+mod interleaving;
 mod laws;
 mod opening;
 mod payloads;

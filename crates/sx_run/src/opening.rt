@@ -97,3 +97,30 @@ pub fn read_opening<R: Threads, S: Source>(
     let end = found.at + found.payload.items().len() as u64;
     Ok(Opening { head, end })
 }
+
+// A ledger that was read, and the offset after its record.
+#[derive(Debug, Drop)]
+pub struct Beginning {
+    pub ledger: Ledger,
+    pub end: u64,
+}
+
+// The state, which has to be the first record, without its digest.
+pub fn read_ledger<S: Source>(alloc: Global, source: &mut S) -> Result<Beginning, Stop>
+    ensures exact { Reads (λ o. (o.ledger, o.end)) opening_at (S.left source.old) (S.left source.new) result }
+    ensures took { IfOk result (λ o. Took (S.left source.old) (S.left source.new) (state_record o.ledger)) }
+    ensures ledger { IfOk result (λ o. IsLedger o.ledger) }
+    ensures near { IfOk result (λ o. o.end ≤ most_bytes + 5) }
+
+    // The count of faults rises where the answer is ReadFault. At each other answer the count of a
+    // strict source does not change.
+    ensures steady { UnlessReadFault result (IsTrue (S.strict source.old) → S.faults source.new ≡ S.faults source.old) }
+    ensures read_fault { IsErrOf result Stop.ReadFault → Rose (S.faults source.old) (S.faults source.new) }
+    ensures falls_never { S.faults source.old ≤ S.faults source.new }
+    ensures kept { S.strict source.new ≡ S.strict source.old }
+{
+    let found = required(alloc, source, 0, tag::STATE)?;
+    let ledger = ledger_of(alloc, &found)?;
+    let end = found.at + found.payload.items().len() as u64;
+    Ok(Beginning { ledger, end })
+}

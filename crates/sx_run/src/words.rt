@@ -11,6 +11,7 @@ pub enum Command {
     Check,
     // So far the number of workers changes nothing.
     Replay { workers: u32 },
+    Interleave,
 }
 
 // How many workers there are where the words do not say it.
@@ -67,6 +68,7 @@ pub fn command_of(words: &[String]) -> Option<Command>
     let (name, options) = words.split_first()?;
     match name.as_str() {
         "check" if options.is_empty() => Some(Command::Check),
+        "interleave" if options.is_empty() => Some(Command::Interleave),
         "replay" => {
             let workers = workers(options)?;
             Some(Command::Replay { workers })

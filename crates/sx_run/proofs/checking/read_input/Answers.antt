@@ -21,21 +21,27 @@ returns-in_err-opening-clause-exact g c =
 pub returns-in_err-found-clause-exact : goal.returns-in_err-found-clause-exact
 returns-in_err-found-clause-exact g c =
     let p = err_from_is_err_and c.from_residual-in_err-found.result c.from_residual-in_err-found.ensures.1 in
-    rw (p.1, p.2) (no_block view began _ _ c.in_ok-opening.opening c.in_ok-opening.ensures.exact _ c.in_err-found.field-0.0 c.in_err-found.ensures.exact)
+    rw (p.1, p.2) (no_block view began _ _ c.in_ok-opening.opening c.in_ok-opening.ensures.exact _
+    c.in_err-found.field-0.0 c.in_err-found.ensures.exact)
 
 pub returns-in_err-incoming-clause-exact : goal.returns-in_err-incoming-clause-exact
 returns-in_err-incoming-clause-exact g c =
     let p = err_from_is_err_and c.from_residual-in_err-incoming.result c.from_residual-in_err-incoming.ensures.1 in
-    rw (p.1, p.2) (bad_block view began _ _ c.in_ok-opening.opening c.in_ok-opening.ensures.exact _ c.in_ok-found.found c.in_ok-found.ensures.exact c.in_err-incoming.field-0.0 c.in_err-incoming.ensures.exact)
+    rw (p.1, p.2) (bad_block view began _ _ c.in_ok-opening.opening c.in_ok-opening.ensures.exact _
+    c.in_ok-found.found c.in_ok-found.ensures.exact c.in_err-incoming.field-0.0 c.in_err-incoming.ensures.exact)
 
 pub returns-in_err-end-clause-exact : goal.returns-in_err-end-clause-exact
 returns-in_err-end-clause-exact g c =
     let p = err_from_is_err_and c.from_residual-in_err-end.result c.from_residual-in_err-end.ensures.1 in
     let at = ap (λ (xs : List ℕ). c.in_ok-found.found.at + length xs) c.items.ensures in
-    rw (p.1, p.2) (no_end view began _ _ c.in_ok-opening.opening c.in_ok-opening.ensures.exact _ c.in_ok-found.found c.in_ok-found.ensures.exact c.in_ok-incoming.incoming.block c.in_ok-incoming.ensures.exact _ c.in_err-end.field-0.0 (rw at at c.in_err-end.ensures.exact))
+    rw (p.1, p.2) (no_end view began _ _ c.in_ok-opening.opening c.in_ok-opening.ensures.exact _ c.in_ok-found.found
+    c.in_ok-found.ensures.exact c.in_ok-incoming.incoming.block c.in_ok-incoming.ensures.exact _
+    c.in_err-end.field-0.0 (rw at at c.in_err-end.ensures.exact))
 
 pub returns-clause-exact : goal.returns-clause-exact
 returns-clause-exact g c =
     let at = ap (λ (xs : List ℕ). c.in_ok-found.found.at + length xs) c.items.ensures in
     let made : Input = record { head = c.in_ok-opening.opening.head; incoming = c.in_ok-incoming.incoming } in
-    both view began _ _ c.in_ok-opening.opening c.in_ok-opening.ensures.exact _ c.in_ok-found.found c.in_ok-found.ensures.exact c.in_ok-incoming.incoming.block c.in_ok-incoming.ensures.exact _ made (rw at at c.in_ok-end.ensures.exact) refl
+    both view began _ _ c.in_ok-opening.opening c.in_ok-opening.ensures.exact _ c.in_ok-found.found
+    c.in_ok-found.ensures.exact c.in_ok-incoming.incoming.block c.in_ok-incoming.ensures.exact _ made
+    (rw at at c.in_ok-end.ensures.exact) refl

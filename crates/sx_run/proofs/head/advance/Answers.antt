@@ -11,10 +11,12 @@ returns-in_err-close-clause-refused c =
     let p = err_from_is_err_and c.from_residual-in_err-close.result c.from_residual-in_err-close.ensures.1 in
     let real = c.digest_of-digest.ensures.hash ∙ ap sha256 c.bytes.ensures ∙ ap sha256 c.in_ok-state.ensures
     ∙ ap (λ (l : Parts). digest_of_ledger l) c.in_ok-ledger.ensures in
-    rw (p.1, p.2) (refuses c.args.head.ledger c.args.incoming.now.block c.digest_of-digest.result c.in_err-close.field-0.0 c.in_ok-checked.ensures.judged.sound c.in_err-close.ensures.differ real)
+    rw (p.1, p.2) (refuses c.args.head.ledger c.args.incoming.now.block c.digest_of-digest.result
+    c.in_err-close.field-0.0 c.in_ok-checked.ensures.judged.sound c.in_err-close.ensures.differ real)
 
 pub returns-clause-valid : goal.returns-clause-valid
 returns-clause-valid c =
     let real = c.digest_of-digest.ensures.hash ∙ ap sha256 c.bytes.ensures ∙ ap sha256 c.in_ok-state.ensures
     ∙ ap (λ (l : Parts). digest_of_ledger l) c.in_ok-ledger.ensures in
-    closes c.args.head.ledger c.args.incoming.now.block c.digest_of-digest.result c.in_ok-checked.ensures.judged.sound c.in_ok-close.ensures.same real
+    closes c.args.head.ledger c.args.incoming.now.block c.digest_of-digest.result
+    c.in_ok-checked.ensures.judged.sound c.in_ok-close.ensures.same real

@@ -8,4 +8,5 @@ pub stop_in-requires : goal.stop_in-requires
 stop_in-requires c =
     let payload = c.items.result.now in
     let long = ap length c.items.ensures in
-    near _ payload (outcomes_at payload) c.in-Err.error (outcomes_within payload) c.in-Err.ensures.exact (omega (arith, long))
+    near _ payload (outcomes_at payload) c.in-Err.error (outcomes_within payload) c.in-Err.ensures.exact
+    (omega (arith, long))

@@ -7,4 +7,6 @@ returns-in-Ok-None-clause-exact g c =
 
 pub returns-in-Err-Malformed-clause-exact : goal.returns-in-Err-Malformed-clause-exact
 returns-in-Err-Malformed-clause-exact g c =
-    rw c.stop_at-in-Err-Malformed.ensures (more_bytes c.args.at _ _ c.in-Err-Malformed.field-0-0 (rw c.in-Err-Malformed.field-0-is at c.in-Err-Malformed.ensures.exact))
+    rw c.stop_at-in-Err-Malformed.ensures
+    (more_bytes c.args.at _ _ c.in-Err-Malformed.field-0-0
+    (rw c.in-Err-Malformed.field-0-is at c.in-Err-Malformed.ensures.exact))

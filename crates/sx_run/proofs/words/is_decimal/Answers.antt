@@ -9,7 +9,8 @@ pub returns-then-number-lt10 : goal.returns-then-number-lt10
 returns-then-number-lt10 c =
     let decides = slice_eq-Decides Decides-eqb c.args.digits.now c.as_slice.result.now c.eq.result c.eq.ensures in
     let small : c.args.number % 10 ≡ c.args.number = omega (arith, c.if-number-lt10.true) in
-    let is = c.as_slice.ensures ∙ ap (λ (d : ℕ). (48 + d) ∷ []) small ∙ sym (decimal_digit c.args.number c.if-number-lt10.true) in
+    let is = c.as_slice.ensures ∙ ap (λ (d : ℕ). (48 + d) ∷ []) small ∙
+    sym (decimal_digit c.args.number c.if-number-lt10.true) in
     (λ t. decides.0 t ∙ is, λ e. decides.1 (e ∙ sym is))
 
 pub returns : goal.returns

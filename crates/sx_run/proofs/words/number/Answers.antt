@@ -18,7 +18,9 @@ goes_on digits n none not m may before e =
 
 pub loop-workers-preserved : goal.loop-workers-preserved
 loop-workers-preserved c =
-    goes_on c.args.digits.now c.loop-workers.workers c.loop-workers.invariant (λ e. let t = c.if-is_decimal.ensures.1 e in cc)
+    goes_on c.args.digits.now c.loop-workers.workers c.loop-workers.invariant
+    (λ e. let t = c.if-is_decimal.ensures.1 e in cc)
 
 pub returns-clause-none : goal.returns-clause-none
-returns-clause-none c = λ workers may e. c.loop-workers.invariant workers may (omega (arith, may.1, c.loop-workers-test.false)) e
+returns-clause-none c = λ workers may e. c.loop-workers.invariant workers may
+    (omega (arith, may.1, c.loop-workers-test.false)) e
