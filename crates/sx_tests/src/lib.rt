@@ -10,6 +10,10 @@ mod chain;
 #[cfg(test)]
 mod chains;
 #[cfg(test)]
+mod dropped;
+#[cfg(test)]
+mod long;
+#[cfg(test)]
 mod payment;
 #[cfg(test)]
 mod recovering;

@@ -1,0 +1,186 @@
+//! A block that drops its lower bounds, worked out by hand: what is told of it once a byte is changed, and
+//! what it leaves.
+
+ghost use Rattle.std.specs.Prelude.{IfSome};
+ghost use Rattle.sx_block.specs.Block.{IsBlock};
+ghost use Rattle.sx_block.specs.Validity.{IsValid};
+
+use std::alloc::Global;
+use std::test::Fail;
+use sx_apply::{apply_body, apply_laws, trade};
+use sx_base::AssetId;
+use sx_block::{Block, read_block};
+use sx_check::{CheckFault, Checked, check};
+use sx_ledger::{Ledger, read_state};
+
+// Two assets at 3 to 2. Account 1 has 5 units of the first, account 2 has 8 of the second.
+#[rattlefmt::skip]
+fn state() -> [u8; 114] {
+    [
+        1,
+        0, 0, 0, 0, 0, 0, 0, 0,
+        2,
+        0, 0, 0, 0, 0, 48, 0, 0, 0, 0, 0, 0, 0, 32, 0, 0,
+        0, 0, 0, 0, 0, 0, 0, 0, 0, 0, 0, 0, 0, 0, 0, 0,
+        0, 0, 0, 2,
+        0, 0, 0, 0, 0, 0, 0, 1, 0, 0, 0, 0, 0, 0, 0, 0,
+        0, 0, 0, 0, 0, 0, 0, 5, 0, 0, 0, 0, 0, 0, 0, 0,
+        0, 0, 0, 0, 0, 0, 0, 2, 0, 0, 0, 0, 0, 0, 0, 0,
+        0, 0, 0, 0, 0, 0, 0, 0, 0, 0, 0, 0, 0, 0, 0, 8,
+        0, 0, 0, 0,
+    ]
+}
+
+// The block of height 1 in which both accounts offer all that they have. The lower bounds, 15 and 16
+// in units of 2^-4, cannot both be kept: 15 trades each way, and the cut is the first asset alone.
+#[rattlefmt::skip]
+fn payload() -> [u8; 264] {
+    [
+        1,
+        0, 0, 0, 0, 0, 0, 0, 1,
+        116, 169, 200, 81, 185, 204, 176, 109, 118, 228, 135, 70, 56, 22, 40, 216,
+        189, 147, 15, 242, 192, 120, 236, 64, 48, 112, 181, 167, 186, 121, 164, 33,
+        131, 92, 206, 46, 192, 181, 139, 229, 253, 220, 244, 252, 221, 193, 255, 146,
+        120, 116, 157, 242, 104, 63, 184, 63, 243, 197, 229, 69, 44, 24, 106, 117,
+        10,
+        2,
+        0, 0, 0, 0, 0, 48, 0, 0,
+        0, 0, 0, 0, 0, 32, 0, 0,
+        0, 2,
+        0, 1, 0, 0, 0, 0, 0, 0, 0, 0, 0, 0, 0, 0, 0, 240,
+        0, 0,
+        1, 0, 0, 0, 0, 0, 0, 0, 0, 0, 0, 0, 0, 0, 0, 240,
+        0, 0,
+        1,
+        0, 0, 0, 1,
+        0, 0, 0, 1, 0, 0, 0, 0,
+        0, 0, 0, 0, 0, 0, 0, 0, 0, 0, 0, 0, 0, 0, 0, 1,
+        188, 86, 53, 101, 120, 213, 86, 195, 14, 59, 50, 27, 24, 0, 166, 107,
+        88, 40, 182, 98, 130, 140, 241, 152, 83, 20, 35, 79, 246, 38, 254, 190,
+        0, 0, 0, 2,
+        0, 0, 0, 0, 0, 0, 0, 1, 0, 0, 0, 0, 0, 0, 0, 1,
+        3, 0, 1, 0, 0, 0, 0, 0, 64, 0, 0, 0, 0, 0, 0, 0,
+        0, 0, 5,
+        0, 0, 0, 0, 0, 0, 0, 2, 0, 0, 0, 0, 0, 0, 0, 1,
+        3, 1, 0, 0, 0, 0, 0, 0, 64, 0, 0, 0, 0, 0, 0, 0,
+        0, 0, 8,
+    ]
+}
+
+fn opening(alloc: Global) -> Option<Ledger> {
+    read_state(alloc, state().as_slice()).ok()
+}
+
+// The block once the byte at a place is this one.
+fn block_with(alloc: Global, place: usize, byte: u8) -> Option<Block>
+    ensures { IfSome result IsBlock }
+{
+    let mut bytes = payload();
+    *bytes.get_mut(place)? = byte;
+    read_block(alloc, bytes.as_slice()).ok()
+}
+
+// What is told of a block: the number of the reason, or 0 where it is valid.
+fn verdict(alloc: Global, ledger: &Ledger, block: &Block) -> Option<u8>
+    requires { IsBlock block.now }
+{
+    match check(alloc, ledger, block) {
+        Ok(_) => Some(0),
+        Err(CheckFault::Invalid(why)) => Some(why.number()),
+        Err(CheckFault::NoMemory) => None,
+    }
+}
+
+fn told(alloc: Global, place: usize, byte: u8) -> Option<u8> {
+    let ledger = opening(alloc)?;
+    let block = block_with(alloc, place, byte)?;
+    verdict(alloc, &ledger, &block)
+}
+
+#[test]
+fn the_first_faults_of_a_block(rt: HostRuntime) {
+    // The version, the height, the two digests, the value that each pair trades, a potential, the cut, a
+    // rounding, and the digest of the ledger that is left.
+    for (place, byte, number) in [
+        (0, 1, 0),
+        (8, 2, 2),
+        (9, 0, 3),
+        (41, 0, 4),
+        (108, 241, 11),
+        (126, 239, 12),
+        (137, 0, 13),
+        (133, 2, 14),
+        (157, 0, 15),
+        (158, 0, 16),
+    ] {
+        assert_eq!(rt; told(rt.alloc(), place, byte), Some(number), "byte {place}");
+    }
+}
+
+// Whether this is what is told of the block as it is.
+fn is_told(alloc: Global, wanted: &Checked) -> Option<bool> {
+    let ledger = opening(alloc)?;
+    let block = block_with(alloc, 0, 1)?;
+    match check(alloc, &ledger, &block) {
+        Ok(checked) => Some(checked == *wanted),
+        Err(_) => None,
+    }
+}
+
+#[test]
+fn a_valid_block_without_its_bounds(rt: HostRuntime) {
+    let wanted = Checked {
+        height: 1,
+        value: 31_457_280,
+        dropped: true,
+    };
+    assert_eq!(rt; is_told(rt.alloc(), &wanted), Some(true));
+}
+
+// The ledger after the transactions of a block and after its trade, one after the other.
+fn applied(alloc: Global, ledger: &Ledger, block: &Block) -> Option<Ledger>
+    requires { IsValid ledger.now block.now }
+{
+    apply_laws();
+    let after_body = apply_body(alloc, ledger, block.txs.items()).ok()?;
+    trade(alloc, after_body, &block.header).ok()
+}
+
+// The same, where the block is valid.
+fn left(alloc: Global, ledger: &Ledger, block: &Block) -> Option<Ledger>
+    requires { IsBlock block.now }
+{
+    match check(alloc, ledger, block) {
+        Ok(_) => applied(alloc, ledger, block),
+        Err(_) => None,
+    }
+}
+
+// Both balances of an asset, and what is kept of it by rounding.
+fn numbers(ledger: &Ledger, asset: AssetId) -> Option<[u64; 3]> {
+    if u32::from(asset.get()) >= ledger.assets() || ledger.accounts() != 2 {
+        return None;
+    }
+    Some([
+        ledger.balance(0, asset),
+        ledger.balance(1, asset),
+        ledger.rounding(asset),
+    ])
+}
+
+fn numbers_after(alloc: Global, asset: AssetId) -> Option<[u64; 3]> {
+    let ledger = opening(alloc)?;
+    let block = block_with(alloc, 0, 1)?;
+    let after = left(alloc, &ledger, &block)?;
+    numbers(&after, asset)
+}
+
+// 15 halves are 7 units and a half: account 1 gets 7 for its 5 units, and account 2 gives 8 for them.
+#[test]
+fn what_a_block_leaves(rt: HostRuntime) -> Result<(), Fail> {
+    let first = numbers_after(rt.alloc(), AssetId::new(0)?);
+    assert_eq!(rt; first, Some([0, 5, 0]));
+    let second = numbers_after(rt.alloc(), AssetId::new(1)?);
+    assert_eq!(rt; second, Some([7, 0, 1]));
+    Ok(())
+}
