@@ -3,13 +3,15 @@
     python3 bench/blocks.py KIND FOLDER
 
 writes FOLDER/input, the records of a state and of its blocks; FOLDER/after, the record of the state after the last
-one; and FOLDER/line, what `check` prints of the block where there is one. The kinds:
+one; and FOLDER/line, what `check` prints of the block where there is one. For a script it writes FOLDER/input, the
+records of a state, of candidates and of the script, and FOLDER/outcomes, the record of the outcomes. The kinds:
 
     payments   1,000,000 payments among 65,536 accounts of one asset
     resting    no transactions, on 262,144 offers of 32 assets that all rest
     mixed      200,000 transactions of all kinds on 200,000 offers of 8 assets, with trades in every pair
     trading    no transactions, on 262,144 offers of 32 assets, of which half trade, in every pair
     chain      1,000 blocks of 1,000 payments each on 10,000 accounts
+    script     no block: 250,000 payments on 65,536 accounts, and 700,000 turns of 8 actors
 
 It is written apart from the program, from docs/FORMATS.md and docs/RULES.md, and nothing of it is proved. Offers
 trade in full or not at all here: in each pair those that may trade are worth as much as those of the opposite pair,
@@ -251,6 +253,74 @@ def sparse_payments_on(ledger, draw, count):
     return txs
 
 
+def candidates_on(ledger, draw, count):
+    """Payments in no order. Some numbers are used twice or out of the window, some payees are not there, and some
+    payments are above what is left."""
+    ids, txs = sorted(ledger.accounts), []
+    for _ in range(count):
+        to = draw.choice(ids) + (draw.random() < 0.01)
+        txs.append((draw.choice(ids), draw.randint(1, 65), PAY, to, 0, draw.randint(1, 500_000)))
+    return txs
+
+
+class Actor:
+    """One actor of a script, with its candidates; `seen` is what it saw last of a balance, where it looked."""
+
+    def __init__(self, txs):
+        self.txs, self.outcomes, self.claimed, self.seen = txs, [], False, None
+
+    def decide(self, outcome):
+        self.outcomes.append(outcome)
+        self.claimed, self.seen = False, None
+
+    def turn(self, ledger, purses, numbers):
+        """One event. Answers whether there was anything left to do."""
+        while len(self.outcomes) < len(self.txs):
+            account, seq, _, to, _, need = self.txs[len(self.outcomes)]
+            if seq <= 64 and to in ledger.accounts:
+                break
+            self.outcomes.append(bytes([1, 3 if seq > 64 else 6]))
+        else:
+            return False
+        if not self.claimed:
+            self.claimed = (account, seq) not in numbers
+            numbers.add((account, seq))
+            if not self.claimed:
+                self.decide(b"\2")
+        elif self.seen is not None and purses[account] == self.seen:
+            purses[account] -= need
+            self.decide(b"\0")
+        else:
+            self.seen = purses[account]
+            if self.seen < need:
+                self.decide(struct.pack(">BQQ", 5, self.seen, need))
+        return True
+
+
+def outcomes_of(ledger, txs, actors, turns):
+    """The outcomes of the candidates, which are payments of one asset, where the actors take these turns."""
+    purses, numbers = {id: balances[0] for id, (_, balances) in ledger.accounts.items()}, set()
+    parts = [Actor(txs[len(txs) * k // actors : len(txs) * (k + 1) // actors]) for k in range(actors)]
+    for name in turns:
+        parts[name].turn(ledger, purses, numbers)
+    for part in parts:
+        while part.turn(ledger, purses, numbers):
+            pass
+    return [outcome for part in parts for outcome in part.outcomes]
+
+
+def write_script(draw, folder):
+    ledger = with_accounts([ONE], draw, 65_536, 1_000_000)
+    txs = candidates_on(ledger, draw, 250_000)
+    turns = bytes(draw.randrange(8) for _ in range(700_000))
+    pack = struct.Struct(FIELDS[PAY]).pack
+    candidates = struct.pack(">I", len(txs)) + b"".join(pack(*tx) for tx in txs)
+    script = struct.pack(">BI", 8, len(turns)) + turns
+    (folder / "input").write_bytes(ledger.record() + record(2, candidates) + record(5, script))
+    outcomes = outcomes_of(ledger, txs, 8, turns)
+    (folder / "outcomes").write_bytes(record(4, struct.pack(">I", len(outcomes)) + b"".join(outcomes)))
+
+
 KINDS = {
     "payments": payments,
     "resting": lambda draw: offers_on(draw, False),
@@ -261,9 +331,11 @@ KINDS = {
 
 
 def main():
-    if len(sys.argv) != 3 or sys.argv[1] not in KINDS:
-        sys.exit("usage: python3 bench/blocks.py payments|resting|mixed|trading|chain FOLDER")
+    if len(sys.argv) != 3 or sys.argv[1] not in (*KINDS, "script"):
+        sys.exit("usage: python3 bench/blocks.py payments|resting|mixed|trading|chain|script FOLDER")
     folder = pathlib.Path(sys.argv[2])
+    if sys.argv[1] == "script":
+        return write_script(random.Random(1), folder)
     ledger, bodies = KINDS[sys.argv[1]](random.Random(1))
     with open(folder / "input", "wb") as out:
         out.write(ledger.record())
