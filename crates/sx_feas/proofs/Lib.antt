@@ -1,0 +1,7 @@
+pub mod Grids
+pub mod Balances
+pub mod Cuts
+pub mod Shaping
+pub mod Filling
+pub mod Marking
+pub mod Two

@@ -1,0 +1,2 @@
+pub mod Feas
+pub mod Shape

@@ -1,0 +1,70 @@
+//! Pushes of what an asset is bought too much to an asset that is bought too little.
+
+ghost use Rattle.std.specs.Prelude.{◌≡◌, ◌≢◌, ◌+◌, ◌<◌, ◌≤◌, ◌^◌, [], length, All};
+ghost use Rattle.sx_net.specs.Arcs.{left_of, IsOpen};
+ghost use Rattle.sx_net.specs.Paths.{IsPath, Reaches};
+ghost use Rattle.sx_feas.specs.Shape.{IsShaped, Moves, bought_now, sold_now};
+
+use crate::totals::{shortage, surplus};
+use std::sync::ledger::Ledger;
+use sx_dual::Bounds;
+use sx_net::{Net, Steps};
+
+// What each arc of the kept path has left at least.
+fn bottleneck(net: &Net) -> u128
+    requires within { All (λ a. a < length net.now.arcs) net.now.path }
+    requires some { All (λ a. 1 ≤ left_of net.now.arcs a) net.now.path }
+    ensures enough { All (λ a. result ≤ left_of net.now.arcs a) net.now.path }
+    ensures some { 1 ≤ result }
+{
+    let mut least = u128::MAX;
+    for arc in net.path() {
+        least = least.min(net.left(*arc));
+    }
+    least
+}
+
+// Finds a path where there is one.
+fn find_path<L: Ledger>(net: &mut Net, from: u32, to: u32, steps: &mut Steps<L>)
+    requires from { from < net.old.nodes }
+    requires to { to < net.old.nodes }
+    requires apart { from ≢ to }
+    requires reaches { Reaches net.old.arcs 1 from to }
+    ensures nodes { net.new.nodes ≡ net.old.nodes }
+    ensures arcs { net.new.arcs ≡ net.old.arcs }
+    ensures path { IsPath net.new.arcs from net.new.path to }
+    ensures passable { All (IsOpen net.new.arcs 1) net.new.path }
+    ensures kept { net.new.path ≢ [] }
+{
+    net.search(from, to, 1, steps);
+}
+
+// Pushes from an asset with a surplus to one with a shortage as much as both and a path between them
+// take, and answers how much that is.
+pub fn relieve<L: Ledger>(
+    bounds: &Bounds,
+    net: &mut Net,
+    from: u32,
+    to: u32,
+    steps: &mut Steps<L>,
+) -> u128
+    requires nodes { net.old.nodes ≡ bounds.now.assets + 1 }
+    requires shaped { IsShaped bounds.now net.old.arcs }
+    requires from { from < bounds.now.assets }
+    requires to { to < bounds.now.assets }
+    requires reaches { Reaches net.old.arcs 1 from to }
+    requires surplus { sold_now bounds.now net.old.arcs from < bought_now bounds.now net.old.arcs from }
+    requires shortage { bought_now bounds.now net.old.arcs to < sold_now bounds.now net.old.arcs to }
+    ensures nodes { net.new.nodes ≡ bounds.now.assets + 1 }
+    ensures shaped { IsShaped bounds.now net.new.arcs }
+    ensures some { 1 ≤ result }
+    ensures within_surplus { result + sold_now bounds.now net.old.arcs from ≤ bought_now bounds.now net.old.arcs from }
+    ensures within_shortage { result + bought_now bounds.now net.old.arcs to ≤ sold_now bounds.now net.old.arcs to }
+    ensures moved { Moves bounds.now net.old.arcs net.new.arcs from to result }
+{
+    find_path(net, from, to, steps);
+    let most = surplus(bounds, net, from).min(shortage(bounds, net, to));
+    let amount = most.min(bottleneck(net));
+    net.push(amount);
+    amount
+}
