@@ -1,0 +1,9 @@
+pub mod Pigeonhole
+pub mod RaisedSums
+pub mod Moving
+pub mod Writing
+pub mod Rounds
+pub mod Labelling
+pub mod Passes
+pub mod WrittenBack
+pub mod Ending
