@@ -4,8 +4,8 @@ use std::rt::Clock;
 use std::time::Instant;
 use sx_bytes::Writer;
 
-// How many times the call is run. The least time counts.
-const ROUNDS: u32 = 5;
+/// How many times a call is run. The least time counts.
+pub const ROUNDS: u32 = 5;
 
 /// A call that reads an input and writes something.
 pub trait Benchmark {

@@ -1,6 +1,6 @@
 //! Values drawn from a generator, so that each run has the same input.
 
-ghost use Rattle.std.specs.Prelude.{◌+◌, ◌^◌, ◌<◌, ◌≤◌};
+ghost use Rattle.std.specs.Prelude.{◌+◌, ◌^◌, ◌<◌, ◌≤◌, IfOk};
 
 use anyhow::Result;
 use rand_core::{Rng, SeedableRng};
@@ -33,7 +33,9 @@ pub fn draw_limit(generator: &mut Xoshiro256PlusPlus) -> Result<Limit> {
 }
 
 /// An amount small enough for any number of them to be within a total.
-pub fn draw_amount(generator: &mut Xoshiro256PlusPlus) -> Result<Amount> {
+pub fn draw_amount(generator: &mut Xoshiro256PlusPlus) -> Result<Amount>
+    ensures { IfOk result (λ amount. amount ≤ 2 ^ 40) }
+{
     Ok(Amount::new(draw(generator, 1, 1 << 40))?)
 }
 

@@ -12,7 +12,10 @@ mod benchmark;
 mod candidates;
 mod digest;
 mod drawing;
+mod quotes;
 mod report;
+mod search;
+mod shard;
 mod state;
 
 use anyhow::{Context, Result, bail};
@@ -31,8 +34,12 @@ struct Request {
     wants_input: bool,
 }
 
+fn number_of(word: &str) -> Result<u32> {
+    Ok(word.parse::<u32>().context("a number")?)
+}
+
 fn request_of(size: &str, rest: &[String]) -> Result<Request> {
-    let size = size.parse::<u32>().context("the size")?;
+    let size = number_of(size)?;
     match rest {
         [] => Ok(Request {
             size,
@@ -61,7 +68,9 @@ fn serve(rt: &HostRuntime, name: &str, request: Request, benchmark: &impl Benchm
         return Ok(());
     }
     let nanoseconds = time(rt, benchmark)?;
-    report::print(rt, name, request.size, benchmark.bytes().len(), nanoseconds)?;
+    let title = format!(in rt.alloc(); "{name} {}", request.size)?;
+    let bytes = benchmark.bytes().len() as u64;
+    report::print(rt, &title, nanoseconds, bytes, "bytes")?;
     Ok(())
 }
 
@@ -72,7 +81,15 @@ fn main(rt: HostRuntime) -> Result<()> {
             println!(rt; "{} SIZE: {}", candidates::NAME, candidates::WHAT)?;
             println!(rt; "{} SIZE: {}", state::NAME, state::WHAT)?;
             println!(rt; "{} SIZE: {}", digest::NAME, digest::WHAT)?;
+            println!(rt; "{} THREADS PURSES: {}", shard::NAME, shard::WHAT)?;
+            println!(rt; "{} SIZE ASSETS: {}", search::NAME, search::WHAT)?;
             Ok(())
+        }
+        [name, threads, purses] if name.as_str() == shard::NAME => {
+            shard::measure(&rt, number_of(threads)?, number_of(purses)?)
+        }
+        [name, size, assets] if name.as_str() == search::NAME => {
+            search::measure(&rt, number_of(size)?, number_of(assets)?)
         }
         [name, size, rest @ ..] if name.as_str() == candidates::NAME => {
             let request = request_of(size, rest)?;

@@ -3,16 +3,16 @@ use std::io;
 // Nanoseconds of a second.
 const SECOND: u128 = 1_000_000_000;
 
-/// Prints one line: the name, the size, the seconds with six decimals, and the bytes a second.
+/// Prints one line: the title, the seconds with six decimals, and how many of a unit a second that is.
 pub fn print(
     rt: &impl Print,
-    name: &str,
-    size: u32,
-    bytes: usize,
+    title: &str,
     nanoseconds: u128,
+    count: u64,
+    unit: &str,
 ) -> io::Result<()> {
     let seconds = nanoseconds / SECOND;
     let micros = nanoseconds % SECOND / 1000;
-    let speed = bytes as u128 * SECOND / nanoseconds.max(1);
-    println!(rt; "{name} {size} {seconds}.{micros:06} s {speed} bytes/s")
+    let speed = u128::from(count) * SECOND / nanoseconds.max(1);
+    println!(rt; "{title} {seconds}.{micros:06} s {speed} {unit}/s")
 }
