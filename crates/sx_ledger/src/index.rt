@@ -16,7 +16,7 @@ use sx_bytes::NoMemory;
 /// The ids of accounts, side by side to be searched fast. Contracts see the list.
 ///
 /// Ids that are equal after a shift to the right are one bucket, and where each bucket begins is in a
-/// list of its own, which has an eighth to a quarter of the length of the list of ids where there are
+/// list of its own, which has a half to the whole of the length of the list of ids where there are
 /// many: a search looks through one bucket alone.
 #[derive(Debug, Drop)]
 pub struct AccountIndex {
@@ -99,7 +99,7 @@ fn with_buckets(alloc: Global, entries: Vec<u64>) -> Result<AccountIndex, NoMemo
     ensures { IfOk result (λ index. index ≡ entries.items) }
 {
     let greatest = greatest_of(&entries);
-    let shift = shift_of(greatest, entries.len() as u64 / 8 + 1);
+    let shift = shift_of(greatest, entries.len() as u64 / 2 + 1);
     let begins = begins_of(alloc, &entries, shift, (greatest >> shift) + 1)?;
     Ok(AccountIndex {
         entries,
