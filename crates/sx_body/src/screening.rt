@@ -5,7 +5,7 @@ ghost use Rattle.sx_body.specs.declared.screening.ScreenFault.TheVariants as scr
 ghost use Rattle.sx_body.specs.Credits.{HasCredits};
 ghost use Rattle.sx_body.specs.Refusal.{IsScreenFault};
 ghost use Rattle.sx_ledger.specs.Static.{static_of};
-ghost use Rattle.sx_tx.specs.Transactions.{most_transactions};
+ghost use Rattle.sx_tx.specs.Transactions.{IsTx, most_transactions};
 
 use crate::credits::Credits;
 use std::alloc::Global;
@@ -41,6 +41,7 @@ pub fn screen(alloc: Global, ledger: &Ledger, txs: &[Tx]) -> Result<Credits, Scr
     requires few { length txs.now ≤ most_transactions }
     ensures credits { IfOk result (HasCredits ledger.now txs.now) }
     ensures passes { OnOk result (All (λ tx. static_of ledger.now tx ≡ Ok tt) txs.now) }
+    ensures in_range { OnOk result (All IsTx txs.now) }
     ensures refused { IfErr result (IsScreenFault ledger.now txs.now) }
 {
     let index = ledger.index()?;

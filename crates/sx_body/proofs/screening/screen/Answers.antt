@@ -47,3 +47,7 @@ pub returns-clause-passes : goal.returns-clause-passes
 returns-clause-passes c =
     subst (All (λ tx. static_of c.args.ledger.now tx ≡ Ok tt))
     (take_all c.loop-at.at c.args.txs.now (omega arith)) c.loop-at.invariant.passed
+
+pub returns-clause-in_range : goal.returns-clause-in_range
+returns-clause-in_range c =
+    subst (All IsTx) (take_all c.loop-at.at c.args.txs.now (omega arith)) c.loop-at.invariant.in_range
