@@ -1,25 +1,24 @@
 -- The outcomes of a script can be encoded: there is at most one for each candidate, and each has its form.
 use Rattle.std.proofs.Common.{◌≡◌, ℕ, zero, suc, ◌+◌, ◌-◌, ◌*◌, ◌/◌, ◌<◌, ◌≤◌, true, false, cond, ltb, List, [], ◌∷◌}
-use Rattle.std.proofs.Common.{◌++◌, length, map, take, drop, refl, sym, ap, subst, arith}
+use Rattle.std.proofs.Common.{length, map, take, drop, refl, ap, arith}
 use Rattle.std.specs.List.{All, flat_map, range_with_len, slice_range, sum_by}
 use Rattle.std.proofs.Math.Nat.{div-le_of_le-mul, div-mul-le_self, mul-le-mul_left, mul_comm}
 use Rattle.std.proofs.lemmas.Bool.{ltb-true}
 use Rattle.std.proofs.lemmas.List.Concat.{length-flat_map}
-use Rattle.std.proofs.lemmas.List.Elements.{All-append, All-drop, All-from_recursion, All-get_or, All-map, All-set}
+use Rattle.std.proofs.lemmas.List.Elements.{All-append, All-drop, All-from_recursion, All-get_or, All-set}
 use Rattle.std.proofs.lemmas.List.Elements.{All-take, recursion_from_All}
 use Rattle.std.proofs.lemmas.List.Sums.{sum_by-cons, sum_by-set}
 use Rattle.std.proofs.lemmas.Nat.{le-div}
-use Rattle.sx_layout.specs.declared.outcome.Outcome.{Outcome}
 use Rattle.sx_layout.specs.Actors.{Actor, actor_of, all_starting, beginning, part_begin, starting, working}
-use Rattle.sx_layout.specs.Outcomes.{AreOutcomes, IsOutcome}
+use Rattle.sx_layout.specs.Outcomes.{IsOutcome}
 use Rattle.sx_layout.specs.Plan.{Plan, plan_of}
 use Rattle.sx_layout.specs.RunForm.{OutcomesKeepForm}
 use Rattle.sx_layout.specs.Running.{Run, acted, after_own, after_turns, all_to_end, closing_run, opening_run, own_turn}
-use Rattle.sx_layout.specs.Running.{outcomes_of_run, to_end, turn}
-use Rattle.sx_layout.proofs.ActorForm.{ActorForm, HasForm, acted_form, all_nil, begins, weight}
+use Rattle.sx_layout.specs.Running.{turn}
+use Rattle.sx_layout.proofs.ActorForm.{ActorForm, acted_form, all_nil, begins, weight}
 use Rattle.sx_ledger.specs.declared.parts.Parts.{Parts}
 use Rattle.sx_tx.specs.declared.tx.Tx.{Tx}
-use Rattle.sx_tx.specs.Transactions.{IsTx, IsTxList}
+use Rattle.sx_tx.specs.Transactions.{IsTx}
 
 -- all actors have their form, and together no more candidates than this
 record RunForm (most : ℕ) (run : Run) : Type 0 where

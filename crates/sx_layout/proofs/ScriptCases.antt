@@ -1,11 +1,9 @@
 -- Runs of a script that are worked out by hand.
-use Rattle.std.proofs.Common.{◌≡◌, ◌-◌, ◌^◌, ℕ, List, [], ◌∷◌, refl}
-use Rattle.sx_layout.specs.declared.outcome.Outcome.{Outcome}
+use Rattle.std.proofs.Common.{◌≡◌, ◌^◌, ℕ, [], ◌∷◌, refl}
 use Rattle.sx_layout.specs.declared.outcome.Outcome.TheVariants as outcome
 use Rattle.sx_layout.specs.Running.{outcomes_of_run}
 use Rattle.sx_ledger.specs.declared.account.Account.{Account}
 use Rattle.sx_ledger.specs.declared.parts.Parts.{Parts}
-use Rattle.sx_tx.specs.declared.kind.Kind.{Kind}
 use Rattle.sx_tx.specs.declared.kind.Kind.TheVariants as kind
 use Rattle.sx_tx.specs.declared.tx.Tx.{Tx}
 

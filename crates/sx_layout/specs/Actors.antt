@@ -1,7 +1,7 @@
 -- The actors of a script, each with a part of the candidates and a view of its own.
 use Rattle.std.specs.Prelude.{ℕ, zero, suc, ◌+◌, ◌*◌, ◌/◌, List, [], length, map, max, min, slice_index_or}
 use Rattle.std.specs.List.{range_with_len, slice_range}
-use Rattle.sx_event.specs.declared.event.Event.TheVariants.{Split, Join}
+use Rattle.sx_event.specs.declared.event.Event.TheVariants.{Split}
 use Rattle.sx_event.specs.State.{State}
 use Rattle.sx_event.specs.Step.{stepped}
 use Rattle.sx_layout.specs.declared.outcome.Outcome.{Outcome}
@@ -47,8 +47,3 @@ actor_of actors name = slice_index_or actors name (beginning [] [])
 abbrev pub after_splits : ℕ → ℕ → ℕ → State → State
 after_splits count n zero state = state
 after_splits count n (suc k) state = stepped (after_splits count n k state) k (Split (part_begin count n (k + 1)))
-
--- after this many joins, each of the next view into the first
-abbrev pub after_joins : ℕ → State → State
-after_joins zero state = state
-after_joins (suc k) state = stepped (after_joins k state) 0 (Join (suc k))

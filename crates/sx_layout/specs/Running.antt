@@ -11,7 +11,7 @@ use Rattle.sx_layout.specs.declared.stage.Next.{Next}
 use Rattle.sx_layout.specs.declared.stage.Next.TheVariants.{On, Decided}
 use Rattle.sx_layout.specs.declared.stage.Stage.{Stage}
 use Rattle.sx_layout.specs.declared.stage.Stage.TheVariants as stage
-use Rattle.sx_layout.specs.Actors.{Actor, beginning, working, all_starting, actor_of, after_splits, after_joins}
+use Rattle.sx_layout.specs.Actors.{Actor, beginning, working, all_starting, actor_of, after_splits}
 use Rattle.sx_layout.specs.Deciding.{next_event, what_follows}
 use Rattle.sx_layout.specs.Plan.{Plan, plan_of, words_of}
 use Rattle.sx_ledger.specs.declared.parts.Parts.{Parts}
@@ -107,11 +107,6 @@ closing_run parts candidates actors turns =
     let plan = plan_of parts candidates 1 in
     let n = working actors (length candidates) in
     all_to_end parts plan n (after_turns parts plan turns (opening_run parts plan candidates n))
-
--- the words at the end, and the one view, into which all others are joined
-abbrev pub closing_state : Parts → List Tx → ℕ → List ℕ → State
-closing_state parts candidates actors turns =
-    after_joins (working actors (length candidates) - 1) (closing_run parts candidates actors turns).state
 
 -- the outcomes, in the order of the candidates
 abbrev pub outcomes_of_run : Parts → List Tx → ℕ → List ℕ → List Outcome

@@ -1,5 +1,6 @@
-//! What gathering tells and is told: the outcomes of candidates, scripts of who makes the next step,
-//! whether a ledger has room for all that candidates ask for, and which words it works on.
+//! What gathering tells and is told: the outcomes of candidates, scripts of who makes the next step and
+//! what they make of candidates, whether a ledger has room for all that candidates ask for, and which
+//! words it works on.
 //!
 //! An [`Outcome`] says what became of one candidate: accepted, or why not. [`read_outcomes`] answers a
 //! list of them exactly where a payload is its encoding, and else the first fault from left to right;
@@ -20,7 +21,13 @@
 //! words, these claims and the opening words add up, and each refusal is one that the closing words
 //! show, the outcomes are those of a gathering. It speaks of lists alone, whoever made the steps.
 //!
-//! Not here: who decides which candidate, and when.
+//! [`run_script`] gathers candidates by 1 to 8 actors that take turns as a script says, on one thread.
+//! `specs/Running` says what each turn does and what is left to do after the last one, and the outcomes
+//! are exactly those. [`gathering_law`] says that they are those of a gathering, whatever the actors and
+//! the order of their turns, and [`run_laws`] that they can be encoded.
+//!
+//! Not here: actors that run at the same time. Nothing says which of two candidates that exclude each
+//! other is accepted.
 #![tactic(auto)]
 
 mod acting;
@@ -56,10 +63,3 @@ pub use script_reading::read_script;
 pub use script_writing::write_script;
 pub use space::{NoRoom, room};
 pub use spot::Spot;
-
-#[cfg(test)]
-mod layout_tests;
-#[cfg(test)]
-mod running_tests;
-#[cfg(test)]
-mod tests;

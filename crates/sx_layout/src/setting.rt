@@ -190,12 +190,12 @@ impl<'a> Setting<'a> {
         }
     }
 
-    /// The core before the first step, with one view, which has all of so many candidates. It may answer
-    /// `NoMemory`.
+    /// The core before the first step, with one view, which has all of so many candidates, and memory for
+    /// a step for each of them. It may answer `NoMemory`.
     pub fn start(&self, alloc: Global, count: u32) -> Result<Core, NoMemory>
         ensures { IfOk result (λ core. core.state ≡ begun (words_of self.now.plan.purses 0) (words_of self.now.plan.bits 0) count) }
     {
         let purses = self.layout.opening_purses(0);
-        Core::start(alloc, purses, self.layout.opening_bits(0), count, 0)
+        Core::start(alloc, purses, self.layout.opening_bits(0), count, count)
     }
 }

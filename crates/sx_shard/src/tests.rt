@@ -1,3 +1,5 @@
+//! Four threads on one purse and on one word of bits.
+
 ghost use Rattle.std.specs.Prelude.{◌≡◌, ◌<◌, length};
 ghost use Rattle.std.specs.Thread.{IsSync};
 ghost use Rattle.sx_shard.specs.Models.{IsOf};

@@ -1,4 +1,3 @@
-use Rattle.std.proofs.Common.{◌≡◌}
 use Rattle.sx_layout.proofs.StepFits.{act_fits, act_others, next_allowed, on_ok, ready_now}
 use Rattle.sx_layout.proofs.acting.act.Goals as goal
 

@@ -1,5 +1,5 @@
 use Rattle.std.proofs.Common.{◌≡◌, drop}
-use Rattle.sx_layout.specs.Running.{Run, after_turns}
+use Rattle.sx_layout.specs.Running.{after_turns}
 use Rattle.sx_layout.specs.RunOf.{Fit, run_of}
 use Rattle.sx_layout.proofs.acting.all_turns.Given as goal
 

@@ -1,4 +1,4 @@
-use Rattle.std.proofs.Common.{◌≡◌, [], subst, sym}
+use Rattle.std.proofs.Common.{[], subst}
 use Rattle.std.proofs.lemmas.List.{get_or_default}
 use Rattle.sx_layout.specs.Actors.{Actor, beginning}
 use Rattle.sx_layout.specs.RunKeeps.{ActorFits}

@@ -1,7 +1,6 @@
-use Rattle.std.proofs.Common.{◌≡◌, ◌+◌, ◌<◌, ◌≤◌, ℕ, sym, subst, ap, ◌∙◌, refl, add-one, arith}
+use Rattle.std.proofs.Common.{◌<◌, ◌≤◌, ℕ, sym, subst, arith}
 use Rattle.sx_event.specs.declared.event.Event.TheVariants.{Split}
-use Rattle.sx_event.specs.State.{State}
-use Rattle.sx_event.specs.Step.{StepAllowed, stepped}
+use Rattle.sx_event.specs.Step.{StepAllowed}
 use Rattle.sx_layout.specs.Plan.{words_of}
 use Rattle.sx_layout.proofs.Openings.{next_splits, split_allowed}
 use Rattle.sx_layout.proofs.running.opening_core.Goals as goal

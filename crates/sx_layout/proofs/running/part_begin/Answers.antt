@@ -1,4 +1,3 @@
-use Rattle.std.proofs.Common.{arith}
 use Rattle.sx_layout.proofs.Openings.{begin_within}
 use Rattle.sx_layout.proofs.running.part_begin.Goals as goal
 

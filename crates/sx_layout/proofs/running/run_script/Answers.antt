@@ -1,4 +1,4 @@
-use Rattle.std.proofs.Common.{◌≡◌, List, Ok, Err, ◌∙◌, sym, ap, length, drop, arith}
+use Rattle.std.proofs.Common.{◌≡◌, List, Ok, Err, ◌∙◌, ap, length, drop, arith}
 use Rattle.std.proofs.lemmas.List.{take_at}
 use Rattle.std.specs.Prelude.{IfOk, Result}
 use Rattle.std.specs.List.{flat_map}

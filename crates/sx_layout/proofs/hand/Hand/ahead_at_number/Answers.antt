@@ -1,4 +1,4 @@
-use Rattle.std.proofs.Common.{◌≡◌, sym, subst}
+use Rattle.std.proofs.Common.{sym, subst}
 use Rattle.std.specs.List.{All, Contains}
 use Rattle.sx_layout.specs.Actors.{Actor}
 use Rattle.sx_layout.proofs.hand.Hand.ahead_at_number.Goals as goal

@@ -1,4 +1,4 @@
-use Rattle.std.proofs.Common.{◌≡◌, ap, refl, subst, ◌∙◌}
+use Rattle.std.proofs.Common.{ap, refl, subst, ◌∙◌}
 use Rattle.sx_layout.specs.Plan.{window_spot}
 use Rattle.sx_layout.specs.PlanLaws.{Number}
 use Rattle.sx_layout.specs.RunKeeps.{IsSetting, Setting}

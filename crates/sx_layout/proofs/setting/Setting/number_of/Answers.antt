@@ -1,4 +1,4 @@
-use Rattle.std.proofs.Common.{◌≡◌, ◌+◌, ◌-◌, ◌<◌, ◌≤◌, ap, sym, subst, ◌∙◌, Some, slice_get, arith}
+use Rattle.std.proofs.Common.{◌≡◌, ap, sym, subst, ◌∙◌, Some, slice_get, arith}
 use Rattle.sx_layout.specs.RunKeeps.{IsSetting, Setting}
 use Rattle.sx_layout.proofs.TxPlaces.{above_from, last_stands, passes_from, within_from}
 use Rattle.sx_layout.proofs.setting.Setting.number_of.Goals as goal

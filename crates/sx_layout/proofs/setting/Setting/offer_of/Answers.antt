@@ -1,6 +1,5 @@
-use Rattle.std.proofs.Common.{◌≡◌, ℕ, ap, sym, subst, ◌∙◌}
+use Rattle.std.proofs.Common.{ℕ, ap, sym, subst, ◌∙◌}
 use Rattle.sx_layout.specs.declared.spot.Spot.{Spot}
-use Rattle.sx_layout.specs.declared.stage.Stage.TheVariants as stage
 use Rattle.sx_layout.specs.Deciding.{name_at}
 use Rattle.sx_layout.specs.Plan.{offer_spot}
 use Rattle.sx_layout.specs.PlanLaws.{AnOffer}
