@@ -1,19 +1,17 @@
 -- What arcs have left to leave an asset, and how much more is bought of it than sold.
-use Rattle.std.proofs.Common.{◌≡◌, ◌≢◌, ℕ, zero, suc, ◌+◌, ◌-◌, ◌*◌, ◌<◌, ◌≤◌, Bool, true, false, List, length, take}
-use Rattle.std.proofs.Common.{cond}
+use Rattle.std.proofs.Common.{◌≡◌, ◌≢◌, ℕ, ◌+◌, ◌-◌, ◌*◌, ◌<◌, ◌≤◌, List, take}
 use Rattle.std.proofs.Common.{refl, sym, ap, ◌∙◌, inl, inr, arith}
 use Rattle.std.specs.Prelude.{◌==◌, if◌then◌else◌, sum_by}
 use Rattle.std.proofs.lemmas.Bool.{cases_eq, eq-eqb, ne_eqb}
-use Rattle.std.proofs.lemmas.Nat.{mul-add-lt}
 use Rattle.std.proofs.lemmas.List.{take_all}
 use Rattle.sx_dual.specs.Circulation.{sold, bought, IsBalanced, IsCirculation}
 use Rattle.sx_dual.specs.Sums.{between, sum_below}
 use Rattle.sx_dual.specs.Tables.{AreBounds, BoundsTable, low_of, high_of}
 use Rattle.sx_dual.proofs.SumLaws.{sum_below-same, sum_below-add, between-all}
 use Rattle.sx_net.specs.declared.arc.Arc.{Arc}
-use Rattle.sx_net.specs.Arcs.{arc_at, tail_of, left_of}
+use Rattle.sx_net.specs.Arcs.{arc_at, left_of}
 use Rattle.sx_net.specs.Network.{left_from, only_at, MovesRoom}
-use Rattle.sx_feas.specs.Shape.{pair_arc, traded, sold_now, bought_now, IsPairArc, IsShaped, Moves, KeepsCovered}
+use Rattle.sx_feas.specs.Shape.{pair_arc, traded, sold_now, bought_now, IsShaped, Moves, KeepsCovered}
 use Rattle.sx_feas.proofs.Grids.{sum_of_pairs, sum_of_rows, sum_at_one, sum_of_none}
 
 abbrev weight : ℕ → Arc → ℕ

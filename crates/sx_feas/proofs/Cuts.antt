@@ -1,6 +1,6 @@
 -- Where an asset is bought more than sold, and no asset to which arcs lead from it is sold more than bought, these
 -- assets are a cut.
-use Rattle.std.proofs.Common.{◌≡◌, ◌≢◌, ℕ, zero, suc, ◌+◌, ◌*◌, ◌<◌, ◌≤◌, Bool, true, false, not, ◌&&◌, List, []}
+use Rattle.std.proofs.Common.{◌≡◌, ℕ, ◌+◌, ◌<◌, ◌≤◌, Bool, true, false, not, ◌&&◌, List, []}
 use Rattle.std.proofs.Common.{length}
 use Rattle.std.proofs.Common.{refl, sym, ap, ◌∙◌, inl, inr, arith}
 use Rattle.std.specs.Prelude.{if◌then◌else◌, IsTrue, ◌↔◌}
@@ -8,15 +8,15 @@ use Rattle.std.proofs.lemmas.Bool.{cases_eq, cases_lt, and_parts, not-true, both
 use Rattle.std.proofs.lemmas.Nat.{mul-add-lt}
 use Rattle.sx_dual.specs.Circulation.{IsBalanced, sold, bought}
 use Rattle.sx_dual.specs.Cuts.{IsCut, is_in, goes_in, goes_out, sum_in, sum_out}
-use Rattle.sx_dual.specs.Sums.{between, pair_sum, sum_below}
+use Rattle.sx_dual.specs.Sums.{between, sum_below}
 use Rattle.sx_dual.specs.Tables.{BoundsTable, low_of, high_of}
 use Rattle.sx_dual.proofs.SumLaws.{between-other, between-self, pair_sum-same, sum_below-add, sum_below-same}
 use Rattle.sx_dual.proofs.SumLaws.{sum_below-swap}
 use Rattle.sx_net.specs.declared.arc.Arc.{Arc}
-use Rattle.sx_net.specs.Arcs.{tail_of, head_of, left_of, is_allowed, IsOpen}
+use Rattle.sx_net.specs.Arcs.{tail_of, head_of, left_of, is_allowed}
 use Rattle.sx_net.specs.Paths.{Reaches}
 use Rattle.sx_net.proofs.Leading.{reaches_next}
-use Rattle.sx_feas.specs.Shape.{pair_arc, traded, sold_now, bought_now, IsPairArc, IsShaped}
+use Rattle.sx_feas.specs.Shape.{pair_arc, traded, sold_now, bought_now, IsShaped}
 use Rattle.sx_feas.proofs.Grids.{sum_of_none, sum_below-lt}
 
 -- ---- what is sold and bought inside a set, and what crosses its border

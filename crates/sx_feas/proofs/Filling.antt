@@ -1,15 +1,14 @@
 -- What each pair trades, as a list.
-use Rattle.std.proofs.Common.{◌≡◌, ◌≢◌, ℕ, ◌+◌, ◌*◌, ◌/◌, ◌%◌, ◌^◌, ◌<◌, ◌≤◌, List, [], ◌∷◌, ◌++◌, length, get_or}
-use Rattle.std.proofs.Common.{refl, sym, ap, ◌∙◌, inl, inr, arith}
+use Rattle.std.proofs.Common.{◌≡◌, ℕ, ◌+◌, ◌*◌, ◌/◌, ◌%◌, ◌^◌, ◌<◌, ◌≤◌, List, [], ◌∷◌, ◌++◌, length, get_or}
+use Rattle.std.proofs.Common.{sym, ap, ◌∙◌, inl, inr, arith}
 use Rattle.std.specs.List.{All}
 use Rattle.std.proofs.lemmas.Bool.{cases_eq}
 use Rattle.std.proofs.lemmas.List.{get_or_push, get_or_append_left, length_push}
 use Rattle.std.proofs.lemmas.List.Elements.{All-push}
 use Rattle.std.proofs.lemmas.Nat.{mul-add-lt, same_from_place, div-add-mod', row-Below}
-use Rattle.sx_dual.specs.Tables.{AreBounds, BoundsTable, IsFlow, IsTable, low_of, high_of}
+use Rattle.sx_dual.specs.Tables.{AreBounds, BoundsTable, IsFlow}
 use Rattle.sx_net.specs.declared.arc.Arc.{Arc}
-use Rattle.sx_net.specs.Arcs.{left_of}
-use Rattle.sx_feas.specs.Shape.{pair_arc, traded, IsPairArc, IsShaped}
+use Rattle.sx_feas.specs.Shape.{traded, IsShaped}
 
 -- the entries below a place
 pub record IsFilled (bounds : BoundsTable) (arcs : List Arc) (items : List ℕ) (place : ℕ) : Type 0 where

@@ -1,11 +1,11 @@
 -- Sums over the arcs of a grid, where the arcs 2k and 2k + 1 belong to the k-th pair.
-use Rattle.std.proofs.Common.{◌≡◌, ◌≢◌, ℕ, zero, suc, ◌+◌, ◌*◌, ◌<◌, ◌≤◌, Bool, true, false, List, length, take, cond}
+use Rattle.std.proofs.Common.{◌≡◌, ◌≢◌, ℕ, zero, suc, ◌+◌, ◌*◌, ◌<◌, ◌≤◌, List, length, take}
 use Rattle.std.proofs.Common.{refl, sym, ap, ◌∙◌, inl, inr, arith}
-use Rattle.std.specs.Prelude.{◌==◌, if◌then◌else◌, sum_by}
-use Rattle.std.proofs.lemmas.Bool.{cases_eq, eq-eqb, ne_eqb}
+use Rattle.std.specs.Prelude.{sum_by}
+use Rattle.std.proofs.lemmas.Bool.{cases_eq}
 use Rattle.std.proofs.lemmas.List.Sums.{sum_by_more}
 use Rattle.sx_dual.specs.Sums.{sum_below}
-use Rattle.sx_dual.proofs.SumLaws.{sum_below-none, sum_below-more, sum_below-same, sum_below-le}
+use Rattle.sx_dual.proofs.SumLaws.{sum_below-none, sum_below-more, sum_below-le}
 use Rattle.sx_net.specs.declared.arc.Arc.{Arc}
 use Rattle.sx_net.specs.Arcs.{no_arc, arc_at}
 

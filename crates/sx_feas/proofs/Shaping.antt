@@ -1,17 +1,17 @@
 -- The arcs of the pairs: as they are added, and after pushes.
-use Rattle.std.proofs.Common.{◌≡◌, ◌≢◌, ℕ, ◌+◌, ◌-◌, ◌*◌, ◌/◌, ◌%◌, ◌<◌, ◌≤◌, true, List, [], ◌∷◌, ◌++◌, length}
-use Rattle.std.proofs.Common.{refl, sym, ap, subst, ◌∙◌, inl, inr, arith, length-append}
+use Rattle.std.proofs.Common.{◌≡◌, ℕ, ◌+◌, ◌-◌, ◌*◌, ◌/◌, ◌%◌, ◌<◌, true, List, [], ◌∷◌, length}
+use Rattle.std.proofs.Common.{sym, ap, subst, ◌∙◌, inl, inr, arith, length-append}
 use Rattle.std.proofs.lemmas.Bool.{cases_eq}
 use Rattle.std.proofs.lemmas.List.{get_or_append_left, get_or-append-add}
 use Rattle.std.proofs.lemmas.Nat.{mul-add-lt, same_from_place, div-add-mod', row-Below}
 use Rattle.std.proofs.Math.Seq.{get_or-append_seam}
 use Rattle.sx_dual.specs.Tables.{BoundsTable, low_of, high_of}
 use Rattle.sx_net.specs.declared.arc.Arc.{Arc}
-use Rattle.sx_net.specs.Arcs.{no_arc, arc_at, tail_of, head_of, left_of, is_allowed, reverse_of, IsOpen}
+use Rattle.sx_net.specs.Arcs.{no_arc, arc_at, head_of, reverse_of}
 use Rattle.sx_net.specs.Network.{Network, Pushes, with_arc}
 use Rattle.sx_net.specs.Paths.{Reaches}
 use Rattle.sx_net.proofs.Leading.{carried}
-use Rattle.sx_feas.specs.Shape.{pair_arc, traded, IsPairArc, IsShaped, HasArcs}
+use Rattle.sx_feas.specs.Shape.{pair_arc, IsPairArc, IsShaped, HasArcs}
 
 -- ---- as they are added
 

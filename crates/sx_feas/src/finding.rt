@@ -8,7 +8,7 @@ ghost use Rattle.sx_feas.specs.Shape.{IsShaped, KeepsCovered, bought_now, sold_n
 
 use crate::cutting::{explore, reached_assets};
 use crate::network::{network_of, traded_by};
-use crate::pushing::relieve;
+use crate::pushing::{relieve, relieve_more};
 use crate::totals::{first_short, surplus};
 use std::alloc::Global;
 use std::sync::ledger::Ledger;
@@ -40,6 +40,7 @@ fn drain<L: Ledger>(bounds: &Bounds, net: &mut Net, asset: u32, steps: &mut Step
         match first_short(bounds, net) {
             Some(other) => {
                 relieve(bounds, net, asset, other, steps);
+                relieve_more(bounds, net, asset, other, steps);
             }
             None => return Some(reached_assets(net, bounds.assets())),
         }

@@ -15,16 +15,17 @@
 //!
 //! Each asset is taken once. While it has a surplus, a search finds the assets that open arcs lead to
 //! from it. Where one of these has a shortage, as much is pushed to it as the surplus, the shortage and a
-//! path between them take. Where none has, these assets are a cut: each pair out of them is at its upper
-//! bound, each pair into them at its lower one, and yet more of them is bought than sold.
+//! path between them take, and again for as long as there are all three. Where none has, these assets are
+//! a cut: each pair out of them is at its upper bound, each pair into them at its lower one, and yet more
+//! of them is bought than sold.
 //!
 //! Invariant: each pair trades between its bounds, and no push gives a surplus to an asset that has none.
 //! So once each asset was taken, none has a surplus; as much is bought in all as sold, and so each asset
 //! balances. End: each push takes at least 1 from the surplus of the asset at hand. Cost: for n assets at
 //! most n² times a new pair of a surplus and a shortage is met, since from one asset no more assets come
 //! to be reached as pushes go on. Paths are shortest ones, so each of these takes at most about n³ pushes
-//! (Edmonds and Karp, 1972), whatever the bounds are, and mostly few. A push costs two searches of n²
-//! arcs. The net and the flow take all the memory.
+//! (Edmonds and Karp, 1972), whatever the bounds are, and mostly few. A push costs one search of 2n² arcs,
+//! and each pair that is met two more. The net and the flow take all the memory.
 //!
 //! Not here: which circulation is found, and how much it trades.
 #![tactic(auto)]

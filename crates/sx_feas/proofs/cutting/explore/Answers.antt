@@ -1,4 +1,4 @@
-use Rattle.std.proofs.Common.{◌≡◌, false, ap, arith}
+use Rattle.std.proofs.Common.{◌≡◌, false, ap}
 use Rattle.std.proofs.lemmas.Bool.{false_from_ne_true, OnFalse_at}
 use Rattle.sx_feas.proofs.Shaping.{no_way_out}
 use Rattle.sx_feas.proofs.cutting.explore.Goals as goal

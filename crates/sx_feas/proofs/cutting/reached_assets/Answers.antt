@@ -1,4 +1,4 @@
-use Rattle.std.proofs.Common.{◌≡◌, arith, below_more}
+use Rattle.std.proofs.Common.{below_more}
 use Rattle.std.specs.Prelude.{◌↔◌, Contains, IsTrue}
 use Rattle.sx_dual.specs.Cuts.{is_in}
 use Rattle.sx_feas.proofs.cutting.reached_assets.Goals as goal

@@ -1,0 +1,15 @@
+use Rattle.std.proofs.Common.{◌≡◌, ◌+◌, ◌-◌, ◌≤◌}
+use Rattle.sx_feas.specs.Shape.{IsShaped, KeepsCovered, bought_now, sold_now}
+use Rattle.sx_feas.proofs.pushing.relieve_more.Given as goal
+
+abbrev pub invariant-loop-net : goal.invariant-loop-net
+invariant-loop-net g l = record {
+  nodes : l.net.nodes ≡ l.bounds.assets + 1;
+  shaped : IsShaped l.bounds l.net.arcs;
+  kept : KeepsCovered l.bounds l.initial.net.arcs l.net.arcs;
+  less : bought_now l.bounds l.net.arcs l.from - sold_now l.bounds l.net.arcs l.from
+      ≤ bought_now l.bounds l.initial.net.arcs l.from - sold_now l.bounds l.initial.net.arcs l.from;
+}
+
+abbrev pub decreases-loop-net : goal.decreases-loop-net
+decreases-loop-net g l = bought_now l.bounds l.net.arcs l.from - sold_now l.bounds l.net.arcs l.from
