@@ -7,3 +7,4 @@ pub mod Labelling
 pub mod Passes
 pub mod WrittenBack
 pub mod Ending
+pub mod Tables

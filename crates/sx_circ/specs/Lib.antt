@@ -1,3 +1,4 @@
 pub mod Residual
 pub mod Walks
 pub mod Labels
+pub mod Nets

@@ -8,7 +8,7 @@ use sx_base::AssetId;
 use sx_dual::Bounds;
 
 // The asset of this number.
-fn asset_of(number: u32) -> AssetId
+pub fn asset_of(number: u32) -> AssetId
     requires { number < 32 }
     ensures { result ≡ number }
 {

@@ -3,11 +3,12 @@ ghost use Rattle.sx_dual.specs.Circulation.{IsCirculation};
 ghost use Rattle.sx_dual.specs.Tables.{IsTable, entry_at, high_of, low_of, value_of};
 
 use super::*;
+use crate::solver::{cancelled, circulates};
 use std::alloc::Global;
 use std::marker::Brand;
 use std::sync::ledger::{Blank, Ledger};
 use std::test::Fail;
-use sx_dual::{Bounds, Flow, Misfit, Potentials, fits};
+use sx_dual::{Bounds, Flow, Potentials};
 use sx_net::Steps;
 
 fn has_zero_diagonal(entries: &[u128]) -> bool
@@ -58,20 +59,22 @@ fn bounds_of(alloc: Global, low: &[u128], high: &[u128]) -> Option<Bounds>
     }
 }
 
-// Whether the flow is a circulation: where it is, no potentials leave it out of bounds or unbalanced.
-fn circulates(bounds: &Bounds, flow: &Flow, potentials: &Potentials) -> bool
-    requires flow { flow.now.assets ≡ bounds.now.assets }
-    requires potentials { length potentials.now ≡ bounds.now.assets }
-    ensures { IsTrue result → IsCirculation bounds.now.assets (low_of bounds.now) (high_of bounds.now) (value_of flow.now) }
+// The flow of these entries, where that is a circulation.
+fn circulation_of(alloc: Global, bounds: &Bounds, entries: &[u128]) -> Option<Flow>
+    requires { bounds.now.assets ≡ 3 }
+    ensures assets { IfSome result (λ flow. flow.assets ≡ 3) }
+    ensures circulation { IfSome result (λ flow. IsCirculation bounds.now.assets (low_of bounds.now) (high_of bounds.now) (value_of flow)) }
 {
-    match fits(bounds, flow, potentials) {
-        Ok(()) => true,
-        Err(Misfit::Slack { .. }) => true,
-        Err(_) => false,
+    let flow = flow_of(alloc, entries)?;
+    let potentials = Potentials::of(vec![in alloc; 0; 3].ok()?);
+    if circulates(bounds, &flow, &potentials) {
+        Some(flow)
+    } else {
+        None
     }
 }
 
-// The values of the best flow from the one with these entries, where that is a circulation.
+// The values of the best flow.
 fn best_of<L: Ledger>(
     alloc: Global,
     bounds: &Bounds,
@@ -84,14 +87,18 @@ fn best_of<L: Ledger>(
     requires some { 0 < blank.parts }
 {
     let mut steps = Steps::<L>::new(blank);
-    let start = flow_of(alloc, entries)?;
-    let potentials = Potentials::of(vec![in alloc; 0; 3].ok()?);
-    if circulates(bounds, &start, &potentials) {
-        let (flow, _) = best(alloc, bounds, start, &mut steps).ok()?;
-        Some(flow.into_values())
-    } else {
-        None
-    }
+    let start = circulation_of(alloc, bounds, entries)?;
+    let (flow, _) = best(alloc, bounds, start, &mut steps).ok()?;
+    Some(flow.into_values())
+}
+
+// The values of the flow at which the cancelling of cycles ends that begins at these entries.
+fn cancelled_of(alloc: Global, bounds: &Bounds, entries: &[u128]) -> Option<Vec<u128>>
+    requires { bounds.now.assets ≡ 3 }
+{
+    let start = circulation_of(alloc, bounds, entries)?;
+    let (flow, _) = cancelled(alloc, bounds, start).ok()?;
+    Some(flow.into_values())
 }
 
 #[test]
@@ -104,7 +111,7 @@ fn a_ring_is_chosen_over_a_pair(rt: HostRuntime) -> Result<(), Fail> {
     let from_none = best_of::<Brand>(alloc, &bounds, &none, Blank::new(1)).ok_or("none")?;
     assert_eq!(rt; from_none.as_slice(), ring.as_slice());
     let pair = [0, 10, 0, 10, 0, 0, 0, 0, 0];
-    let from_pair = best_of::<Brand>(alloc, &bounds, &pair, Blank::new(1)).ok_or("pair")?;
+    let from_pair = cancelled_of(alloc, &bounds, &pair).ok_or("pair")?;
     assert_eq!(rt; from_pair.as_slice(), ring.as_slice());
     Ok(())
 }
