@@ -2,8 +2,8 @@
 //!
 //! [`excess`] answers an [`Imbalance`]: for each asset by how much more value is wanted of it than is
 //! sold of it, and both values together. What a pair of assets sells is told by its supply curve, by
-//! two binary searches. Where there are many quotes the pairs are shared among threads, and the answer
-//! is the same whatever threads run. A [`Demand`] keeps the memory that this takes, so that
+//! two binary searches. From 28 assets and 131,072 quotes on the pairs are shared among threads, and the
+//! answer is the same whatever threads run. A [`Demand`] keeps the memory that this takes, so that
 //! [`Demand::update`] takes none but what threads take.
 //!
 //! Not here: how prices are changed by it.

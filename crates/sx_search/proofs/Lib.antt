@@ -1,3 +1,4 @@
 pub mod Steps
 pub mod Excesses
 pub mod Rounds
+pub mod Alike

@@ -19,7 +19,7 @@
 //! is given. Its result has at most the imbalance of its start.
 //!
 //! Cost: for n assets each round takes 2 n² binary searches in supply curves, shared among threads
-//! where there are many quotes, and n² additions. A round takes no memory but what threads take.
+//! from 28 assets and 131,072 quotes on, and n² additions. A round takes no memory but what threads take.
 //!
 //! Not here: nothing says that the result balances the market, or that a longer search finds better
 //! prices.

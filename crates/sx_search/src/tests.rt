@@ -1,12 +1,13 @@
-//! A market of two quotes, worked out by hand.
+//! Markets that are worked out by hand: one of two quotes, and one of so many that threads share its pairs.
 
-ghost use Rattle.std.specs.Prelude.{◌≡◌, ◌≢◌, ◌<◌, ◌≤◌, ◌^◌, IfSome, length};
+ghost use Rattle.std.specs.Prelude.{◌≡◌, ◌≢◌, ◌<◌, ◌≤◌, ◌^◌, IfOk, IfSome, length};
 ghost use Rattle.sx_curve.specs.Curves.{IsAmong};
 
 use super::*;
 use std::alloc::Global;
 use std::test::Fail;
 use sx_base::{Amount, AssetId};
+use sx_bytes::NoMemory;
 use sx_curve::{Curves, Quote};
 use sx_demand::excess;
 use sx_price::{Limit, Mu, Price, Prices};
@@ -21,7 +22,7 @@ fn quote(sell: u8, buy: u8, amount: u64) -> Option<Quote>
     requires different { sell ≢ buy }
     requires small { amount ≤ 2 ^ 59 }
     ensures among { IfSome result (IsAmong 3) }
-    ensures small { IfSome result (λ quote. quote.amount ≤ 2 ^ 59) }
+    ensures amount { IfSome result (λ quote. quote.amount ≡ amount) }
 {
     Some(Quote {
         sell: AssetId::new(sell).ok()?,
@@ -69,5 +70,34 @@ fn one_trial(rt: HostRuntime) -> Result<(), Fail> {
     assert!(rt; are(&kept, [ONE, ONE, ONE]));
     let moved = search(&rt, rt.alloc(), &curves, &start, mu, 1)?;
     assert!(rt; are(&moved, [16_427_691, 17_126_741, ONE]));
+    Ok(())
+}
+
+// One quote, so many times.
+fn alike(alloc: Global, quote: Quote, count: usize) -> Result<Curves, NoMemory>
+    requires among { IsAmong 32 quote }
+    requires one { quote.amount ≡ 1 }
+    requires count { count ≤ 2 ^ 20 }
+    ensures { IfOk result (λ curves. curves.assets ≡ 32) }
+{
+    let quotes = vec![in alloc; quote; count]?;
+    Curves::build(alloc, 32, &quotes)
+}
+
+fn many_ones(alloc: Global) -> Option<Prices>
+    ensures { IfSome result (λ prices. length prices ≡ 32) }
+{
+    let one = Price::new(ONE).ok()?;
+    Some(Prices::of([one; 32].to_vec(alloc).ok()?))
+}
+
+#[test]
+fn threads_share_many_quotes(rt: HostRuntime) -> Result<(), Fail> {
+    let quote = quote(0, 1, 1).ok_or("quote")?;
+    let curves = alike(rt.alloc(), quote, 1 << 17)?;
+    let ones = many_ones(rt.alloc()).ok_or("prices")?;
+    let found = excess(&rt, rt.alloc(), &curves, &ones, Mu::new(10)?)?;
+    let sold = 1 << 41;
+    assert_eq!(rt; found.net.items().get(..2), Some([-sold, sold].as_slice()));
     Ok(())
 }
