@@ -1,9 +1,6 @@
 -- A valid block can be applied.
-use Rattle.std.proofs.Common.{◌≡◌, sym, ◌∙◌}
-use Rattle.sx_apply.specs.Laws.{CanApply, ValidCanApply}
-use Rattle.sx_block.specs.declared.header.Block.{Block}
-use Rattle.sx_block.specs.Validity.{IsValid}
-use Rattle.sx_ledger.specs.declared.parts.Parts.{Parts}
+use Rattle.std.proofs.Common.{◌∙◌}
+use Rattle.sx_apply.specs.Laws.{ValidCanApply}
 
 pub valid_can_apply : ValidCanApply
 valid_can_apply parts block valid =

@@ -9,3 +9,5 @@ pub mod FillTotals
 pub mod WrittenBack
 pub mod Trades
 pub mod ClearLaws
+pub mod BoundLaws
+pub mod SameBounds

@@ -1,4 +1,6 @@
+pub mod Bounds
 pub mod Trading
+pub mod Sound
 pub mod Effects
 pub mod FillSums
 pub mod NextFill

@@ -4,32 +4,19 @@ ghost use Rattle.std.specs.Prelude.{◌≡◌, ◌<◌, ◌≤◌, IfOk, length}
 ghost use Rattle.sx_apply.specs.Effects.{AreEffects};
 ghost use Rattle.sx_block.specs.EffectLaws.{IsRounded, IsTradable};
 ghost use Rattle.sx_block.specs.Validity.{flow_of_block, ledger_after};
-ghost use Rattle.sx_body.specs.Credits.{HasCredits};
 ghost use Rattle.sx_ledger.specs.Body.{IsAdmissible, body_after};
 ghost use Rattle.sx_ledger.specs.Ledger.{most_height};
 ghost use Rattle.sx_tx.specs.Transactions.{most_transactions};
 
+use crate::credits::credits_of;
 use crate::effects::Effects;
 use crate::trading::execute;
 use std::alloc::Global;
 use sx_block::Block;
-use sx_body::{Credits, ScreenFault, offers_after, screen, settle};
+use sx_body::{offers_after, settle};
 use sx_bytes::NoMemory;
 use sx_ledger::Ledger;
 use sx_tx::Tx;
-
-// What the transactions of a body credit. None of them is refused.
-fn credits_of(alloc: Global, ledger: &Ledger, txs: &[Tx]) -> Result<Credits, NoMemory>
-    requires admissible { IsAdmissible ledger.now txs.now }
-    requires few { length txs.now ≤ most_transactions }
-    ensures { IfOk result (HasCredits ledger.now txs.now) }
-{
-    match screen(alloc, ledger, txs) {
-        Ok(credits) => Ok(credits),
-        Err(ScreenFault::NoMemory) => Err(NoMemory),
-        Err(ScreenFault::Refused { .. }) => unreachable!(),
-    }
-}
 
 /// The ledger after the body of a block, before anything trades: of at most 1,000,000 transactions,
 /// which are a body for the ledger. It works on a copy of the ledger.

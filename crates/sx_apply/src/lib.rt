@@ -7,13 +7,17 @@
 //! known already, since whoever judged the block had to find them. All answers are exactly those of the
 //! definitions of `sx_ledger` and `sx_block`, which are plain sums.
 //!
-//! [`fills_of`] answers what each offer trades, and [`rounding_of`] what rounding keeps of each asset.
-//! Both go over sorted lists once. By [`apply_laws`] a valid block has what the calls ask for.
+//! [`bounds_of`] answers what each pair of assets must and may trade at some prices, and [`without_low`]
+//! the same once lower bounds are dropped. [`credits_of`] answers what a body credits, [`fills_of`] what
+//! each offer trades, and [`rounding_of`] what rounding keeps of each asset. They go over sorted lists
+//! once. By [`apply_laws`] a valid block has what the calls ask for.
 //!
 //! Not here: whether a block is valid, and how its prices and its flow are found.
 #![tactic(auto)]
 
 mod applying;
+mod bounds;
+mod credits;
 mod effects;
 mod fills;
 mod laws;
@@ -23,6 +27,8 @@ mod rounding;
 mod trading;
 
 pub use applying::{apply, apply_body};
+pub use bounds::{bounds_of, without_low};
+pub use credits::credits_of;
 pub use effects::Effects;
 pub use fills::fills_of;
 pub use laws::apply_laws;

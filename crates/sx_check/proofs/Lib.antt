@@ -3,5 +3,4 @@ pub mod Counting
 pub mod SameReason
 pub mod ReasonLaws
 pub mod MarketLaws
-pub mod BoundLaws
 pub mod OfferLaws

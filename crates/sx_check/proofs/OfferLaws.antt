@@ -5,7 +5,8 @@ use Rattle.sx_apply.specs.Trading.{AreFills, CanTrade}
 use Rattle.sx_block.specs.declared.header.Block.{Block}
 use Rattle.sx_block.specs.Block.{IsBlock}
 use Rattle.sx_block.specs.Validity.{flow_of_block, offers_of}
-use Rattle.sx_check.specs.Bounds.{AreOffers}
+use Rattle.sx_apply.specs.Bounds.{AreOffers}
+use Rattle.sx_apply.proofs.BoundLaws.{ledger_offers}
 use Rattle.sx_check.specs.Refusals.{IsMisrounded}
 use Rattle.sx_check.specs.Rules.{HasBody, HasFit, Rounds}
 use Rattle.sx_check.proofs.MarketLaws.{fit_is_tradable}
@@ -22,15 +23,7 @@ module _ (parts : Parts) (block : Block) (is : IsLedger parts) (form : IsBlock b
   middle body = body_keeps_ledger parts block.txs is form.each body.admissible
 
   are_offers : HasBody parts block → AreOffers (assets_of parts) (offers_of parts block)
-  are_offers body =
-      let after = middle body in
-      record {
-        few = after.few_offers;
-        pairs = λ k d lt.
-            let offer = after.offers k d lt in
-            record { sell = offer.sell; buy = offer.buy; differ = offer.differ };
-        in_range = λ asset lt. let total = after.totals asset lt in omega arith;
-      }
+  are_offers body = ledger_offers (body_after parts block.txs) (middle body)
 
   -- the same for the number of assets of the header
   pub offers_of_header : HasBody parts block → AreOffers (length block.header.prices) (offers_of parts block)

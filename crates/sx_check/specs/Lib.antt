@@ -2,6 +2,5 @@ pub mod Invalid
 pub mod Repeats
 pub mod Rules
 pub mod Refusals
-pub mod Bounds
 pub mod Checked
 pub mod Laws

@@ -16,7 +16,6 @@
 #![tactic(auto)]
 
 mod body;
-mod bounds;
 mod checked;
 mod fault;
 mod header;

@@ -3,15 +3,15 @@
 ghost use Rattle.std.specs.Prelude.{◌≡◌, Some, None, IfErr, OnOk};
 ghost use Rattle.sx_block.specs.Block.{IsBlock};
 ghost use Rattle.sx_block.specs.Validity.{high_in, low_in, offers_of, undropped_low_in};
-ghost use Rattle.sx_check.specs.Bounds.{HasBounds};
+ghost use Rattle.sx_apply.specs.Bounds.{HasBounds};
 ghost use Rattle.sx_check.specs.Refusals.{ExplainsEarly, RefusesEarly};
 ghost use Rattle.sx_check.specs.Rules.{HasBody, HasCut, HasFit};
 ghost use Rattle.sx_ledger.specs.Ledger.{assets_of};
 
-use crate::bounds::{bounds_of, without_low};
 use crate::fault::CheckFault;
 use crate::invalid::Invalid;
 use std::alloc::Global;
+use sx_apply::{bounds_of, without_low};
 use sx_block::Block;
 use sx_dual::{Bounds, Cut, cuts, fits};
 use sx_ledger::{Ledger, Offer};
@@ -75,7 +75,7 @@ pub fn check_market(
 {
     // The ledger keeps what a ledger keeps.
     let _assets = ledger.assets();
-    let bounds = bounds_of(alloc, &block.header, offers)?;
+    let bounds = bounds_of(alloc, offers, &block.header.prices, block.header.mu)?;
     match block.header.dropped {
         Some(cut) => check_dropped(ledger, block, bounds, cut)?,
         None => check_kept(ledger, block, &bounds)?,

@@ -1,11 +1,10 @@
-use Rattle.std.proofs.Common.{◌≡◌, eqb, true, List, [], length, map, sym, ap, subst, ◌∙◌, rules}
+use Rattle.std.proofs.Common.{◌≡◌, eqb, true, List, [], length, map, sym, ap, ◌∙◌, rules}
 use Rattle.std.proofs.lemmas.Bool.{eqb-true}
 use Rattle.std.proofs.lemmas.List.{nil_from_length}
 use Rattle.sx_apply.specs.FillSums.{paid_by}
 use Rattle.sx_apply.proofs.PaidAccounts.{nothing_paid}
 use Rattle.sx_apply.proofs.WrittenBack.{written_back}
 use Rattle.sx_apply.proofs.proceeds.with_proceeds.Goals as goal
-use Rattle.sx_ledger.specs.declared.account.Account.{Account}
 use Rattle.sx_ledger.specs.declared.fill.Fill.{Fill}
 
 pub returns-then-is_empty : goal.returns-then-is_empty

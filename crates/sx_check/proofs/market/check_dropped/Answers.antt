@@ -1,6 +1,7 @@
 use Rattle.std.proofs.Common.{arith}
 use Rattle.sx_block.specs.Validity.{high_in, undropped_low_in}
-use Rattle.sx_check.proofs.MarketLaws.{cut_back, cut_from, cut_holds, dropped_bounds}
+use Rattle.sx_apply.proofs.SameBounds.{cut_back, cut_from}
+use Rattle.sx_check.proofs.MarketLaws.{cut_holds, dropped_bounds}
 use Rattle.sx_check.proofs.market.check_dropped.Goals as goal
 use Rattle.sx_ledger.specs.Ledger.{assets_of}
 

@@ -1,7 +1,8 @@
 use Rattle.std.proofs.Common.{refl, sym, subst}
 use Rattle.sx_block.specs.Validity.{flow_of_block, high_in, low_in}
 use Rattle.sx_check.specs.Refusals.{RefusesEarly}
-use Rattle.sx_check.proofs.MarketLaws.{fits_from, misfit_from, misfit_refuses}
+use Rattle.sx_apply.proofs.SameBounds.{fits_from, misfit_from}
+use Rattle.sx_check.proofs.MarketLaws.{misfit_refuses}
 use Rattle.sx_check.proofs.market.check_fit.Goals as goal
 use Rattle.sx_dual.specs.Tables.{potential_of}
 use Rattle.sx_ledger.specs.Ledger.{assets_of}

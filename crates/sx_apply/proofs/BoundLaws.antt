@@ -10,12 +10,13 @@ use Rattle.std.proofs.lemmas.List.Elements.{All-head, All-tail, filter-append}
 use Rattle.std.proofs.lemmas.List.Sums.{sum_by-append, sum_by-cons}
 use Rattle.std.proofs.Math.Nat.{div-lt_iff_lt-mul, mul-add, mul-le-mul_right}
 use Rattle.std.proofs.Math.Seq.{drop-length, take-append_seam, take-suc}
-use Rattle.sx_check.specs.Bounds.{AreOffers, AreValues, HasBounds, IsOfPair}
+use Rattle.sx_apply.specs.Bounds.{AreOffers, AreValues, HasBounds, IsOfPair}
 use Rattle.sx_dual.specs.Tables.{AreBounds, BoundsTable, IsAssetCount, IsTable, entry_at}
 use Rattle.sx_ledger.specs.declared.offer.Offer.{Offer}
 use Rattle.sx_ledger.specs.Bounds.{amounts, high_of as high_at, low_of as low_at, may_trade_at, must_trade_at}
 use Rattle.sx_ledger.specs.Bounds.{pair_of, price_of}
-use Rattle.sx_ledger.specs.Ledger.{offered}
+use Rattle.sx_ledger.specs.declared.parts.Parts.{Parts}
+use Rattle.sx_ledger.specs.Ledger.{IsLedger, assets_of, offered}
 use Rattle.sx_ledger.proofs.MustWithinMay.{low_within_high}
 use Rattle.sx_price.specs.Limits.{IsPrice}
 
@@ -254,4 +255,14 @@ has_bounds n prices j offers low high bounds counts lows highs musts mays = reco
       ap₂ (λ (n : ℕ) (xs : List ℕ). entry_at n xs sell buy) counts lows ∙ musts.values sell buy s b;
   is_high = λ sell buy s b differ.
       ap₂ (λ (n : ℕ) (xs : List ℕ). entry_at n xs sell buy) counts highs ∙ mays.values sell buy s b;
+}
+
+-- the offers of a ledger
+pub ledger_offers : (parts : Parts) → IsLedger parts → AreOffers (assets_of parts) parts.offers
+ledger_offers parts is = record {
+  few = is.few_offers;
+  pairs = λ k d lt.
+      let offer = is.offers k d lt in
+      record { sell = offer.sell; buy = offer.buy; differ = offer.differ };
+  in_range = λ asset lt. let total = is.totals asset lt in omega arith;
 }

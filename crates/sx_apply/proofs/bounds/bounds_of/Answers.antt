@@ -1,11 +1,10 @@
 use Rattle.std.proofs.Common.{◌≡◌, ℕ, ◌*◌, ◌++◌, length, take, drop, refl, ap, ◌∙◌, arith}
-use Rattle.sx_check.proofs.BoundLaws.{are_bounds, bounds_as, has_bounds, put_back}
-use Rattle.sx_check.proofs.bounds.bounds_of.Goals as goal
+use Rattle.sx_apply.proofs.BoundLaws.{are_bounds, bounds_as, has_bounds, put_back}
+use Rattle.sx_apply.proofs.bounds.bounds_of.Goals as goal
 
 pub of-requires : goal.of-requires
 of-requires c =
-    let header = c.args.header.now in
-    let prices = header.prices in
+    let prices = c.args.prices.now in
     let n = length prices in
     let counts : length c.items-assets.result.now ≡ n = ap length c.items-assets.ensures in
     let size = ap (λ (n : ℕ). n * n) counts in
@@ -19,13 +18,12 @@ of-requires c =
     c.add_offers.new.high
     (take c.in_ok-high.high.len (c.add_offers.new.high ++ drop (length c.add_offers.new.high)
     c.in_ok-high.high.items)) counts lows highs
-    (are_bounds n prices c.args.offers.now c.requires.assets refl c.requires.prices c.requires.offers header.mu
+    (are_bounds n prices c.args.offers.now c.requires.assets refl c.requires.prices c.requires.offers c.args.mu
     c.add_offers.new.low c.add_offers.new.high adds.low adds.high)
 
 pub returns : goal.returns
 returns c =
-    let header = c.args.header.now in
-    let prices = header.prices in
+    let prices = c.args.prices.now in
     let n = length prices in
     let counts : length c.items-assets.result.now ≡ n = ap length c.items-assets.ensures in
     let size = ap (λ (n : ℕ). n * n) counts in
@@ -34,5 +32,5 @@ returns c =
     (omega (arith, adds.low.full, size, c.in_ok-low.ensures.len, c.in_ok-low.low.ok.0)) in
     let highs = put_back c.add_offers.new.high c.in_ok-high.high.items c.in_ok-high.high.len c.in_ok-high.high.ok.0
     (omega (arith, adds.high.full, size, c.in_ok-high.ensures.len, c.in_ok-high.high.ok.0)) in
-    has_bounds n prices header.mu c.args.offers.now c.add_offers.new.low c.add_offers.new.high c.of.result
+    has_bounds n prices c.args.mu c.args.offers.now c.add_offers.new.low c.add_offers.new.high c.of.result
     (c.of.ensures.assets ∙ counts) (c.of.ensures.low ∙ lows) (c.of.ensures.high ∙ highs) adds.low adds.high
