@@ -1,0 +1,128 @@
+-- From a trade to a sound block, and from a sound block to a valid one.
+use Rattle.std.proofs.Common.{◌≡◌, ℕ, ◌<◌, ◌≤◌, List, length, Option, Some, None, refl, sym, subst, ◌∙◌, arith}
+use Rattle.std.specs.Prelude.{All, ◌↔◌, IsTrue, is_some}
+use Rattle.std.proofs.lemmas.List.Elements.{All-from_get_or}
+use Rattle.sx_apply.specs.Sound.{IsSound}
+use Rattle.sx_apply.specs.Trading.{CanTrade}
+use Rattle.sx_base.specs.Ranges.{most_amount}
+use Rattle.sx_block.specs.declared.header.Block.{Block}
+use Rattle.sx_block.specs.Digest.{IsDigest}
+use Rattle.sx_block.specs.EffectLaws.{IsRounded, IsTradable}
+use Rattle.sx_block.specs.Validity.{IsValid, digest_of_ledger, flow_of_block, high_in, ledger_after, offers_of}
+use Rattle.sx_block.specs.Validity.{undropped_low_in}
+use Rattle.sx_block.proofs.TradeKeeps.{trade_keeps_ledger}
+use Rattle.sx_block.proofs.TradeTotals.{added_at, added_length}
+use Rattle.sx_block.proofs.ValidBlocks.{drops_the_impossible}
+use Rattle.sx_clear.specs.declared.trade.Trade.{Trade}
+use Rattle.sx_clear.specs.Dropping.{DropsExactly}
+use Rattle.sx_clear.specs.Solved.{IsTradeAt}
+use Rattle.sx_dual.specs.declared.cut.Cut.{Cut}
+use Rattle.sx_dual.specs.Circulation.{HaveNoCirculation, IsCirculation}
+use Rattle.sx_dual.specs.Tables.{value_of}
+use Rattle.sx_ledger.specs.declared.offer.Offer.{Offer}
+use Rattle.sx_ledger.specs.declared.parts.Parts.{Parts}
+use Rattle.sx_ledger.specs.Body.{body_after}
+use Rattle.sx_ledger.specs.Bounds.{low_of}
+use Rattle.sx_ledger.specs.Ledger.{IsLedger, assets_of, most_height}
+use Rattle.sx_price.specs.Limits.{IsPrice}
+use Rattle.sx_tx.specs.declared.tx.Tx.{Tx}
+
+-- ---- what trades
+
+module _ (parts : Parts) (txs : List Tx) (prices : List ℕ) (j : ℕ) (trade : Trade)
+    (is : IsLedger (body_after parts txs)) (same : length prices ≡ assets_of parts) (in_range : All IsPrice prices)
+    (traded : IsTradeAt parts txs prices j trade) where
+  pub tradable : IsTradable (body_after parts txs) prices (value_of trade.flow)
+  tradable = record {
+    same_assets = same;
+    in_range = in_range;
+    within = λ sell buy s b differ. (traded.best.fits.circulation.within sell buy s b differ).at_most;
+    balanced = traded.best.fits.circulation.balanced;
+  }
+
+  pub can_trade : (offers : List Offer) → offers ≡ (body_after parts txs).offers
+      → CanTrade offers prices (value_of trade.flow)
+  can_trade offers are = record {
+    parts = body_after parts txs;
+    ledger = is;
+    same = sym are;
+    tradable = tradable;
+  }
+
+  -- what is kept is part of what there is
+  pub rounding_small : (rounding : List ℕ) → parts.height < most_height
+      → IsRounded (body_after parts txs) prices (value_of trade.flow) rounding
+      → All (λ units. units ≤ most_amount) rounding
+  rounding_small rounding below rounded =
+      let after = trade_keeps_ledger (body_after parts txs) prices (value_of trade.flow) rounding is below tradable
+      rounded in
+      let long : length rounding ≡ length parts.rounding = rounded.one_each ∙ sym is.one_rounding in
+      All-from_get_or (λ units. units ≤ most_amount) rounding 0
+      (λ k lt. omega (
+        arith,
+        after.rounding k 0 (omega (arith, added_length parts.rounding rounding long, long)),
+        added_at k parts.rounding rounding (omega (arith, long)) long,
+      ))
+
+-- ---- the digest of the ledger that is left
+
+abbrev pub with_after : Block → List ℕ → Block
+with_after block after = record block { header = record block.header { after = after } }
+
+pub sealed_is_valid : (parts : Parts) (block : Block) (after : List ℕ) → IsSound parts block → IsDigest after
+    → after ≡ digest_of_ledger (ledger_after parts block) → IsValid parts (with_after block after)
+sealed_is_valid parts block after sound digest same =
+    let header = sound.form.header in
+    record {
+      form = record {
+        header = record {
+          version = header.version;
+          height = header.height;
+          parent = header.parent;
+          body = header.body;
+          some_mu = header.some_mu;
+          most_mu = header.most_mu;
+          some_asset = header.some_asset;
+          few_assets = header.few_assets;
+          prices = header.prices;
+          same_assets = header.same_assets;
+          trades = header.trades;
+          cut = header.cut;
+          one_potential = header.one_potential;
+          potentials = header.potentials;
+          one_rounding = header.one_rounding;
+          rounding = header.rounding;
+          after = digest;
+        };
+        few = sound.form.few;
+        each = sound.form.each;
+        ordered = sound.form.ordered;
+      };
+      below_last = sound.below_last;
+      next_height = sound.next_height;
+      parent = sound.parent;
+      body = sound.body;
+      same_assets = sound.same_assets;
+      admissible = sound.admissible;
+      fits = sound.fits;
+      cut = sound.cut;
+      rounding = sound.rounding;
+      after = same;
+    }
+
+-- ---- what follows of validity
+
+drops_as : (parts : Parts) (block : Block) (o : Option Cut) → IsValid parts block → block.header.dropped ≡ o
+    → IsTrue (is_some o)
+    ↔ HaveNoCirculation (assets_of parts) (undropped_low_in parts block) (high_in parts block)
+drops_as parts block None valid is =
+    let flow : IsCirculation (assets_of parts) (undropped_low_in parts block) (high_in parts block)
+    (flow_of_block block) =
+    subst (λ (o : Option Cut). IsCirculation (assets_of parts)
+    (λ sell buy. low_of block.header.prices block.header.mu (is_some o) (offers_of parts block) sell buy)
+    (high_in parts block) (flow_of_block block)) is valid.fits.circulation in
+    (λ never. absurd cc, λ none. absurd (none (flow_of_block block) flow))
+drops_as parts block (Some cut) valid is = (λ _. drops_the_impossible parts block cut valid is, λ _. refl)
+
+pub drops_exactly : (parts : Parts) (block : Block) → IsValid parts block → DropsExactly parts block
+drops_exactly parts block valid = drops_as parts block block.header.dropped valid refl

@@ -1,0 +1,4 @@
+pub mod OfferLaws
+pub mod TradeLaws
+pub mod BlockLaws
+pub mod PriceLaws

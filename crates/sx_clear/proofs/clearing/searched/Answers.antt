@@ -1,0 +1,19 @@
+use Rattle.std.proofs.Common.{ap, ◌∙◌}
+use Rattle.std.proofs.lemmas.Result.{IfOk-weaker}
+use Rattle.sx_clear.specs.Quotes.{quotes_of}
+use Rattle.sx_clear.proofs.clearing.searched.Goals as goal
+use Rattle.sx_curve.specs.Search.{searched_prices}
+use Rattle.sx_curve.proofs.SearchLaws.{search_permuted}
+use Rattle.sx_ledger.specs.declared.parts.Parts.{Parts}
+
+pub returns : goal.returns
+returns g c =
+    let quotes = quotes_of c.args.offers.now in
+    record {
+      exact = IfOk-weaker c.search.result _ _
+          (λ prices is.
+          is ∙ search_permuted quotes c.in_ok-curves.curves.quotes c.parts.result.now.prices c.args.mu c.args.rounds
+          c.in_ok-curves.ensures.quotes
+          ∙ ap (λ (parts : Parts). searched_prices quotes parts.prices c.args.mu c.args.rounds) c.parts.ensures.parts)
+          c.search.ensures.exact;
+    }

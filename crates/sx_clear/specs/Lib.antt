@@ -1,0 +1,4 @@
+pub mod Quotes
+pub mod Dropping
+pub mod Found
+pub mod Solved

@@ -1,0 +1,46 @@
+//! From the body of a block to the block: prices, what trades at them, and the header that shows it.
+//!
+//! [`clear`] answers a valid block for a ledger and an admissible body. It searches prices from those of
+//! the ledger, and at the prices that it finds it takes a circulation of greatest value within the
+//! bounds of the offers after the body. Where no circulation keeps the lower bounds, they are dropped and
+//! the block names a cut that shows it; they are dropped nowhere else. [`clear_at`] does the same at
+//! prices that are given. [`curves_of`] answers the supply curves that the search goes by.
+//!
+//! The method: one pass over the body finds what it credits and the offers after it. Their quotes make
+//! curves, on which prices are searched. The offers that must and that may trade at the prices are the
+//! bounds of each pair. Augmenting paths find a circulation within them, or a cut, and cycles that gain
+//! make it a greatest one. Its value is shared out among the offers of each pair in their order, rounded
+//! to whole units. What the block leaves of a copy of the ledger is hashed for its header.
+//!
+//! ```text
+//!                  .-> curves -> prices -.                .-> fills, rounding -.
+//!     body -> offers                     +-> circulation -+                    +-> block
+//!                  '-> bounds at these  -'                '-> potentials, cut -'
+//! ```
+//!
+//! Cost: for n transactions and offers, n log n for sorting and looking up, one copy of the ledger, and
+//! an encoding of it before and after the block for the two digests. A round of the search grows with
+//! the logarithm of n alone, and the circulation with the number of assets.
+//!
+//! Source: Ramseyer, Goel and Mazières, "SPEEDEX: A Scalable, Parallelizable, and Economically Efficient
+//! Decentralized EXchange" (NSDI 2023), for a batch at one price for each asset: a price search, and a
+//! circulation that corrects it. The rules in whole numbers are this project's own.
+//!
+//! Not here: nothing says that the prices are good, only that they are those of the search and leave no
+//! more imbalance than the ledger's own. Nor is it said which circulation is answered where several trade
+//! the greatest value. Which transactions are the body is decided before.
+#![tactic(auto)]
+
+mod body;
+mod clearing;
+mod curves;
+mod drafting;
+mod filling;
+mod quotes;
+mod ranges;
+mod sealing;
+mod solving;
+mod trade;
+
+pub use clearing::{clear, clear_at};
+pub use curves::curves_of;

@@ -1,0 +1,83 @@
+//! What pairs trade at given prices.
+
+ghost use Rattle.std.specs.Prelude.{ℕ, false, IfOk, All, length};
+ghost use Rattle.sx_apply.specs.Bounds.{AreOffers, HasBounds};
+ghost use Rattle.sx_clear.specs.Solved.{HasNoLow, IsFreeTrade, IsTrade};
+ghost use Rattle.sx_dual.specs.Tables.{IsAssetCount};
+ghost use Rattle.sx_ledger.specs.Bounds.{high_of, low_of};
+ghost use Rattle.sx_price.specs.Limits.{IsPrice};
+
+use crate::solving::{Solved, solve};
+use std::alloc::Global;
+use std::sync::ledger::Ledger;
+use sx_apply::{bounds_of, without_low};
+use sx_bytes::NoMemory;
+use sx_dual::{Bounds, Cut, Flow, Potentials};
+use sx_ledger::Offer;
+use sx_net::Steps;
+use sx_price::{Mu, Prices};
+
+// What each pair trades, the potentials that show that no more value could be traded, and, where lower
+// bounds were dropped, the cut that shows why.
+#[derive(Drop)]
+pub struct Trade {
+    pub flow: Flow,
+    pub potentials: Potentials,
+    pub dropped: Option<Cut>,
+}
+
+// A circulation of greatest value within bounds of which each lower one is 0, since the cut shows that
+// they cannot be kept. The flow that trades nothing is a circulation, so it is no cut that is found.
+fn trade_freely<L: Ledger>(
+    alloc: Global,
+    bounds: &Bounds,
+    cut: Cut,
+    steps: &mut Steps<L>,
+) -> Result<Trade, NoMemory>
+    requires no_low { HasNoLow bounds.now }
+    ensures traded { IfOk result (IsFreeTrade bounds.now cut) }
+{
+    match solve(alloc, bounds, steps)? {
+        Solved::Best { flow, potentials } => Ok(Trade {
+            flow,
+            potentials,
+            dropped: Some(cut),
+        }),
+        Solved::Cut(_) => unreachable!(),
+    }
+}
+
+// A circulation of greatest value within the bounds. Where there is none, lower bounds are dropped.
+fn trade_within<L: Ledger>(
+    alloc: Global,
+    bounds: Bounds,
+    steps: &mut Steps<L>,
+) -> Result<Trade, NoMemory>
+    ensures { IfOk result (λ trade. (n : ℕ) (low high : ℕ → ℕ → ℕ) → HasBounds n low high bounds → IsTrade n low high trade) }
+{
+    match solve(alloc, &bounds, steps)? {
+        Solved::Best { flow, potentials } => Ok(Trade {
+            flow,
+            potentials,
+            dropped: None,
+        }),
+        Solved::Cut(cut) => trade_freely(alloc, &without_low(bounds), cut, steps),
+    }
+}
+
+// What these offers trade at the prices.
+pub fn trade_at<L: Ledger>(
+    alloc: Global,
+    offers: &[Offer],
+    prices: &Prices,
+    mu: Mu,
+    steps: &mut Steps<L>,
+) -> Result<Trade, NoMemory>
+    requires assets { IsAssetCount (length prices.now) }
+    requires prices { All IsPrice prices.now }
+    requires offers { AreOffers (length prices.now) offers.now }
+    ensures { IfOk result (IsTrade (length prices.now) (low_of prices.now mu false offers.now) (high_of prices.now offers.now)) }
+{
+    let bounds = bounds_of(alloc, offers, prices, mu)?;
+    trade_within(alloc, bounds, steps)
+}
