@@ -15,7 +15,7 @@ use sx_ledger::{Ledger, read_state};
 
 // Two assets at 3 to 2. Account 1 has 5 units of the first, account 2 has 8 of the second.
 #[rattlefmt::skip]
-fn state() -> [u8; 114] {
+pub fn state() -> [u8; 114] {
     [
         1,
         0, 0, 0, 0, 0, 0, 0, 0,
@@ -34,7 +34,7 @@ fn state() -> [u8; 114] {
 // The block of height 1 in which both accounts offer all that they have. The lower bounds, 15 and 16
 // in units of 2^-4, cannot both be kept: 15 trades each way, and the cut is the first asset alone.
 #[rattlefmt::skip]
-fn payload() -> [u8; 264] {
+pub fn payload() -> [u8; 264] {
     [
         1,
         0, 0, 0, 0, 0, 0, 0, 1,

@@ -2,7 +2,9 @@
 //!
 //! What is a row through the program is a stored case under `examples/cases/` and no test. Here is
 //! what no input of the program can show: sources and sinks that give and take their bytes in pieces
-//! of any size, that fail in mid-stream, and that overcome an interruption.
+//! of any size, that fail in mid-stream, and that overcome an interruption. Here too are library calls on
+//! what was worked out by hand: circulations and cuts of bounds at the ends of their ranges, and blocks
+//! that are made again from the transactions of valid ones.
 #![tactic(auto)]
 
 #[cfg(test)]
@@ -10,12 +12,24 @@ mod chain;
 #[cfg(test)]
 mod chains;
 #[cfg(test)]
+mod clearing;
+#[cfg(test)]
 mod dropped;
 #[cfg(test)]
+mod instances;
+#[cfg(test)]
+mod layout;
+#[cfg(test)]
 mod long;
+#[cfg(test)]
+mod outcomes;
 #[cfg(test)]
 mod payment;
 #[cfg(test)]
 mod recovering;
 #[cfg(test)]
 mod replay;
+#[cfg(test)]
+mod spans;
+#[cfg(test)]
+mod worked;
