@@ -3,12 +3,14 @@
     python3 bench/blocks.py KIND FOLDER
 
 writes FOLDER/input, the records of a state and of its blocks; FOLDER/after, the record of the state after the last
-one; and FOLDER/line, what `check` prints of the block where there is one. For a script it writes FOLDER/input, the
-records of a state, of candidates and of the script, and FOLDER/outcomes, the record of the outcomes. The kinds:
+one; and FOLDER/line, what `check` prints of the block where there is one. Of `apart` it writes FOLDER/input alone.
+For a script it writes FOLDER/input, the records of a state, of candidates and of the script, and FOLDER/outcomes,
+the record of the outcomes. The kinds:
 
     payments   1,000,000 payments among 65,536 accounts of one asset
     resting    no transactions, on 262,144 offers of 32 assets that all rest
     mixed      200,000 transactions of all kinds on 200,000 offers of 8 assets, with trades in every pair
+    apart      the same, from a state whose prices are from half to one and a half times those of the block
     trading    no transactions, on 262,144 offers of 32 assets, of which half trade, in every pair
     chain      1,000 blocks of 1,000 payments each on 10,000 accounts
     script     no block: 250,000 payments on 65,536 accounts, and 700,000 turns of 8 actors
@@ -93,9 +95,11 @@ class Ledger:
         self.rounding = [old + more for old, more in zip(self.rounding, rounding)]
         return values, rounding
 
-    def block(self, txs):
-        """The record of the valid block of these transactions, which is applied, and the value that it trades."""
+    def block(self, txs, prices=None):
+        """The record of the valid block of these transactions, which is applied, and the value that it trades. The
+        block posts the ledger's prices, or those that are given."""
         n, parent = len(self.prices), sha256(self.record())
+        self.prices = prices or self.prices
         pack = {kind: struct.Struct(fields).pack for kind, fields in FIELDS.items()}
         body = struct.pack(">I", len(txs)) + b"".join(pack[tx[2]](*tx) for tx in txs)
         self.apply_body(txs)
@@ -206,6 +210,14 @@ def mixed(draw):
         sell, buy = every[at % len(every)]
         book.place(sell, buy, limit_at(ledger, draw, sell, buy, False), draw.randint(100, 10_000))
     return ledger, [lambda: mixed_body(ledger, draw)]
+
+
+def write_apart(draw, folder):
+    ledger, bodies = mixed(draw)
+    txs, prices = bodies[0](), ledger.prices
+    ledger.prices = [price * draw.randrange(512, 1537) // 1024 for price in prices]
+    state = ledger.record()
+    (folder / "input").write_bytes(state + ledger.block(txs, prices)[0])
 
 
 def mixed_body(ledger, draw):
@@ -331,11 +343,13 @@ KINDS = {
 
 
 def main():
-    if len(sys.argv) != 3 or sys.argv[1] not in (*KINDS, "script"):
-        sys.exit("usage: python3 bench/blocks.py payments|resting|mixed|trading|chain|script FOLDER")
+    if len(sys.argv) != 3 or sys.argv[1] not in (*KINDS, "apart", "script"):
+        sys.exit("usage: python3 bench/blocks.py payments|resting|mixed|apart|trading|chain|script FOLDER")
     folder = pathlib.Path(sys.argv[2])
     if sys.argv[1] == "script":
         return write_script(random.Random(1), folder)
+    if sys.argv[1] == "apart":
+        return write_apart(random.Random(1), folder)
     ledger, bodies = KINDS[sys.argv[1]](random.Random(1))
     with open(folder / "input", "wb") as out:
         out.write(ledger.record())

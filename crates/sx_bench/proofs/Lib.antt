@@ -1,1 +1,2 @@
 mod SmallMarket
+mod Spans
