@@ -36,12 +36,6 @@ struct Run {
     greatest: u128,
 }
 
-fn traded(flow: &Flow) -> u128 {
-    flow.values()
-        .iter()
-        .fold(0, |sum: u128, value: &u128| sum.saturating_add(*value))
-}
-
 fn cut_run(bounds: &Bounds, cut: Cut, first: u128) -> Result<Run> {
     ensure!(cuts(bounds, cut), "the cut is none");
     Ok(Run {
@@ -70,7 +64,7 @@ fn greatest_run<R: Clock + AllocGlobal, L: Ledger>(
         "the potentials do not fit"
     );
     Ok(Run {
-        found: Found::Traded(traded(&flow)),
+        found: Found::Traded(flow.value()),
         first,
         greatest,
     })

@@ -146,6 +146,26 @@ fn trades_alike(one: &Header, other: &Header) -> bool {
 // What is told of the block that is made anew, where it is valid and its header agrees with that of the
 // given one in all but the potentials, of which many suit. The digest of the ledger that it leaves holds
 // what each account has and what stays on offer.
+fn again<R: Threads + Sync, L: ledger::Ledger>(
+    rt: &R,
+    alloc: Global,
+    ledger: &Ledger,
+    given: Block,
+    way: Way,
+    steps: &mut Steps<L>,
+) -> Option<Checked>
+    requires { IsValid ledger.now given }
+{
+    let Block { header, txs } = given;
+    let made = cleared(rt, alloc, ledger, txs, &header, way, steps)?;
+    let agrees = chains_alike(&header, &made.header) && trades_alike(&header, &made.header);
+    match check(alloc, ledger, &made) {
+        Ok(checked) if agrees => Some(checked),
+        _ => None,
+    }
+}
+
+// The same of a case.
 fn told<R: Threads + Sync, L: ledger::Ledger>(
     rt: &R,
     alloc: Global,
@@ -159,10 +179,7 @@ fn told<R: Threads + Sync, L: ledger::Ledger>(
 {
     let mut steps = Steps::<L>::new(blank);
     let Pair { ledger, block } = valid_pair(alloc, case)?;
-    let Block { header, txs } = block;
-    let made = cleared(rt, alloc, &ledger, txs, &header, way, &mut steps)?;
-    let checked = check(alloc, &ledger, &made).ok()?;
-    (chains_alike(&header, &made.header) && trades_alike(&header, &made.header)).then_some(checked)
+    again(rt, alloc, &ledger, block, way, &mut steps)
 }
 
 #[test]
