@@ -12,7 +12,7 @@ use Rattle.sx_event.specs.Step.{after_look, after_take}
 use Rattle.sx_event.proofs.Agreeing.{last_low-append}
 use Rattle.sx_shard.specs.Models.{Shown, Seated, IsOf}
 use Rattle.sx_shard.specs.Plays.{IsBelow, IsFresh}
-use Rattle.sx_shard.specs.Reserve.{with_lows, Falls, Finds, Reserves, after_takes}
+use Rattle.sx_shard.specs.Reserve.{with_lows, Falls, Finds, Reserves, Refuses, after_takes}
 
 -- the seat has noted these values, of which the last is the one it saw last
 pub record Tries (shard : Shown) (old : View) (purse need seen : ℕ) (seat : Seated) : Type 0 where
@@ -144,3 +144,31 @@ last_take_wins view purse need earlier last =
     let noted = ap (λ (v : View). last_low purse v.notes) sits ∙
     last_note purse last (with_lows view purse earlier).notes in
     rw (noted, eq-eqb last last refl) refl
+
+-- the value that was seen last
+seen_last : (view : View) (purse : ℕ) (earlier : List ℕ) (last : ℕ) →
+    last_low purse (with_lows view purse (earlier ++ last ∷ [])).notes ≡ Some last
+seen_last view purse earlier last =
+    ap (λ (v : View). last_low purse v.notes) (lows_push view purse earlier last)
+    ∙ last_note purse last (with_lows view purse earlier).notes
+
+pub reserves : (view after : View) (purse need : ℕ) → Reserves view purse need after →
+    (seen : ℕ) × (last_low purse after.notes ≡ Some seen) × (need ≤ seen)
+    × (after.claims ≡ view.claims ++ Debit purse need ∷ [])
+reserves view after purse need does = (
+  does.last,
+  ap (λ (v : View). last_low purse v.notes) does.leaves ∙ seen_last view purse does.earlier does.last,
+  does.covered,
+  ap (λ (v : View). v.claims) does.leaves,
+)
+
+pub refuses : (view after : View) (purse need seen : ℕ) → Refuses view purse need seen after →
+    (last_low purse after.notes ≡ Some seen) × (seen < need) × (after.claims ≡ view.claims)
+refuses view after purse need seen does = (
+  ap (λ (v : View). last_low purse v.notes) does.leaves ∙ seen_last view purse does.earlier seen,
+  does.short,
+  ap (λ (v : View). v.claims) does.leaves,
+)
+
+pub tries : (need first last : ℕ) (rest : List ℕ) → Finds need (first ∷ rest) last → need ≤ first
+tries need first last rest finds = finds.enough 0 0 (omega arith)

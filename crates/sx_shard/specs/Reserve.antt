@@ -1,8 +1,8 @@
 -- What a reservation finds and what it leaves: one look at the purse, and then takes.
-use Rattle.std.specs.Prelude.{◌≡◌, ℕ, ◌<◌, ◌≤◌, List, [], ◌∷◌, ◌++◌, map, All}
+use Rattle.std.specs.Prelude.{◌≡◌, ℕ, ◌<◌, ◌≤◌, List, [], ◌∷◌, ◌++◌, map, All, Some}
 use Rattle.sx_event.specs.declared.marks.Claim.TheVariants.{Debit}
 use Rattle.sx_event.specs.declared.marks.Note.TheVariants.{Low}
-use Rattle.sx_event.specs.View.{View, with_claim}
+use Rattle.sx_event.specs.View.{View, with_claim, last_low}
 use Rattle.sx_event.specs.Step.{after_look, after_take}
 
 -- the view with a note of each of these values of the purse
@@ -52,3 +52,20 @@ LastTakeWins =
     (view : View) (purse need : ℕ) (earlier : List ℕ) (last : ℕ) →
     let seen = with_lows view purse (earlier ++ last ∷ []) in
     after_take seen purse need last ≡ with_claim seen (Debit purse need)
+
+-- after a reservation the value of the purse that was seen last covers the need, which is the one thing taken
+abbrev pub ReservesWhatIsThere : Type 0
+ReservesWhatIsThere =
+    (view after : View) (purse need : ℕ) → Reserves view purse need after →
+    (seen : ℕ) × (last_low purse after.notes ≡ Some seen) × (need ≤ seen)
+    × (after.claims ≡ view.claims ++ Debit purse need ∷ [])
+
+-- after a refusal it is the one that is told, which is less than the need, and nothing is taken
+abbrev pub RefusesTooLittle : Type 0
+RefusesTooLittle =
+    (view after : View) (purse need seen : ℕ) → Refuses view purse need seen after →
+    (last_low purse after.notes ≡ Some seen) × (seen < need) × (after.claims ≡ view.claims)
+
+-- where the look finds less than the need, nothing more is tried
+abbrev pub TriesWhileEnough : Type 0
+TriesWhileEnough = (need first last : ℕ) (rest : List ℕ) → Finds need (first ∷ rest) last → need ≤ first
