@@ -10,45 +10,49 @@ The text has one entry a line. Words are parted by spaces, numbers are decimal, 
 A line `state`, `block`, `candidates`, `outcomes` or `script` begins a record, and the lines after it, up to the next
 such line, belong to it.
 
-    state version 1 height H assets N                        a ledger at height H, with N assets
+    state version V height H assets N                        a ledger at height H, with N assets
     asset A price P rounding R                               for each asset; a price of 1 is 16777216
-    account ID last L balances B0 B1 ..                      its greatest sequence number used, 0 if none
+    account ID last L balances B0 B1 ..                      all sequence numbers up to L are used, 0 if none is
+    account ID last L used U balances B0 B1 ..               in version 2; bit i of U is for the number L + 1 + i
     offer SELL BUY limit M account ID seq S amount E         an offer that stands in the ledger
 
-    block version 1 height H mu J assets N                   a block, where μ is 2 to the power -J
+    block version V height H mu J assets N                   a block, where μ is 2 to the power -J
     asset A price P potential Q rounding R
     trade SELL BUY VALUE
     dropped none                                             or `dropped CUT`, 8 hexadecimal digits
     parent DIGEST                                            64 hexadecimal digits
     body DIGEST
     after DIGEST
-    transactions COUNT                                       not looked at
+    transactions COUNT
     tx ACCOUNT SEQ pay TO ASSET AMOUNT
     tx ACCOUNT SEQ create ID
     tx ACCOUNT SEQ offer SELL BUY limit M amount E
     tx ACCOUNT SEQ cancel SELL BUY limit M seq S
 
-    candidates COUNT                                         transactions that a block may take; not looked at
+    candidates COUNT                                         transactions that a block may take
     tx ..                                                    as in a block
 
-    script actors A turns T                                  who makes the next step; the number of turns is not looked at
+    script actors A turns T                                  who makes the next step
     turn K                                                   an actor, from 0; or several, as `turn 0 1 0 1`
 
-    outcomes COUNT                                           what became of candidates; the number is not looked at
+    outcomes COUNT                                           what became of candidates
     I accepted                                               or `seq-taken`, `offer-taken`, `name-taken`
     I static NUMBER
     I overdraft seen S need D
 
 Lines of one kind stand in the order in which they are to be written: accounts by id, offers and the transactions
-of a block as docs/FORMATS.md says. `write` tests neither order nor ranges, so it can make wrong records on purpose.
+of a block as docs/FORMATS.md says. `write` tests neither order nor ranges, so it can make wrong records on purpose. It
+tests every word, though: a line with a word or a number too many, too few or at another place is refused, and named.
 
-`version 1` may be left out, and in a block everything but the lines `tx`. A line `block` alone has the next
-height and μ = 2^-10. Without lines that say otherwise the prices are those of the ledger before the block, the
-potentials are 0, and digests and roundings are the right ones: `write` applies each block to the ledger before
-it. Where that fails, as with an overdraft, roundings and the digest `after` are 0. `show` writes every line.
+In a line that begins a record each word after the first may be left out, with its number: a version is then 1, a count
+is that of the lines, and a block has the next height and μ = 2^-10. In a block everything but the lines `tx` may be left
+out, and so may the ends of a line `asset`. The prices are then those of the ledger before the block, and digests,
+roundings and potentials are right ones: `write` applies each block to the ledger before it. Where that fails, as with an
+overdraft, roundings, potentials and the digest `after` are 0. `show` writes every line.
 """
 import contextlib
 import hashlib
+import os
 import struct
 import sys
 
@@ -78,10 +82,12 @@ def record(tag, payload):
 
 
 def state_record(state):
-    out = struct.pack(">BQB", 1, state["height"], len(state["prices"]))
+    out = struct.pack(">BQB", state["version"], state["height"], len(state["prices"]))
     out += numbers("Q", state["prices"]) + numbers("Q", state["roundings"])
     out += struct.pack(">I", len(state["accounts"]))
-    out += b"".join(numbers("Q", [id, last, *balances]) for id, last, balances in state["accounts"])
+    maps = [[] if state["version"] == 1 else [used] for _, _, used, _ in state["accounts"]]
+    rows = zip(state["accounts"], maps)
+    out += b"".join(numbers("Q", [id, last, *used, *balances]) for (id, last, _, balances), used in rows)
     out += struct.pack(">I", len(state["offers"]))
     return record(STATE, out + b"".join(struct.pack(">BBQQQQ", *offer) for offer in state["offers"]))
 
@@ -99,7 +105,7 @@ def candidates_record(txs):
 
 
 def block_record(block):
-    out = struct.pack(">BQ", 1, block["height"]) + block["parent"] + block["body"]
+    out = struct.pack(">BQ", block["version"], block["height"]) + block["parent"] + block["body"]
     out += struct.pack(">BB", block["mu"], len(block["prices"])) + numbers("Q", block["prices"])
     out += struct.pack(">H", len(block["trades"]))
     for (sell, buy), value in block["trades"].items():
@@ -147,12 +153,18 @@ class Bytes:
 
 
 def read_state(at):
-    _, height, assets = at.fields("BQB")
-    prices, roundings = at.fields(f"{assets}Q"), at.fields(f"{assets}Q")
-    rows = [at.fields(f"{2 + assets}Q") for _ in range(at.one("I"))]
-    offers = [tuple(at.fields("BBQQQQ")) for _ in range(at.one("I"))]
-    accounts = [(id, last, balances) for id, last, *balances in rows]
-    return {"height": height, "prices": prices, "roundings": roundings, "accounts": accounts, "offers": offers}
+    version, height, assets = at.fields("BQB")
+    state = {"version": version, "height": height}
+    state["prices"], state["roundings"] = at.fields(f"{assets}Q"), at.fields(f"{assets}Q")
+    state["accounts"] = [read_account(at, version, assets) for _ in range(at.one("I"))]
+    state["offers"] = [tuple(at.fields("BBQQQQ")) for _ in range(at.one("I"))]
+    return state
+
+
+def read_account(at, version, assets):
+    id, last = at.fields("QQ")
+    used = 0 if version == 1 else at.one("Q")
+    return id, last, used, at.fields(f"{assets}Q")
 
 
 def read_tx(at):
@@ -164,7 +176,8 @@ def read_tx(at):
 
 
 def read_block(at):
-    block = {"height": at.fields("BQ")[1], "parent": at.take(32), "body": at.take(32), "mu": at.one("B")}
+    block = dict(zip(("version", "height"), at.fields("BQ")))
+    block |= {"parent": at.take(32), "body": at.take(32), "mu": at.one("B")}
     assets = at.one("B")
     block["prices"], block["trades"] = at.fields(f"{assets}Q"), {}
     for _ in range(at.one("H")):
@@ -208,38 +221,82 @@ def digest(data):
     return hashlib.sha256(data).digest()
 
 
-def applied(state, block):
-    """The ledger after a block that is taken to be right, and the block's roundings."""
-    accounts = {id: [last, list(balances)] for id, last, balances in state["accounts"]}
+def settled(state, block):
+    """The balances, the offers and the numbers used of each account after the transactions, before anything trades."""
+    balances = {id: list(units) for id, _, _, units in state["accounts"]}
     offers = {offer[:5]: offer[5] for offer in state["offers"]}
+    numbers_used = {}
     for account, seq, kind, fields in block["txs"]:
-        entry = accounts.setdefault(account, [0, [0] * len(state["prices"])])
-        entry[0] = max(entry[0], seq)
+        mine = balances.setdefault(account, [0] * len(state["prices"]))
+        numbers_used.setdefault(account, set()).add(seq)
         if kind == "pay":
             to, asset, amount = fields
-            entry[1][asset] -= amount
-            accounts.setdefault(to, [0, [0] * len(state["prices"])])[1][asset] += amount
+            mine[asset] -= amount
+            balances.setdefault(to, [0] * len(state["prices"]))[asset] += amount
         elif kind == "create":
-            accounts.setdefault(fields[0], [0, [0] * len(state["prices"])])
+            balances.setdefault(fields[0], [0] * len(state["prices"]))
         elif kind == "offer":
             sell, buy, limit, amount = fields
-            entry[1][sell] -= amount
+            mine[sell] -= amount
             offers[sell, buy, limit, account, seq] = amount
         else:
             sell, buy, limit, number = fields
-            entry[1][sell] += offers.pop((sell, buy, limit, account, number), 0)
-    roundings = traded(accounts, offers, block)
+            mine[sell] += offers.pop((sell, buy, limit, account, number), 0)
+    return balances, offers, numbers_used
+
+
+def window_after(version, last, used, numbers_used):
+    """The last number and the map of an account that also used these numbers."""
+    if version == 1:
+        return max({last, *numbers_used}), 0
+    marked = {last + 1 + bit for bit in range(64) if used >> bit & 1} | numbers_used
+    end = last
+    while end + 1 in marked:
+        end += 1
+    return end, sum(1 << (number - end - 1) for number in marked if number > end)
+
+
+def applied(state, block):
+    """The ledger after a block that is taken to be right, and the block's roundings."""
+    balances, offers, numbers_used = settled(state, block)
+    roundings = traded(balances, offers, block)
+    windows = {id: (last, used) for id, last, used, _ in state["accounts"]}
+    accounts = []
+    for id in sorted(balances):
+        window = window_after(state["version"], *windows.get(id, (0, 0)), numbers_used.get(id, set()))
+        accounts.append((id, *window, balances[id]))
     after = {
+        "version": state["version"],
         "height": state["height"] + 1,
         "prices": block["prices"],
         "roundings": [a + b for a, b in zip(state["roundings"], roundings)],
-        "accounts": [(id, *accounts[id]) for id in sorted(accounts)],
+        "accounts": accounts,
         "offers": [(*key, offers[key]) for key in sorted(offers)],
     }
     return after, roundings
 
 
-def traded(accounts, offers, block):
+def potentials_of(state, block):
+    """Potentials that fit the block's trades, where there are any: the least, by rounds over all pairs."""
+    offers, prices = settled(state, block)[1], block["prices"]
+    bounds, part = {}, 2 ** block["mu"]
+    for (sell, buy, limit, _, _), amount in offers.items():
+        low, high = bounds.get((sell, buy), (0, 0))
+        value, rate, wanted = prices[sell] * amount, prices[sell] << 24, limit * prices[buy]
+        must = block["cut"] is None and rate * (part - 1) >= wanted * part
+        bounds[sell, buy] = (low + value * must, high + value * (rate >= wanted))
+    potentials = [0 for _ in prices]
+    for _ in prices:
+        for (sell, buy), (low, high) in bounds.items():
+            traded_here = block["trades"].get((sell, buy), 0)
+            if traded_here < high:
+                potentials[buy] = max(potentials[buy], potentials[sell] + 1)
+            if traded_here > low:
+                potentials[sell] = max(potentials[sell], potentials[buy] - 1)
+    return potentials
+
+
+def traded(balances, offers, block):
     """Fills the offers of each pair, from the lowest limit price up; answers the roundings."""
     prices, roundings = block["prices"], [0] * len(block["prices"])
     for (sell, buy), left in block["trades"].items():
@@ -250,7 +307,7 @@ def traded(accounts, offers, block):
             offers[key] -= gives
             if not offers[key]:
                 del offers[key]
-            accounts[key[3]][1][buy] += gets
+            balances[key[3]][buy] += gets
             roundings[sell] += gives
             roundings[buy] -= gets
     return roundings
@@ -260,134 +317,205 @@ def completed(block, state):
     """The block with what its text left out, and the ledger after it."""
     assets = range(len(state["prices"]) if block["assets"] is None else block["assets"])
     rows = block.pop("rows")
-    for at, name in enumerate(("price", "potential", "rounding")):
-        block[name + "s"] = [rows[it][at] if it in rows else 0 for it in assets]
-    for it in assets:
-        if it not in rows:
-            block["prices"][it] = state["prices"][it]
+    said = {name: [rows.get(it, {}).get(name) for it in assets] for name in ("price", "potential", "rounding")}
+    block["prices"] = [state["prices"][it] if price is None else price for it, price in enumerate(said["price"])]
     if block["height"] is None:
         block["height"] = state["height"] + 1
-    after, roundings, after_digest = None, [0 for _ in assets], bytes(32)
+    found = {"potential": [0 for _ in assets], "rounding": [0 for _ in assets]}
+    after, after_digest = None, bytes(32)
     with contextlib.suppress(*WRONG):
-        after, roundings = applied(state, block)
+        after, found["rounding"] = applied(state, block)
+        found["potential"] = potentials_of(state, block)
         after_digest = digest(state_record(after))
-    for it in assets:
-        if it not in rows:
-            block["roundings"][it] = roundings[it]
+    for name, right in found.items():
+        block[name + "s"] = [it if one is None else one for it, one in zip(right, said[name])]
     right = {"parent": digest(state_record(state)), "body": digest(body_bytes(block["txs"])), "after": after_digest}
-    return {**block, **{name: block[name] or right[name] for name in right}}, after
+    return {**block, **{name: right[name] if block[name] is None else block[name] for name in right}}, after
 
 
 # ---- text
 
 
-def number_after(words, name, other):
-    return int(words[words.index(name) + 1]) if name in words else other
+def decimal(word):
+    """A number that is spelled in decimal digits alone."""
+    if not (word.isascii() and word.isdecimal()):
+        raise ValueError
+    return int(word)
+
+
+def matched(words, pattern):
+    """The numbers of a line, where it is that of the pattern: words in small letters stand as they are, those in
+    capitals for a number, and one that ends in two dots for any number of them."""
+    names = pattern.split()
+    if names[-1].endswith(".."):
+        names[-1:] = [names[-1]] * (len(words) - len(names) + 1)
+    if len(names) != len(words) or any(name.islower() and name != word for name, word in zip(names, words)):
+        raise ValueError
+    return [decimal(word) for name, word in zip(names, words) if not name.islower()]
+
+
+def options(words, *names):
+    """The numbers of a line that begins a record, by name: each name once at most, with a number after it."""
+    found = dict(zip(words[1::2], map(decimal, words[2::2])))
+    if len(words) != 1 + 2 * len(found) or not found.keys() <= set(names):
+        raise ValueError
+    return {name: found.get(name) for name in names}
+
+
+def put_once(to, key, value):
+    if to.get(key) is not None:
+        raise ValueError
+    to[key] = value
+
+
+def count_of(words):
+    """The count in a line of two words, None where it is left out."""
+    return matched(words, f"{words[0]} COUNT")[0] if len(words) > 1 else None
 
 
 def write(lines):
     """The bytes of the records that the text says."""
-    out, state, kind, value = [], None, None, None
+    out, state, record_at, value = [], None, 0, None
 
     def close():
         nonlocal state
-        if kind == "state":
-            state = value
-            out.append(state_record(state))
-        elif kind == "block":
-            whole, state = completed(value, state)
-            out.append(block_record(whole))
-        elif kind:
-            out.append(RECORDS[kind](value))
+        if value:
+            kind, content = value
+            if kind == "block":
+                content, state = completed(content, state)
+            elif kind == "state":
+                state = content
+            out.append(RECORDS[kind](counted(kind, content)))
 
-    for at, line in enumerate(lines, 1):
-        words = line.split("#")[0].split()
+    for at, line in enumerate([*lines, None], 1):
+        words = line.split("#")[0].split() if line else []
+        try:
+            if line is None or words and words[0] in BEGINS:
+                close()
+        except WRONG:
+            sys.exit(f"records: the record that begins in line {record_at} is not understood")
         try:
             if words and words[0] in BEGINS:
-                close()
-                kind, value = words[0], BEGINS[words[0]](words)
+                record_at, value = at, (words[0], BEGINS[words[0]](words))
             elif words:
-                add_line(kind, value, words)
+                ADDS[value[0]](value[1], words)
         except WRONG:
-            sys.exit(f"records: line {at}, or the record that ends before it, is not understood: {line.strip()}")
-    try:
-        close()
-    except WRONG:
-        sys.exit("records: the last record is not understood")
+            sys.exit(f"records: line {at} is not understood: {line.strip()}")
     return b"".join(out)
 
 
+def counted(kind, content):
+    """The content, where it has as many entries as its text says."""
+    entries = {"state": "prices", "block": "txs", "script": "turns"}.get(kind, "entries")
+    said = content["assets" if kind == "state" else "count"]
+    if said not in (None, len(content[entries])):
+        raise ValueError
+    return content
+
+
 def state_of(words):
-    return {"height": number_after(words, "height", 0), "prices": [], "roundings": [], "accounts": [], "offers": []}
+    found = options(words, "version", "height", "assets")
+    state = {"version": 1, "height": 0, **{name: it for name, it in found.items() if it is not None}}
+    return {"assets": None, **state, "prices": [], "roundings": [], "accounts": [], "offers": []}
 
 
 def block_of(words):
-    block = {"parent": None, "body": None, "after": None, "cut": None, "rows": {}, "trades": {}, "txs": []}
-    block["mu"] = number_after(words, "mu", 10)
-    return {**block, **{it: number_after(words, it, None) for it in ("height", "assets")}}
+    found = options(words, "version", "height", "mu", "assets")
+    block = {"parent": None, "body": None, "after": None, "dropped": None, "count": None}
+    block |= {"cut": None, "rows": {}, "trades": {}, "txs": [], **found}
+    return {**block, "version": found["version"] or 1, "mu": 10 if found["mu"] is None else found["mu"]}
 
 
 def script_of(words):
-    return {"actors": number_after(words, "actors", 1), "turns": []}
+    found = options(words, "actors", "turns")
+    return {"actors": 1 if found["actors"] is None else found["actors"], "turns": [], "count": found["turns"]}
+
+
+def list_of(words):
+    return {"entries": [], "count": count_of(words)}
 
 
 # what a line that begins a record says, and how the record is written; a state and a block are completed first
-BEGINS = {
-    "state": state_of,
-    "block": block_of,
-    "candidates": lambda words: [],
-    "outcomes": lambda words: [],
-    "script": script_of,
+BEGINS = {"state": state_of, "block": block_of, "candidates": list_of, "outcomes": list_of, "script": script_of}
+RECORDS = {
+    "state": state_record,
+    "block": block_record,
+    "candidates": lambda content: candidates_record(content["entries"]),
+    "outcomes": lambda content: outcomes_record(content["entries"]),
+    "script": script_record,
 }
-RECORDS = {"candidates": candidates_record, "outcomes": outcomes_record, "script": script_record}
 
 
-def add_line(kind, to, words):
-    """Adds a line to a record of this kind."""
-    found = [int(it) for it in words if it.isdigit()]
-    if kind == "state":
-        add_to_state(to, words, found)
-    elif kind == "block":
-        add_to_block(to, words, found)
-    elif kind == "candidates":
-        to.append(tx_of(words, found))
-    elif kind == "outcomes":
-        to.append((words[1], [int(it) for it in words[2:] if it.isdigit()]))
-    elif kind == "script" and words[0] == "turn" and len(found) + 1 == len(words):
-        to["turns"] += found
-    else:
-        raise ValueError
+def tx_of(words):
+    kind = words[3]
+    names = " ".join(f"{name}N" for name in NAMES[kind])
+    account, seq, *fields = matched(words, f"tx ACCOUNT SEQ {kind} {names}")
+    return account, seq, kind, fields
 
 
-def tx_of(words, found):
-    if words[0] != "tx" or len(found) != 2 + len(KINDS[words[3]][1]):
-        raise ValueError
-    return found[0], found[1], words[3], found[2:]
-
-
-def add_to_state(state, words, found):
+def add_to_state(state, words):
     if words[0] == "asset":
-        state["prices"].append(found[1])
-        state["roundings"].append(found[2])
+        asset, price, rounding = matched(words, "asset A price P rounding R")
+        if asset != len(state["prices"]):
+            raise ValueError
+        state["prices"].append(price)
+        state["roundings"].append(rounding)
     elif words[0] == "account":
-        state["accounts"].append((found[0], found[1], found[2:]))
-    elif words[0] == "offer":
-        state["offers"].append(tuple(found))
+        has_map = words[4:5] == ["used"]
+        used = "used U " if has_map else ""
+        id, last, *rest = matched(words, f"account ID last L {used}balances B..")
+        if has_map and state["version"] == 1:
+            raise ValueError
+        state["accounts"].append((id, last, rest[0] if has_map else 0, rest[1:] if has_map else rest))
     else:
-        raise ValueError
+        state["offers"].append(tuple(matched(words, "offer SELL BUY limit M account ID seq S amount E")))
 
 
-def add_to_block(block, words, found):
+def add_to_block(block, words):
     if words[0] == "asset":
-        block["rows"][found[0]] = found[1:]
+        names = words[2::2]
+        if names not in (["price"], ["price", "potential"], ["price", "rounding"], ["price", "potential", "rounding"]):
+            raise ValueError
+        asset, *row = matched(words, "asset A " + " ".join(f"{name} N" for name in names))
+        put_once(block["rows"], asset, dict(zip(names, row)))
     elif words[0] == "trade":
-        block["trades"][found[0], found[1]] = found[2]
-    elif words[0] == "dropped":
-        block["cut"] = None if words[1] == "none" else int(words[1], 16)
-    elif words[0] in ("parent", "body", "after"):
-        block[words[0]] = bytes.fromhex(words[1])
-    elif words[0] != "transactions":
-        block["txs"].append(tx_of(words, found))
+        sell, buy, value = matched(words, "trade SELL BUY VALUE")
+        put_once(block["trades"], (sell, buy), value)
+    elif words[0] == "dropped" and len(words) == 2:
+        put_once(block, "dropped", words[1])
+        block["cut"] = None if words[1] == "none" else int.from_bytes(hexadecimal(words[1], 4), "big")
+    elif words[0] in ("parent", "body", "after") and len(words) == 2:
+        put_once(block, words[0], hexadecimal(words[1], 32))
+    elif words[0] == "transactions":
+        put_once(block, "count", count_of(words))
+    else:
+        block["txs"].append(tx_of(words))
+
+
+def hexadecimal(word, count):
+    data = bytes.fromhex(word)
+    if len(data) != count:
+        raise ValueError
+    return data
+
+
+def add_outcome(content, words):
+    name = words[1]
+    pattern = {"static": "I static NUMBER", "overdraft": "I overdraft seen S need D"}.get(name, f"I {name}")
+    at, *fields = matched(words, pattern)
+    if at != len(content["entries"]) or name not in RESULTS:
+        raise ValueError
+    content["entries"].append((name, fields))
+
+
+# what a line inside a record adds to it
+ADDS = {
+    "state": add_to_state,
+    "block": add_to_block,
+    "candidates": lambda content, words: content["entries"].append(tx_of(words)),
+    "outcomes": add_outcome,
+    "script": lambda script, words: script["turns"].extend(matched(words, "turn K..")),
+}
 
 
 def show(data):
@@ -412,17 +540,20 @@ def show(data):
 
 
 def state_lines(state):
-    yield f"state version 1 height {state['height']} assets {len(state['prices'])}"
+    yield f"state version {state['version']} height {state['height']} assets {len(state['prices'])}"
     for asset, (price, rounding) in enumerate(zip(state["prices"], state["roundings"])):
         yield f"asset {asset} price {price} rounding {rounding}"
-    for id, last, balances in state["accounts"]:
-        yield f"account {id} last {last} balances {' '.join(map(str, balances))}"
+    for id, last, used, balances in state["accounts"]:
+        window = f"last {last}" if state["version"] == 1 else f"last {last} used {used}"
+        yield f"account {id} {window} balances {' '.join(map(str, balances))}"
     for sell, buy, limit, account, seq, amount in state["offers"]:
         yield f"offer {sell} {buy} limit {limit} account {account} seq {seq} amount {amount}"
 
 
 def block_lines(block):
-    yield f"block version 1 height {block['height']} mu {block['mu']} assets {len(block['prices'])}"
+    yield (
+        f"block version {block['version']} height {block['height']} mu {block['mu']} assets {len(block['prices'])}"
+    )
     yield f"parent {block['parent'].hex()}"
     yield f"body {block['body'].hex()}"
     for asset, row in enumerate(zip(block["prices"], block["potentials"], block["roundings"])):
@@ -457,10 +588,19 @@ def outcomes_lines(outcomes):
         yield " ".join([str(at), name, *words])
 
 
-if __name__ == "__main__":
-    if sys.argv[1:] == ["write"]:
+def main(words):
+    if words == ["write"]:
         sys.stdout.buffer.write(write(sys.stdin))
-    elif sys.argv[1:] == ["show"]:
+    elif words == ["show"]:
         show(sys.stdin.buffer.read())
     else:
         sys.exit("usage: python3 records.py write <TEXT >RECORDS, or python3 records.py show <RECORDS >TEXT")
+    sys.stdout.flush()
+
+
+if __name__ == "__main__":
+    try:
+        main(sys.argv[1:])
+    except BrokenPipeError:
+        # whoever reads the output wants no more of it
+        os.dup2(os.open(os.devnull, os.O_WRONLY), sys.stdout.fileno())

@@ -7,7 +7,6 @@ use Rattle.std.proofs.lemmas.List.{get_or-map, length-map}
 use Rattle.std.proofs.lemmas.List.Elements.{All-contains}
 use Rattle.sx_apply.specs.FillSums.{balances_paid, paid_by, proceeds_by}
 use Rattle.sx_apply.specs.Trading.{CanTrade, Clears, GetsItsValue, GivesItsValue, TradesInFull, TradesWithinLimits}
-use Rattle.sx_apply.specs.Trading.{held}
 use Rattle.sx_apply.proofs.FillPlaces.{proceeds_is}
 use Rattle.sx_apply.proofs.PaidAccounts.{paid_at, paid_length}
 use Rattle.sx_block.specs.declared.header.Header.{Header}
@@ -15,7 +14,7 @@ use Rattle.sx_block.specs.EffectLaws.{IsRounded, IsTradable}
 use Rattle.sx_block.proofs.FillLaws.{gets_less, gives_more, price_above}
 use Rattle.sx_block.proofs.LimitLaws.{must_in_full, only_within_limit}
 use Rattle.sx_block.proofs.TradeKeeps.{trade_keeps_ledger}
-use Rattle.sx_block.proofs.TradeTotals.{added_at, added_length, trade_conserves}
+use Rattle.sx_block.proofs.TradeTotals.{added_at, added_length}
 use Rattle.sx_dual.specs.declared.cut.Cut.{Cut}
 use Rattle.sx_dual.specs.Sums.{EachPair}
 use Rattle.sx_dual.specs.Tables.{value_of as flow_of}
@@ -106,19 +105,6 @@ module _ (parts : Parts) (prices : List ℕ) (flow : Flow) (rounding : List ℕ)
   pub buys_known : All (λ offer. All (λ account. offer.buy < length account.balances) parts.accounts) parts.offers
   buys_known k d lt i e within =
       let offer = is.offers k d lt in let account = is.accounts i e within in omega (arith, offer.buy, account.balances)
-
-  -- balances and offers fall by the block's rounding
-  pub held_is : (asset : ℕ) → asset < assets_of parts
-      → held parts asset ≡ held (traded parts prices flow rounding) asset + slice_index rounding asset
-  held_is asset lt =
-      let same = trade_conserves parts prices flow rounding asset is tradable rounded lt in
-      let at = added_at asset parts.rounding rounding (omega (arith, is.one_rounding)) rounding_long in
-      omega arith
-
-  pub rounding_is : (asset : ℕ) → asset < assets_of parts
-      → slice_index (traded parts prices flow rounding).rounding asset
-      ≡ slice_index parts.rounding asset + slice_index rounding asset
-  rounding_is asset lt = added_at asset parts.rounding rounding (omega (arith, is.one_rounding)) rounding_long
 
 -- ---- a header that clears a ledger
 

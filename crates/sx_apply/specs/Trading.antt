@@ -1,6 +1,6 @@
 -- When a flow can trade, and what follows of the trade.
 use Rattle.std.specs.Prelude.{◌≡◌, ℕ, ◌+◌, ◌*◌, ◌<◌, ◌≤◌, List, length, None, is_some}
-use Rattle.std.specs.List.{All, Contains, sum_by}
+use Rattle.std.specs.List.{All, Contains}
 use Rattle.sx_block.specs.declared.header.Header.{Header}
 use Rattle.sx_block.specs.EffectLaws.{IsRounded, IsTradable}
 use Rattle.sx_dual.specs.Fit.{Fits}
@@ -11,7 +11,7 @@ use Rattle.sx_ledger.specs.declared.offer.Offer.{Offer}
 use Rattle.sx_ledger.specs.declared.parts.Parts.{Parts}
 use Rattle.sx_ledger.specs.Bounds.{high_of, low_of, price_of}
 use Rattle.sx_ledger.specs.Fills.{Flow, gets, gives, value_of}
-use Rattle.sx_ledger.specs.Ledger.{IsLedger, assets_of, balance_at, offered}
+use Rattle.sx_ledger.specs.Ledger.{IsLedger, assets_of}
 use Rattle.sx_price.specs.Limits.{IsPrice, MayTrade, MustTrade}
 
 -- ---- when a flow can trade
@@ -30,6 +30,14 @@ pub record AreFills (assets : ℕ) (offers : List Offer) (fills : List Fill) : T
   pub same_assets : length prices ≡ assets
   pub can_trade : CanTrade offers prices flow
   pub are : fills ≡ all_fills prices flow offers
+
+-- these are the fills of all offers of a ledger for some flow that can trade at the prices, and this is what rounding
+-- keeps then
+pub record CanExecute (parts : Parts) (prices rounding : List ℕ) (fills : List Fill) : Type 0 where
+  pub flow : Flow
+  pub tradable : IsTradable parts prices flow
+  pub rounded : IsRounded parts prices flow rounding
+  pub are : fills ≡ all_fills prices flow parts.offers
 
 -- the flow and the potentials of the header fit the bounds of the ledger's offers at its prices, and its rounding is
 -- what the trade keeps
@@ -81,7 +89,3 @@ GetsItsValue parts header =
     (price_of header.prices offer.buy * gets_in parts header offer ≤ value_in parts header offer)
     × (value_in parts header offer
     < price_of header.prices offer.buy * gets_in parts header offer + price_of header.prices offer.buy)
-
--- what there is of an asset in balances and on offer
-abbrev pub held : Parts → ℕ → ℕ
-held parts asset = sum_by (balance_at asset) parts.accounts + sum_by (offered asset) parts.offers

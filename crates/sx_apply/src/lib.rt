@@ -5,32 +5,32 @@
 //! they get, the rounding of the block is kept, the prices are the ledger's, and the height rises by
 //! one. The two in turn give the ledger after the block. [`apply`] does both with [`Effects`] that are
 //! known already, since whoever judged the block had to find them. All answers are exactly those of the
-//! definitions of `sx_ledger` and `sx_block`, which are plain sums.
+//! definitions of `sx_ledger` and `sx_block`, which are plain sums. [`execute`] is the trade where it is
+//! known what each offer trades, for callers that have no header yet.
 //!
 //! [`bounds_of`] answers what each pair of assets must and may trade at some prices, and [`without_low`]
-//! the same once lower bounds are dropped. [`credits_of`] answers what a body credits, [`fills_of`] what
-//! each offer trades, and [`rounding_of`] what rounding keeps of each asset. They go over sorted lists
-//! once. By [`apply_laws`] a valid block has what the calls ask for.
+//! the same once lower bounds are dropped. [`tally_of`] answers what a body does, [`fills_of`] what each
+//! offer trades, and [`rounding_of`] what rounding keeps of each asset. They go over sorted lists once. By [`apply_laws`] a valid block has what the calls ask for.
 //!
 //! Not here: whether a block is valid, and how its prices and its flow are found.
 #![tactic(auto)]
 
 mod applying;
 mod bounds;
-mod credits;
 mod effects;
 mod fills;
 mod laws;
 mod lessening;
 mod proceeds;
 mod rounding;
+mod tallying;
 mod trading;
 
 pub use applying::{apply, apply_body};
 pub use bounds::{bounds_of, without_low};
-pub use credits::credits_of;
 pub use effects::Effects;
 pub use fills::fills_of;
 pub use laws::apply_laws;
 pub use rounding::rounding_of;
-pub use trading::trade;
+pub use tallying::tally_of;
+pub use trading::{execute, trade};

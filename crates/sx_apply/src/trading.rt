@@ -1,10 +1,11 @@
 //! Trading at the prices of a header.
 
 ghost use Rattle.std.specs.Prelude.{◌≡◌, ℕ, ◌+◌, ◌^◌, ◌<◌, IfOk, length, slice_index};
-ghost use Rattle.sx_apply.specs.Trading.{Clears, GetsItsValue, GivesItsValue, TradesInFull, TradesWithinLimits, held};
-ghost use Rattle.sx_block.specs.EffectLaws.{IsRounded, IsTradable};
+ghost use Rattle.sx_apply.specs.Trading.{CanExecute, Clears, GetsItsValue, GivesItsValue, TradesInFull, TradesWithinLimits};
+ghost use Rattle.sx_block.specs.EffectLaws.{circulating};
 ghost use Rattle.sx_dual.specs.Tables.{value_of};
 ghost use Rattle.sx_fill.specs.AllFills.{all_fills};
+ghost use Rattle.sx_ledger.specs.Fills.{Flow};
 ghost use Rattle.sx_ledger.specs.Ledger.{assets_of, most_height};
 ghost use Rattle.sx_ledger.specs.Trade.{added, traded};
 
@@ -40,33 +41,35 @@ fn with_rounding(rounding: Balances, more: &[u64]) -> Balances
     Balances::of(numbers)
 }
 
-// The ledger after these fills of its offers, at the prices of the header and with its rounding.
+/// The ledger after trading at these prices, with this rounding, where it is known what each offer trades:
+/// these are the fills of all its offers, for some flow that can trade. Offers lose what they give, and
+/// those with nothing left are gone; sellers are credited with what they get; the rounding is kept, the
+/// prices are the ledger's, and the height rises by one. Accounts and offers change in place.
 pub fn execute(
     alloc: Global,
     ledger: Ledger,
-    header: &Header,
+    prices: &Prices,
+    rounding: &Balances,
     fills: &[Fill],
 ) -> Result<Ledger, NoMemory>
     requires below_last { ledger.height < most_height }
-    requires tradable { IsTradable ledger header.now.prices (value_of header.now.trades) }
-    requires rounded { IsRounded ledger header.now.prices (value_of header.now.trades) header.now.rounding }
-    requires fills { fills.now ≡ all_fills header.now.prices (value_of header.now.trades) ledger.offers }
-    ensures { IfOk result (λ after. after ≡ traded ledger header.now.prices (value_of header.now.trades) header.now.rounding) }
+    requires fills { CanExecute ledger prices.now rounding.now fills.now }
+    ensures { (flow : Flow) → fills.now ≡ all_fills prices.now flow ledger.offers → IfOk result (λ after. after ≡ traded ledger prices.now flow rounding.now) }
 {
-    let prices = header.prices.items().to_vec(alloc)?;
+    let copy = Prices::of(prices.items().to_vec(alloc)?);
     let Parts {
         version,
         height,
         prices: _,
-        rounding,
+        rounding: kept,
         accounts,
         offers,
     } = ledger.into_parts();
     Ok(Ledger::of(Parts {
         version,
         height: height + 1,
-        prices: Prices::of(prices),
-        rounding: with_rounding(rounding, header.rounding.items()),
+        prices: copy,
+        rounding: with_rounding(kept, rounding.items()),
         accounts: with_proceeds(alloc, accounts, offers.items(), fills)?,
         offers: Offers::of(lessened(offers.into_items(), fills)),
     }))
@@ -90,10 +93,16 @@ pub fn trade(alloc: Global, ledger: Ledger, header: &Header) -> Result<Ledger, N
     ensures in_full { TradesInFull ledger header.now }
     ensures gives { GivesItsValue ledger header.now }
     ensures gets { GetsItsValue ledger header.now }
-    ensures conserves { IfOk result (λ after. (asset : ℕ) → asset < assets_of ledger → held ledger asset ≡ held after asset + slice_index header.now.rounding asset) }
+    ensures conserves { IfOk result (λ after. (asset : ℕ) → asset < assets_of ledger → circulating ledger asset ≡ circulating after asset + slice_index header.now.rounding asset) }
     ensures keeps_rounding { IfOk result (λ after. (asset : ℕ) → asset < assets_of ledger → slice_index after.rounding asset ≡ slice_index ledger.rounding asset + slice_index header.now.rounding asset) }
 {
     let offers = ledger.parts().offers.items();
     let fills = fills_of(alloc, offers, &header.prices, &header.trades)?;
-    execute(alloc, ledger, header, fills.items())
+    execute(
+        alloc,
+        ledger,
+        &header.prices,
+        &header.rounding,
+        fills.items(),
+    )
 }

@@ -1,6 +1,6 @@
 -- Cases worked out by hand, which the words of the specs have to refuse.
-use Rattle.std.proofs.Common.{◌^◌, ◌-◌, [], ◌∷◌, Some, refl, inl, inr, arith}
-use Rattle.sx_base.specs.Outside.{Rose, Appends, TakesPrefix}
+use Rattle.std.proofs.Common.{zero, suc, ◌^◌, ◌-◌, [], ◌∷◌, Some, refl, inl, inr, arith}
+use Rattle.sx_base.specs.Outside.{Rose, Appends, AppendsPrefix, TakesPrefix}
 use Rattle.sx_base.specs.Exact.{IsFilled, EndsEarly}
 
 -- a count that did not change has not risen, below its last value
@@ -27,3 +27,14 @@ not_early t = let lt = t.too_few in omega arith
 -- bytes are appended after those that are there
 not_appended : Appends (Some (1 ∷ [])) (Some (2 ∷ 1 ∷ [])) (2 ∷ []) → ⊥
 not_appended e = absurd cc
+
+-- what a failed write leaves is a prefix of the bytes, and no others
+not_prefix : AppendsPrefix (Some (1 ∷ [])) (Some (1 ∷ 9 ∷ [])) (2 ∷ 3 ∷ []) → ⊥
+not_prefix (zero, few, e) = absurd cc
+not_prefix (suc n, few, e) = absurd cc
+
+-- nor is it more than all of them
+not_longer : AppendsPrefix (Some (1 ∷ [])) (Some (1 ∷ 2 ∷ 2 ∷ [])) (2 ∷ []) → ⊥
+not_longer (zero, few, e) = absurd cc
+not_longer (suc zero, few, e) = absurd cc
+not_longer (suc (suc n), few, e) = absurd cc

@@ -109,7 +109,7 @@ units_again c x after is within e =
 -- ---- what stands before the number of assets
 
 abbrev version_at : Reading ℕ
-version_at = field_at 1 (between 1 1) form.Version
+version_at = field_at 1 (between 1 2) form.Version
 
 abbrev height_at : Reading ℕ
 height_at = field_at 8 (between 0 (2 ^ 63 - 1)) form.HeightRange
@@ -133,7 +133,8 @@ abbrev front_text : Front → List ℕ
 front_text front = big_bytes 1 front.0 ++ (big_bytes 8 front.1 ++ digests_text front.2 front.3 front.4)
 
 record IsFront (front : Front) : Type 0 where
-  version : front.0 ≡ 1
+  some_version : 1 ≤ front.0
+  few_versions : front.0 ≤ 2
   height : front.1 ≤ 2 ^ 63 - 1
   parent : IsDigest front.2
   body : IsDigest front.3
@@ -153,7 +154,7 @@ unfolding front_at
 front_takes c next x bytes e =
     let v = bind_ok (version_at c) (λ version. from_height version.0 version.1) (x, next) e in
     let h = bind_ok (height_at v.0.1) (λ height. from_digests v.0.0 height.0 height.1) (x, next) v.2 in
-    let t0 = range_takes 1 1 1 form.Version c v.0.1 v.0.0 bytes v.1 in
+    let t0 = range_takes 1 1 2 form.Version c v.0.1 v.0.0 bytes v.1 in
     let bytes1 = bytes_after c v.0.1 (big_bytes 1 v.0.0) t0.0 bytes in
     let t1 = range_takes 8 0 (2 ^ 63 - 1) form.HeightRange v.0.1 h.0.1 h.0.0 bytes1 h.1 in
     let bytes2 = bytes_after v.0.1 h.0.1 (big_bytes 8 h.0.0) t1.0 bytes1 in
@@ -165,7 +166,7 @@ front_takes c next x bytes e =
     Takes-then c v.0.1 next (big_bytes 1 v.0.0) (big_bytes 8 h.0.0 ++ text) t0.0
     (Takes-then v.0.1 h.0.1 next (big_bytes 8 h.0.0) text t1.0 t2.4) in
     let is : IsFront (joined v.0.0 h.0.0 t2.0 t2.1 t2.2) =
-    record { version = omega (arith, t0.1, t0.2); height = t1.2; parent = t2.5; body = t2.6; mu = t2.7 } in
+    record { some_version = t0.1; few_versions = t0.2; height = t1.2; parent = t2.5; body = t2.6; mu = t2.7 } in
     subst (λ (y : Front). Takes c (front_text y) next × IsFront y) t2.3 (all, is)
 
 front_again : ReadsAgain front_at front_text IsFront
@@ -173,8 +174,8 @@ unfolding front_at
 front_again c x after is within e =
     let text = digests_text x.2 x.3 x.4 in
     let v =
-    range_again 1 1 1 form.Version c x.0 ((big_bytes 8 x.1 ++ text) ++ after) (omega arith)
-    (omega (arith, is.version)) (omega (arith, is.version)) within
+    range_again 1 1 2 form.Version c x.0 ((big_bytes 8 x.1 ++ text) ++ after) (omega arith) is.some_version
+    is.few_versions within
     (e ∙ append_assoc (big_bytes 1 x.0) (big_bytes 8 x.1 ++ text) after) in
     let h =
     range_again 8 0 (2 ^ 63 - 1) form.HeightRange v.next x.1 (text ++ after) (omega arith) (omega arith)
@@ -332,7 +333,8 @@ header_takes c next h bytes e =
     let outcome = t.1.1.1.outcome in (
       t.0,
       record {
-        version = front.version;
+        some_version = front.some_version;
+        few_versions = front.few_versions;
         height = front.height;
         parent = front.parent;
         body = front.body;
@@ -357,7 +359,8 @@ unfolding header_at
 header_again c h after is within e =
     let front : IsFront (front_of h) =
     record {
-      version = is.version;
+      some_version = is.some_version;
+      few_versions = is.few_versions;
       height = is.height;
       parent = is.parent;
       body = is.body;

@@ -5,12 +5,16 @@ pub mod TradeLaws
 pub mod HeaderLaws
 pub mod BlockLaws
 pub mod Lengths
+pub mod BlockFaults
 pub mod ListSums
 pub mod PairFills
 pub mod FillLaws
 pub mod LimitLaws
 pub mod TradeTotals
 pub mod TradeKeeps
+pub mod Rules
+pub mod InPart
 pub mod ValidBlocks
 pub mod Cases
+pub mod FaultCases
 pub mod ValidCase

@@ -84,14 +84,14 @@ balances_in_range most accounts k d lt sums i e within =
     get_or-le-sum_by (balance_at i) accounts k d lt in
     rw same (omega (arith, sums i within))
 
-module _ (prices : List ℕ) (flow : ℕ → ℕ → ℕ) (offers : List Offer) (n : ℕ) (accounts : List Account)
-    (are : All (IsAccount n) accounts)
+module _ (prices : List ℕ) (flow : ℕ → ℕ → ℕ) (offers : List Offer) (version n : ℕ) (accounts : List Account)
+    (are : All (IsAccount version n) accounts)
     (sums : (asset : ℕ) → asset < n →
     sum_by (balance_at asset) (map (account_traded prices flow offers) accounts) ≤ 2 ^ 62) where
   abbrev trade : Account → Account
   trade = account_traded prices flow offers
 
-  account_is : (k : ℕ) (d : Account) → k < length accounts → IsAccount n (trade (get_or accounts k d))
+  account_is : (k : ℕ) (d : Account) → k < length accounts → IsAccount version n (trade (get_or accounts k d))
   account_is k d lt =
       let is = are k d lt in
       let account = get_or accounts k d in
@@ -103,15 +103,14 @@ module _ (prices : List ℕ) (flow : ℕ → ℕ → ℕ) (offers : List Offer) 
       (λ asset below. sums asset (omega (arith, ap (λ (a : Account). length a.balances) at))) in
       record {
         id = is.id;
-        last = is.last;
-        used = is.used;
+        window = is.window;
         balances = len;
         in_range =
             subst (λ (a : Account). All (λ balance. balance ≤ 2 ^ 62) a.balances) at range;
       }
 
-  pub accounts_are : All (IsAccount n) (map trade accounts)
-  accounts_are = All-map (IsAccount n) trade accounts account_is
+  pub accounts_are : All (IsAccount version n) (map trade accounts)
+  accounts_are = All-map (IsAccount version n) trade accounts account_is
 
 -- ---- all together
 
@@ -128,12 +127,13 @@ trade_keeps_ledger parts prices flow rounding is below fits rounds =
     let each =
     offers_are prices flow offers n parts.accounts offers
     (recursion_from_All (IsOffer n parts.accounts) offers is.offers) in
-    let all_accounts : All (IsAccount n) accounts =
-    accounts_are prices flow offers n parts.accounts is.accounts (λ asset lt. omega (arith, total asset lt)) in
+    let all_accounts : All (IsAccount parts.version n) accounts =
+    accounts_are prices flow offers parts.version n parts.accounts is.accounts (λ asset lt. omega (arith, total asset lt)) in
     let round_length : length (added parts.rounding rounding) ≡ n =
     added_length parts.rounding rounding (rounds.one_each ∙ sym is.one_rounding) ∙ is.one_rounding in
     record {
-      version = is.version;
+      some_version = is.some_version;
+      few_versions = is.few_versions;
       height = omega (arith, below);
       some_asset = omega (arith, is.some_asset);
       few_assets = omega (arith, is.few_assets);
@@ -142,7 +142,7 @@ trade_keeps_ledger parts prices flow rounding is below fits rounds =
       rounding =
           λ k d lt. rw (get_or_default (added parts.rounding rounding) k d 0 lt) (omega (arith, total k (omega arith)));
       few_accounts = omega (arith, length-map parts.accounts (account_traded prices flow offers), is.few_accounts);
-      accounts = subst (λ (m : ℕ). All (IsAccount m) accounts) (sym same) all_accounts;
+      accounts = subst (λ (m : ℕ). All (IsAccount parts.version m) accounts) (sym same) all_accounts;
       by_id = subst IsStrictlyIncreasing (sym (same_ids prices flow offers parts.accounts)) is.by_id;
       few_offers =
           omega (

@@ -1,13 +1,13 @@
 -- Trading makes and loses nothing of any asset.
 use Rattle.std.proofs.Common.{◌≡◌, ℕ, zero, suc, ◌+◌, ◌<◌, ◌≤◌, true, cond, eqb, ltb, ◌&&◌, List, [], ◌∷◌, length}
 use Rattle.std.proofs.Common.{get_or, map, sum_by, Some, refl, sym, ap, ap₂, ◌∙◌, inl, inr, arith}
-use Rattle.std.specs.Prelude.{nat_le, slice_index, ◌==◌}
+use Rattle.std.specs.Prelude.{slice_index, ◌==◌}
 use Rattle.std.specs.List.{AllByRecursion, filter}
 use Rattle.std.specs.List.Sorted.{IsStrictlyIncreasing}
 use Rattle.std.proofs.lemmas.Bool.{cases_Bool, and_parts, eq-eqb, ne_eqb, ltb-false, or_cases}
 use Rattle.std.proofs.lemmas.List.Elements.{recursion_from_All}
 use Rattle.std.proofs.lemmas.List.Sums.{sum_by-cons}
-use Rattle.sx_block.specs.EffectLaws.{IsTradable, TradeConserves}
+use Rattle.sx_block.specs.EffectLaws.{IsTradable, TradeConserves, TradeFallsByRounding, TradeKeepsRounding}
 use Rattle.sx_block.proofs.FillLaws.{gives_has}
 use Rattle.sx_ledger.specs.declared.account.Account.{Account}
 use Rattle.sx_ledger.specs.declared.offer.Offer.{Offer}
@@ -20,6 +20,7 @@ use Rattle.sx_ledger.specs.Static.{has_account}
 use Rattle.sx_ledger.specs.Trade.{account_traded, added, balances_traded, offer_traded, proceeds}
 use Rattle.sx_ledger.proofs.ListSums.{sum_by-add, sum_by-none, sum_by-one, sum_by-same}
 use Rattle.sx_ledger.proofs.PlacesOfIds.{Stands, same_place, stands}
+use Rattle.sx_tx.specs.Window.{is_used}
 
 -- ---- an offer's owner is there
 
@@ -27,8 +28,8 @@ owner_there : (accounts : List Account) (o : Offer) → has_owner accounts o ≡
     → has_account accounts o.account.0 ≡ true
 owner_there [] o e = absurd cc
 owner_there (account ∷ accounts) o e =
-    elim (or_cases ((account.id.0 == o.account.0) && nat_le o.seq account.window.last) (has_owner accounts o) e) [
-      | inl here ↦ let own = and_parts (account.id.0 == o.account.0) (nat_le o.seq account.window.last) here in
+    elim (or_cases ((account.id.0 == o.account.0) && is_used account.window o.seq) (has_owner accounts o) e) [
+      | inl here ↦ let own = and_parts (account.id.0 == o.account.0) (is_used account.window o.seq) here in
           rw own.0 refl
       | inr later ↦ elim (cases_Bool (eqb account.id.0 o.account.0))
           [ inl same ↦ rw same refl | inr other ↦ rw other (owner_there accounts o later) ]
@@ -82,12 +83,12 @@ balances_length prices flow offers account start [] = refl
 balances_length prices flow offers account start (b ∷ bs) =
     ap suc (balances_length prices flow offers account (suc start) bs)
 
-accounts_get : (prices : List ℕ) (flow : ℕ → ℕ → ℕ) (offers : List Offer) (n asset : ℕ) → asset < n
-    → (accounts : List Account) → AllByRecursion (IsAccount n) accounts
+accounts_get : (prices : List ℕ) (flow : ℕ → ℕ → ℕ) (offers : List Offer) (version n asset : ℕ) → asset < n
+    → (accounts : List Account) → AllByRecursion (IsAccount version n) accounts
     → sum_by (balance_at asset) (map (account_traded prices flow offers) accounts) ≡ sum_by (balance_at asset)
     accounts + sum_by (λ id. proceeds prices flow offers id asset) (ids accounts)
-accounts_get prices flow offers n asset lt [] all = refl
-accounts_get prices flow offers n asset lt (a ∷ accounts) all =
+accounts_get prices flow offers version n asset lt [] all = refl
+accounts_get prices flow offers version n asset lt (a ∷ accounts) all =
     let here : balance_at asset (account_traded prices flow offers a) ≡ balance_at asset a + proceeds prices flow
     offers a.id.0 asset =
     balance_is prices flow offers a.id.0 0 asset a.balances (omega (arith, all.0.balances))
@@ -95,7 +96,7 @@ accounts_get prices flow offers n asset lt (a ∷ accounts) all =
     (let e : 0 + asset ≡ asset = omega arith in e) in
     omega (
       arith,
-      accounts_get prices flow offers n asset lt accounts all.1,
+      accounts_get prices flow offers version n asset lt accounts all.1,
       sum_by-cons (balance_at asset) (account_traded prices flow offers a)
           (map (account_traded prices flow offers) accounts),
       sum_by-cons (balance_at asset) a accounts,
@@ -202,8 +203,8 @@ trade_conserves parts prices flow rounding asset is fits rounds lt =
     λ a below. let same = fits.same_assets in let p = fits.in_range a 0 (omega arith) in omega (arith, p.0) in
     let units = gets prices flow offers in
     let balances =
-    accounts_get prices flow offers n asset lt parts.accounts
-    (recursion_from_All (IsAccount n) parts.accounts is.accounts) in
+    accounts_get prices flow offers parts.version n asset lt parts.accounts
+    (recursion_from_All (IsAccount parts.version n) parts.accounts is.accounts) in
     let all_get : sum_by (λ id. proceeds prices flow offers id asset) (ids parts.accounts) ≡ got prices flow offers
     asset =
     counts_all units asset (ids parts.accounts) is.by_id offers (owners_stand n parts.accounts offers offers_are) in
@@ -216,3 +217,15 @@ trade_conserves parts prices flow rounding asset is fits rounds lt =
     added_at asset parts.rounding rounding (omega (arith, is.one_rounding)) (rounds.one_each ∙ sym is.one_rounding) in
     let keeps = rounds.is asset lt in
     omega arith
+
+pub trade_keeps_rounding : TradeKeepsRounding
+trade_keeps_rounding parts prices flow rounding asset is rounds lt =
+    added_at asset parts.rounding rounding (omega (arith, is.one_rounding)) (rounds.one_each ∙ sym is.one_rounding)
+
+pub trade_falls_by_rounding : TradeFallsByRounding
+trade_falls_by_rounding parts prices flow rounding asset is fits rounds lt =
+    omega (
+      arith,
+      trade_conserves parts prices flow rounding asset is fits rounds lt,
+      trade_keeps_rounding parts prices flow rounding asset is rounds lt,
+    )

@@ -13,7 +13,9 @@ use Rattle.sha2.proofs.Facts256.{length-sha256}
 use Rattle.sx_block.specs.declared.header.Block.{Block}
 use Rattle.sx_block.specs.Block.{IsBlock}
 use Rattle.sx_block.specs.Digest.{IsDigest}
-use Rattle.sx_block.specs.Validity.{IsValid, digest_of_ledger, flow_of_block, high_in, ledger_after, low_in}
+use Rattle.sx_block.specs.Rule.{Rule}
+use Rattle.sx_block.specs.Rule as rule
+use Rattle.sx_block.specs.Validity.{Holds, IsValid, digest_of_ledger, flow_of_block, high_in, ledger_after, low_in}
 use Rattle.sx_block.specs.Validity.{offers_of, undropped_low_in}
 use Rattle.sx_block.proofs.Cases.{account, offer, two_pairs}
 use Rattle.sx_bytes.specs.Field.{AreBytes}
@@ -57,7 +59,7 @@ is_digest message = record { whole = length-sha256 message; bytes = digest_bytes
 abbrev prices : List ℕ
 prices = 3 * 2 ^ 20 ∷ 2 * 2 ^ 20 ∷ []
 
-abbrev before : Parts
+abbrev pub before : Parts
 before = record {
   version = 1;
   height = 0;
@@ -77,7 +79,7 @@ after = record {
   offers = [];
 }
 
-abbrev block : Block
+abbrev pub block : Block
 block = record {
   header = record {
     version = 1;
@@ -117,7 +119,8 @@ is_flow = record {
 is_block : IsBlock block
 is_block = record {
   header = record {
-    version = refl;
+    some_version = omega arith;
+    few_versions = omega arith;
     height = omega arith;
     parent = is_digest (record_bytes 1 (state_bytes before));
     body = is_digest (list_bytes []);
@@ -185,24 +188,22 @@ leaves = refl
 
 valid : IsValid before block
 unfolding IsDistinct
-valid = record {
-  form = is_block;
-  below_last = omega arith;
-  next_height = refl;
-  parent = refl;
-  body = refl;
-  same_assets = refl;
-  admissible = record {
-    ordered = refl;
-    passes = All-nil (λ tx. static_of before tx ≡ Ok tt);
-    cancels_once = tt;
-    creates_once = tt;
-    accounts_fit = omega arith;
-    offers_fit = omega arith;
-    covered = λ account asset. omega arith;
-  };
-  fits = record { circulation = record { within = within; balanced = balanced }; tight = tight };
-  cut = cuts;
-  rounding = rounded;
-  after = ap digest_of_ledger leaves;
-}
+valid = record { form = is_block; rules = rules }
+  where
+    rules : (each : Rule) → Holds each before block
+    rules rule.BelowLast = omega arith
+    rules rule.NextHeight = refl
+    rules rule.Parent = refl
+    rules rule.Body = refl
+    rules rule.Assets = refl
+    rules rule.Passes = All-nil (λ tx. static_of before tx ≡ Ok tt)
+    rules rule.CancelsOnce = tt
+    rules rule.CreatesOnce = tt
+    rules rule.Room = (omega arith, omega arith)
+    rules rule.Covered = λ account asset. omega arith
+    rules rule.Within = within
+    rules rule.Balanced = balanced
+    rules rule.Tight = tight
+    rules rule.Cut = cuts
+    rules rule.Rounded = rounded
+    rules rule.After = ap digest_of_ledger leaves

@@ -21,8 +21,13 @@ CutFits n (Some cut) = cut.0 < 2 ^ n
 abbrev pub assets_of : Header → ℕ
 assets_of header = length header.prices
 
+-- the versions of a block are 1 and 2
+abbrev pub most_version : ℕ
+most_version = 2
+
 pub record IsHeader (header : Header) : Type 0 where
-  pub version : header.version ≡ 1
+  pub some_version : 1 ≤ header.version
+  pub few_versions : header.version ≤ most_version
   pub height : header.height ≤ most_height
   pub parent : IsDigest header.parent
   pub body : IsDigest header.body

@@ -3,6 +3,7 @@ use Rattle.std.specs.Prelude.{ℕ, ◌-◌, ◌*◌, ◌^◌, true, List, Option
 use Rattle.sx_block.specs.declared.header.Header.{Header}
 use Rattle.sx_block.specs.declared.header.Block.{Block}
 use Rattle.sx_block.specs.declared.trade.Trade.{Trade}
+use Rattle.sx_block.specs.Block.{most_version}
 use Rattle.sx_block.specs.Trades.{trade_before, flow_of}
 use Rattle.sx_base.specs.Ranges.{most_assets}
 use Rattle.sx_bytes.specs.declared.fault.Form.TheVariants as form
@@ -65,7 +66,7 @@ Front = ℕ × ℕ × List ℕ × List ℕ × ℕ
 
 unfoldable pub front_at : Cursor → Result (Front × Cursor) FormFault
 front_at c = do
-  version ← field_at 1 (between 1 1) form.Version c
+  version ← field_at 1 (between 1 most_version) form.Version c
   height ← field_at 8 (between 0 most_height) form.HeightRange version.1
   parent ← digest_at height.1
   body ← digest_at parent.1

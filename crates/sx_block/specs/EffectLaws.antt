@@ -1,5 +1,6 @@
 -- Laws of what trading and whole blocks leave, for all ledgers, flows and blocks.
 use Rattle.std.specs.Prelude.{◌≡◌, ℕ, ◌+◌, ◌*◌, ◌<◌, ◌≤◌, false, None, Some, List, length, All, Contains, slice_index}
+use Rattle.std.specs.List.{sum_by}
 use Rattle.sha2.specs.Sha256.{sha256}
 use Rattle.sx_block.specs.declared.header.Block.{Block}
 use Rattle.sx_block.specs.Validity.{IsValid, digest_of_ledger, flow_of_block, high_in, ledger_after, low_in}
@@ -11,7 +12,7 @@ use Rattle.sx_ledger.specs.declared.offer.Offer.{Offer}
 use Rattle.sx_ledger.specs.declared.parts.Parts.{Parts}
 use Rattle.sx_ledger.specs.Bounds.{high_of, low_of, price_of}
 use Rattle.sx_ledger.specs.Fills.{IsRounding, given, gives, gets, got, value_of}
-use Rattle.sx_ledger.specs.Ledger.{IsLedger, assets_of, most_height, total_of}
+use Rattle.sx_ledger.specs.Ledger.{IsLedger, assets_of, balance_at, most_height, offered, total_of}
 use Rattle.sx_ledger.specs.Trade.{traded}
 use Rattle.sx_price.specs.Limits.{IsPrice, MayTrade, MustTrade}
 use Rattle.sx_tx.specs.Transactions.{list_bytes}
@@ -28,6 +29,10 @@ pub record IsRounded (parts : Parts) (prices : List ℕ) (flow : ℕ → ℕ →
   pub one_each : length rounding ≡ assets_of parts
   pub is : (asset : ℕ) → asset < assets_of parts
       → IsRounding prices flow parts.offers asset (slice_index rounding asset)
+
+-- what there is of an asset in balances and on offer
+abbrev pub circulating : Parts → ℕ → ℕ
+circulating parts asset = sum_by (balance_at asset) parts.accounts + sum_by (offered asset) parts.offers
 
 -- ---- fills
 
@@ -70,6 +75,19 @@ MustTradeInFull =
     Contains parts.offers offer → MustTrade (price_of prices offer.sell) (price_of prices offer.buy) offer.limit j →
     gives prices flow parts.offers offer ≡ offer.amount
 
+-- some of it trades and some stays
+pub record IsInPart (prices : List ℕ) (flow : ℕ → ℕ → ℕ) (offers : List Offer) (offer : Offer) : Type 0 where
+  pub some : 0 < gives prices flow offers offer
+  pub not_all : gives prices flow offers offer < offer.amount
+
+-- at most one offer of a pair trades in part
+abbrev pub OneTradesInPart : Type 0
+OneTradesInPart =
+    (parts : Parts) (prices : List ℕ) (flow : ℕ → ℕ → ℕ) (one other : Offer) → IsLedger parts →
+    IsTradable parts prices flow → Contains parts.offers one → Contains parts.offers other →
+    one.sell ≡ other.sell → one.buy ≡ other.buy →
+    IsInPart prices flow parts.offers one → IsInPart prices flow parts.offers other → one ≡ other
+
 -- ---- trading
 
 -- rounding is never negative: no more is got of an asset than is given
@@ -85,6 +103,21 @@ TradeConserves =
     (parts : Parts) (prices : List ℕ) (flow : ℕ → ℕ → ℕ) (rounding : List ℕ) (asset : ℕ) → IsLedger parts →
     IsTradable parts prices flow → IsRounded parts prices flow rounding → asset < assets_of parts →
     total_of (traded parts prices flow rounding) asset ≡ total_of parts asset
+
+-- of each asset, balances and offers fall by exactly the rounding
+abbrev pub TradeFallsByRounding : Type 0
+TradeFallsByRounding =
+    (parts : Parts) (prices : List ℕ) (flow : ℕ → ℕ → ℕ) (rounding : List ℕ) (asset : ℕ) → IsLedger parts →
+    IsTradable parts prices flow → IsRounded parts prices flow rounding → asset < assets_of parts →
+    circulating parts asset ≡ circulating (traded parts prices flow rounding) asset + slice_index rounding asset
+
+-- and the ledger's rounding rises by it
+abbrev pub TradeKeepsRounding : Type 0
+TradeKeepsRounding =
+    (parts : Parts) (prices : List ℕ) (flow : ℕ → ℕ → ℕ) (rounding : List ℕ) (asset : ℕ) → IsLedger parts →
+    IsRounded parts prices flow rounding → asset < assets_of parts →
+    slice_index (traded parts prices flow rounding).rounding asset
+    ≡ slice_index parts.rounding asset + slice_index rounding asset
 
 -- the ledger after trading is a ledger
 abbrev pub TradeKeepsLedger : Type 0
@@ -105,6 +138,19 @@ abbrev pub BlockConserves : Type 0
 BlockConserves =
     (parts : Parts) (block : Block) (asset : ℕ) → IsLedger parts → IsValid parts block → asset < assets_of parts →
     total_of (ledger_after parts block) asset ≡ total_of parts asset
+
+-- of each asset, balances and offers fall in a valid block by exactly the rounding that its header says
+abbrev pub BlockHeldFalls : Type 0
+BlockHeldFalls =
+    (parts : Parts) (block : Block) (asset : ℕ) → IsLedger parts → IsValid parts block → asset < assets_of parts →
+    circulating parts asset ≡ circulating (ledger_after parts block) asset + slice_index block.header.rounding asset
+
+-- and the ledger's rounding rises by it
+abbrev pub BlockKeepsRounding : Type 0
+BlockKeepsRounding =
+    (parts : Parts) (block : Block) (asset : ℕ) → IsLedger parts → IsValid parts block → asset < assets_of parts →
+    slice_index (ledger_after parts block).rounding asset
+    ≡ slice_index parts.rounding asset + slice_index block.header.rounding asset
 
 -- the header of a valid block names the ledger before it, its transactions and the ledger after it by their digests
 abbrev pub BlockCommits : Type 0
@@ -148,3 +194,40 @@ BlockTradesInFull =
     MustTrade (price_of block.header.prices offer.sell) (price_of block.header.prices offer.buy) offer.limit
     block.header.mu →
     gives block.header.prices (flow_of_block block) (offers_of parts block) offer ≡ offer.amount
+
+-- what an offer trades, gives and gets in a block
+abbrev pub value_in : Parts → Block → Offer → ℕ
+value_in parts block offer = value_of block.header.prices (flow_of_block block) (offers_of parts block) offer
+
+abbrev pub gives_in : Parts → Block → Offer → ℕ
+gives_in parts block offer = gives block.header.prices (flow_of_block block) (offers_of parts block) offer
+
+abbrev pub gets_in : Parts → Block → Offer → ℕ
+gets_in parts block offer = gets block.header.prices (flow_of_block block) (offers_of parts block) offer
+
+-- what an offer gives in a valid block is worth its value, and less than one unit more
+abbrev pub BlockGivesItsValue : Type 0
+BlockGivesItsValue =
+    (parts : Parts) (block : Block) (offer : Offer) → IsLedger parts → IsValid parts block →
+    Contains (offers_of parts block) offer →
+    (value_in parts block offer ≤ price_of block.header.prices offer.sell * gives_in parts block offer)
+    × (price_of block.header.prices offer.sell * gives_in parts block offer
+    < value_in parts block offer + price_of block.header.prices offer.sell)
+
+-- what it gets is worth no more than its value, and less than one unit less
+abbrev pub BlockGetsItsValue : Type 0
+BlockGetsItsValue =
+    (parts : Parts) (block : Block) (offer : Offer) → IsLedger parts → IsValid parts block →
+    Contains (offers_of parts block) offer →
+    (price_of block.header.prices offer.buy * gets_in parts block offer ≤ value_in parts block offer)
+    × (value_in parts block offer
+    < price_of block.header.prices offer.buy * gets_in parts block offer + price_of block.header.prices offer.buy)
+
+-- at most one offer of a pair trades in part in a valid block
+abbrev pub OneInPart : Type 0
+OneInPart =
+    (parts : Parts) (block : Block) (one other : Offer) → IsLedger parts → IsValid parts block →
+    Contains (offers_of parts block) one → Contains (offers_of parts block) other →
+    one.sell ≡ other.sell → one.buy ≡ other.buy →
+    IsInPart block.header.prices (flow_of_block block) (offers_of parts block) one →
+    IsInPart block.header.prices (flow_of_block block) (offers_of parts block) other → one ≡ other

@@ -4,5 +4,7 @@ pub mod Encoding
 pub mod Decoding
 pub mod Block
 pub mod Laws
+pub mod Rule
 pub mod Validity
 pub mod EffectLaws
+pub mod ValidityLaws

@@ -9,7 +9,7 @@ use sx_tx::TxList;
 /// What a block says of itself.
 #[derive(Debug, Drop)]
 pub struct Header {
-    /// The version of the form, which is 1.
+    /// The version, 1 or 2: whether transactions may spend what the block credits, which they may in 2.
     pub version: u8,
     /// How many blocks there are up to this one.
     pub height: u64,

@@ -16,8 +16,8 @@ use sx_dual::{Cut, Flow, Potentials};
 use sx_ledger::{Ledger, read_prices};
 use sx_price::{Mu, Prices};
 
-// The version of the form.
-const VERSION: u8 = 1;
+// The greatest version.
+const MOST_VERSION: u8 = 2;
 
 fn read_digest(from: &mut Reader) -> Result<Digest, FormFault>
     ensures { DecodesOrStrays (λ x. x) (digest_at from.old) from.new result }
@@ -41,7 +41,7 @@ struct Front {
 fn read_front(from: &mut Reader) -> Result<Front, FormFault>
     ensures { DecodesOrStrays (λ front. (front.version, front.height, front.parent, front.body, front.mu)) (front_at from.old) from.new result }
 {
-    let version = from.field_u8(VERSION, VERSION, Form::Version)?;
+    let version = from.field_u8(1, MOST_VERSION, Form::Version)?;
     let height = from.field_u64(0, Ledger::MOST_HEIGHT, Form::HeightRange)?;
     let parent = read_digest(from)?;
     let body = read_digest(from)?;

@@ -8,7 +8,8 @@
 //! fits a record. [`ledger_digest`] and [`body_digest`] are the two digests of a header, by SHA-256;
 //! [`header_length`] tells where in a payload the bytes begin of which the second is made.
 //!
-//! `specs/Validity` defines the ledger after a block and when a block is valid for a ledger.
+//! `specs/Validity` defines the ledger after a block and when a block is valid for a ledger: by sixteen
+//! rules, in the order of `specs/Rule`. [`validity_laws`] says what the rules make together.
 //! [`block_effect_laws`] are laws of valid blocks, and [`fill_laws`], [`limit_laws`] and [`trade_laws`]
 //! those of trading over any ledger, on which they stand.
 //!
@@ -23,6 +24,7 @@ mod header_reading;
 mod header_writing;
 mod laws;
 mod reading;
+mod rule_laws;
 mod trade;
 mod trade_reading;
 mod writing;
@@ -33,7 +35,5 @@ pub use hashing::{body_digest, digest_of, ledger_digest, record_digest};
 pub use header::{Block, Header};
 pub use laws::block_laws;
 pub use reading::read_block;
+pub use rule_laws::validity_laws;
 pub use writing::{header_length, write_block};
-
-#[cfg(test)]
-mod tests;

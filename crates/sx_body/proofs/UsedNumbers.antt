@@ -1,16 +1,19 @@
--- The word of the sequence numbers that an account uses, bit by bit.
-use Rattle.std.proofs.Common.{◌≡◌, ℕ, zero, suc, ◌+◌, ◌-◌, ◌*◌, ◌^◌, ◌<◌, Bool, true, false, cond, ◌==◌, ◌&&◌, ◌||◌}
-use Rattle.std.proofs.Common.{List, [], ◌∷◌, length, get_or, take, inl, inr, refl, sym, ap, ap₂, ◌∙◌, arith}
+-- The map of the sequence numbers that an account uses, bit by bit, and with one transaction more.
+use Rattle.std.proofs.Common.{◌≡◌, ◌≢◌, ℕ, zero, suc, ◌+◌, ◌-◌, ◌*◌, ◌^◌, ◌<◌, Bool, true, false, cond, ◌==◌, ◌&&◌, ◌||◌}
+use Rattle.std.proofs.Common.{List, [], ◌∷◌, ◌++◌, All, inl, inr, refl, sym, ap, ap₂, ◌∙◌, arith}
 use Rattle.std.specs.Int.{bit_at, IsBitSet}
 use Rattle.std.specs.Int.RustNames.{bit_or}
-use Rattle.std.proofs.lemmas.Bool.{cases_Bool, cases_eq, cases_lt, eq-eqb, ne_eqb}
-use Rattle.std.proofs.lemmas.List.Folds.{list_any_more}
+use Rattle.std.proofs.lemmas.Bool.{and_parts, cases_Bool, cases_eq, cases_lt, eq-eqb, eqb-true, ne_eqb, or_cases}
+use Rattle.std.proofs.lemmas.List.Elements.{All-head, All-tail}
+use Rattle.std.proofs.lemmas.List.Folds.{list_any-append}
+use Rattle.std.proofs.lemmas.Nat.{or_lt}
 use Rattle.std.proofs.lemmas.Nat.Bits.{and_pow, bit_at-lt, bit_at-pow_other, bit_at-pow_same, bit_at_cat_high}
 use Rattle.std.proofs.lemmas.Nat.Bits.{bit_at_cat_low, bit_at_or, same_from_bits_below}
 use Rattle.std.proofs.Math.Nat.{pow-suc, zero-mul}
-use Rattle.sx_body.specs.Own.{own_of}
+use Rattle.std.proofs.Math.Pow.{pow-lt}
 use Rattle.sx_ledger.specs.Body.{used_below, used_numbers, uses}
 use Rattle.sx_tx.specs.declared.tx.Tx.{Tx}
+use Rattle.sx_tx.specs.Transactions.{IsTx}
 
 -- ---- one number more
 
@@ -27,37 +30,6 @@ bit_more word seq last i above =
           let unset : bit_at (2 ^ (seq - last - 1)) i ≡ 0 =
           bit_at-pow_other (seq - last - 1) i (λ e. other (sym e)) in
           rw (ne_eqb seq (last + 1 + i) (λ e. other (omega arith))) (omega (arith, both, unset))
-    ]
-
-either : (before now : Bool) → ◌≡◌ {A = ℕ} (cond now 1 (cond before 1 0)) (cond (before || now) 1 0)
-either true true = refl
-either true false = refl
-either false true = refl
-either false false = refl
-
-pub bits_more : (word last i : ℕ) (txs : List Tx) (k : ℕ) (tx : Tx) (account : ℕ) → k < length txs
-    → tx ≡ get_or txs k tx → tx.account.0 ≡ account → last < tx.seq
-    → bit_at word i ≡ cond (uses (take k txs) account (last + 1 + i)) 1 0
-    → bit_at (bit_or word (2 ^ (tx.seq - last - 1))) i ≡ cond (uses (take (k + 1) txs) account (last + 1 + i)) 1 0
-bits_more word last i txs k tx account lt is own above before =
-    let test = λ (tx : Tx). (tx.account.0 == account) && (tx.seq == last + 1 + i) in
-    let more : uses (take (k + 1) txs) account (last + 1 + i) ≡ (uses (take k txs) account (last + 1 + i) || test tx) =
-    list_any_more test txs k tx lt
-    ∙ ap (λ (x : Tx). uses (take k txs) account (last + 1 + i) || test x) (sym is) in
-    let here : test tx ≡ (tx.seq == last + 1 + i) = rw (eq-eqb tx.account.0 account own) refl in
-    bit_more word tx.seq last i above
-    ∙ ap (λ (b : ℕ). cond (tx.seq == last + 1 + i) 1 b) before
-    ∙ either (uses (take k txs) account (last + 1 + i)) (tx.seq == last + 1 + i)
-    ∙ ap (λ (b : Bool). cond (uses (take k txs) account (last + 1 + i) || b) 1 0) (sym here)
-    ∙ ap (λ (b : Bool). cond b 1 0) (sym more)
-
--- a bit that is set is that of a number used before, or of this one
-pub bit_from : (word seq last i : ℕ) → last < seq → bit_at (bit_or word (2 ^ (seq - last - 1))) i ≡ 1
-    → ((bit_at word i ≡ 1 → last + 1 + i < 2 ^ 63)) → seq < 2 ^ 63 → last + 1 + i < 2 ^ 63
-bit_from word seq last i above set before in_range =
-    elim (cases_eq seq (last + 1 + i)) [
-      | inl same ↦ omega arith
-      | inr other ↦ before (sym (rw (ne_eqb seq (last + 1 + i) other) at (bit_more word seq last i above)) ∙ set)
     ]
 
 -- ---- the whole word
@@ -102,23 +74,59 @@ word_is word txs account last fits bits =
     same_from_bits_below 64 word (used_below txs account last 64) fits (used_below-lt txs account last 64)
     (λ i lt. bits i lt ∙ sym (used_bit txs account last 64 i lt))
 
--- ---- the numbers of one account
+-- ---- with one transaction more
 
-uses_own : (id seq : ℕ) (txs : List Tx) → uses (own_of id txs) id seq ≡ uses txs id seq
-uses_own id seq [] = refl
-uses_own id seq (tx ∷ txs) =
-    elim (cases_Bool (tx.account.0 == id)) [
-      | inl own ↦ rw (own, own) (ap (λ (b : Bool). (tx.seq == seq) || b) (uses_own id seq txs))
-      | inr other ↦ rw other (uses_own id seq txs)
-    ]
+module _ (before : List Tx) (tx : Tx) (id last : ℕ) where
+  uses_more : (seq : ℕ) → uses (before ++ tx ∷ []) id seq
+      ≡ (uses before id seq || ((tx.account.0 == id) && (tx.seq == seq)))
+  uses_more seq =
+      list_any-append (λ (t : Tx). (t.account.0 == id) && (t.seq == seq)) before (tx ∷ [])
+      ∙ ap (λ (b : Bool). uses before id seq || b) (alone ((tx.account.0 == id) && (tx.seq == seq)))
+    where
+      alone : (b : Bool) → (b || false) ≡ b
+      alone true = refl
+      alone false = refl
 
-below_own : (id last n : ℕ) (txs : List Tx) → used_below (own_of id txs) id last n ≡ used_below txs id last n
-below_own id last zero txs = refl
-below_own id last (suc n) txs =
-    ap₂ (λ (b : Bool) (rest : ℕ). cond b (2 ^ n) 0 + rest) (uses_own id (last + 1 + n) txs) (below_own id last n txs)
+  -- a transaction of another account changes nothing
+  pub not_marked : tx.account.0 ≢ id → used_numbers before id last ≡ used_numbers (before ++ tx ∷ []) id last
+  not_marked other = below 64
+    where
+      same : (seq : ℕ) → uses before id seq ≡ uses (before ++ tx ∷ []) id seq
+      same seq = sym (uses_more seq ∙ rw (ne_eqb tx.account.0 id other) (neither (uses before id seq)))
+        where
+          neither : (b : Bool) → (b || false) ≡ b
+          neither true = refl
+          neither false = refl
 
-pub numbers_own : (id last : ℕ) (txs : List Tx) → used_numbers (own_of id txs) id last ≡ used_numbers txs id last
-numbers_own id last txs = below_own id last 64 txs
+      below : (n : ℕ) → used_below before id last n ≡ used_below (before ++ tx ∷ []) id last n
+      below zero = refl
+      below (suc n) =
+          ap₂ (λ (b : Bool) (rest : ℕ). cond b (2 ^ n) 0 + rest) (same (last + 1 + n)) (below n)
+
+  -- one of the account sets a bit
+  pub marked : tx.account.0 ≡ id → last < tx.seq → tx.seq - last - 1 < 64
+      → bit_or (used_numbers before id last) (2 ^ (tx.seq - last - 1)) ≡ used_numbers (before ++ tx ∷ []) id last
+  marked own above within =
+      word_is (bit_or (used_numbers before id last) (2 ^ (tx.seq - last - 1))) (before ++ tx ∷ []) id last
+      (or_lt 64 (used_numbers before id last) (2 ^ (tx.seq - last - 1)) (used_below-lt before id last 64)
+      (pow-lt within))
+      (λ i lt.
+      bit_more (used_numbers before id last) tx.seq last i above
+      ∙ ap (λ (b : ℕ). cond (tx.seq == last + 1 + i) 1 b) (used_bit before id last 64 i lt)
+      ∙ either (uses before id (last + 1 + i)) (tx.seq == last + 1 + i)
+      ∙ ap (λ (b : Bool). cond (uses before id (last + 1 + i) || b) 1 0) (sym (here (tx.seq == last + 1 + i)))
+      ∙ ap (λ (b : Bool). cond b 1 0) (sym (uses_more (last + 1 + i))))
+    where
+      here : (b : Bool) → ((tx.account.0 == id) && b) ≡ b
+      here b = rw (eq-eqb tx.account.0 id own) refl
+
+      either : (was now : Bool) → ◌≡◌ {A = ℕ} (cond now 1 (cond was 1 0)) (cond (was || now) 1 0)
+      either true true = refl
+      either true false = refl
+      either false true = refl
+      either false false = refl
+
+-- ---- the numbers are in range
 
 pub set_is : (map i : ℕ) → IsBitSet map i → bit_at map i ≡ 1
 set_is map i set =
@@ -128,3 +136,24 @@ set_is map i set =
           absurd (set (and_pow map i ∙ ap (λ (b : ℕ). b * 2 ^ i) none ∙ zero-mul (2 ^ i)))
       | inr le ↦ omega (arith, bit_at-lt map i)
     ]
+
+cond_one : (b : Bool) → ◌≡◌ {A = ℕ} (cond b 1 0) 1 → b ≡ true
+cond_one true e = refl
+cond_one false e = absurd (omega arith)
+
+used_in_range : (txs : List Tx) (id seq : ℕ) → All IsTx txs → uses txs id seq ≡ true → seq < 2 ^ 63
+used_in_range [] id seq ranges used = absurd cc
+used_in_range (tx ∷ txs) id seq ranges used =
+    elim (or_cases ((tx.account.0 == id) && (tx.seq == seq)) (uses txs id seq) used) [
+      | inl here ↦
+          let same = eqb-true tx.seq seq (and_parts (tx.account.0 == id) (tx.seq == seq) here).1 in
+          omega (arith, (All-head IsTx tx txs ranges).seq)
+      | inr there ↦ used_in_range txs id seq (All-tail IsTx tx txs ranges) there
+    ]
+
+pub numbers_in_range : (txs : List Tx) (id last i : ℕ) → All IsTx txs → i < 64 → IsBitSet (used_numbers txs id last) i
+    → last + 1 + i < 2 ^ 63
+numbers_in_range txs id last i ranges lt set =
+    used_in_range txs id (last + 1 + i) ranges
+    (cond_one (uses txs id (last + 1 + i))
+    (sym (used_bit txs id last 64 i lt) ∙ set_is (used_numbers txs id last) i set))

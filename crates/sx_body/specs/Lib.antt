@@ -1,6 +1,6 @@
-pub mod Own
-pub mod Debits
-pub mod Overdraft
-pub mod Credits
-pub mod Settled
+pub mod Postings
+pub mod Repeats
+pub mod Tally
 pub mod Refusal
+pub mod Overdraft
+pub mod Accounts

@@ -1,35 +1,68 @@
--- Accounts whose debits are above what they hold.
-use Rattle.std.specs.Prelude.{◌≡◌, ℕ, ◌<◌, ◌≤◌, List, length, slice_index}
+-- Accounts whose debits are above what they may spend.
+use Rattle.std.specs.Prelude.{◌≡◌, ℕ, ◌+◌, ◌<◌, ◌≤◌, List, length, slice_index, slice_get, Some, ◌==◌, if◌then◌else◌}
 use Rattle.sx_body.specs.declared.overdraft.Overdraft.{Overdraft}
+use Rattle.sx_body.specs.declared.postings.Postings.{Postings}
+use Rattle.sx_body.specs.Postings.{credit_at, debit_at}
 use Rattle.sx_ledger.specs.declared.account.Account.{Account}
-use Rattle.sx_ledger.specs.Body.{holding_of}
-use Rattle.sx_ledger.specs.Effects.{debits}
+use Rattle.sx_ledger.specs.declared.parts.Parts.{Parts}
+use Rattle.sx_ledger.specs.Body.{holding_of, spendable}
+use Rattle.sx_ledger.specs.Effects.{credits, debits}
 use Rattle.sx_ledger.specs.Ledger.{balance_at}
 use Rattle.sx_tx.specs.declared.tx.Tx.{Tx}
 
--- no debits of any account and asset are above what the account holds
-abbrev pub NoneOverdrawn : List Account → List Tx → Type 0
-NoneOverdrawn accounts txs = (account asset : ℕ) → debits txs account asset ≤ holding_of accounts account asset
+-- no debits of any account and asset are above what the account may spend
+abbrev pub NoneOverdrawn : ℕ → Parts → List Tx → Type 0
+NoneOverdrawn version parts txs =
+    (account asset : ℕ) → debits txs account asset ≤ spendable version parts txs account asset
 
 -- the first overdraft, by the id of the account and then by the asset
-pub record IsFirstOverdrawn (accounts : List Account) (txs : List Tx) (overdraft : Overdraft) : Type 0 where
-  pub opening : overdraft.opening ≡ holding_of accounts overdraft.account.0 overdraft.asset
+pub record IsFirstOverdrawn (version : ℕ) (parts : Parts) (txs : List Tx) (overdraft : Overdraft) : Type 0 where
+  pub opening : overdraft.opening ≡ holding_of parts.accounts overdraft.account.0 overdraft.asset
+  pub given : overdraft.credits ≡ credits parts.offers txs overdraft.account.0 overdraft.asset
   pub taken : overdraft.debits ≡ debits txs overdraft.account.0 overdraft.asset
-  pub over : overdraft.opening < overdraft.debits
+  pub over : spendable version parts txs overdraft.account.0 overdraft.asset < overdraft.debits
   pub accounts_before : (account asset : ℕ) → account < overdraft.account.0
-      → debits txs account asset ≤ holding_of accounts account asset
+      → debits txs account asset ≤ spendable version parts txs account asset
   pub assets_before : (asset : ℕ) → asset < overdraft.asset
-      → debits txs overdraft.account.0 asset ≤ holding_of accounts overdraft.account.0 asset
+      → debits txs overdraft.account.0 asset ≤ spendable version parts txs overdraft.account.0 asset
 
--- the first overdraft of one account, whose transactions these are
-pub record IsFirstOf (account : Account) (own : List Tx) (overdraft : Overdraft) : Type 0 where
+-- what may be spent of an asset, where this much is there and this much is credited
+abbrev pub may_spend : ℕ → ℕ → ℕ → ℕ
+may_spend version opening credited = if version == 1 then opening else opening + credited
+
+-- for assets below a limit, no debits are above what may be spent
+abbrev pub CoversBelow : ℕ → ℕ → List ℕ → List ℕ → List ℕ → Type 0
+CoversBelow limit version balances debited credited =
+    (asset : ℕ) → asset < limit → slice_index debited asset
+    ≤ may_spend version (slice_index balances asset) (slice_index credited asset)
+
+-- the first overdraft of one account, where these are its debits and credits, asset by asset
+pub record IsOverdraftOf (version : ℕ) (account : Account) (debited credited : List ℕ) (overdraft : Overdraft)
+    : Type 0 where
   pub id : overdraft.account ≡ account.id
   pub asset : overdraft.asset < length account.balances
   pub opening : overdraft.opening ≡ balance_at overdraft.asset account
-  pub taken : overdraft.debits ≡ debits own account.id.0 overdraft.asset
-  pub over : overdraft.opening < overdraft.debits
-  pub before : (asset : ℕ) → asset < overdraft.asset → debits own account.id.0 asset ≤ balance_at asset account
+  pub given : overdraft.credits ≡ slice_index credited overdraft.asset
+  pub taken : overdraft.debits ≡ slice_index debited overdraft.asset
+  pub over : may_spend version overdraft.opening overdraft.credits < overdraft.debits
+  pub before : CoversBelow overdraft.asset version account.balances debited credited
 
--- for assets below a limit, no sum is above its balance
-abbrev pub CoversBelow : ℕ → List ℕ → List ℕ → Type 0
-CoversBelow limit balances sums = (asset : ℕ) → asset < limit → slice_index sums asset ≤ slice_index balances asset
+-- no debits of the account at a place are above what it may spend
+abbrev pub CoversAt : ℕ → Parts → Postings → ℕ → Type 0
+CoversAt version parts postings place =
+    (account : Account) → slice_get parts.accounts place ≡ Some account → (asset : ℕ) → asset < length account.balances
+    → debit_at postings place asset ≤ may_spend version (balance_at asset account) (credit_at postings place asset)
+
+-- the first overdraft of the account at a place
+pub record IsOverdraftAt (version : ℕ) (parts : Parts) (postings : Postings) (place : ℕ) (overdraft : Overdraft)
+    : Type 0 where
+  pub account : Account
+  pub there : slice_get parts.accounts place ≡ Some account
+  pub id : overdraft.account ≡ account.id
+  pub asset : overdraft.asset < length account.balances
+  pub opening : overdraft.opening ≡ balance_at overdraft.asset account
+  pub given : overdraft.credits ≡ credit_at postings place overdraft.asset
+  pub taken : overdraft.debits ≡ debit_at postings place overdraft.asset
+  pub over : may_spend version overdraft.opening overdraft.credits < overdraft.debits
+  pub before : (asset : ℕ) → asset < overdraft.asset
+      → debit_at postings place asset ≤ may_spend version (balance_at asset account) (credit_at postings place asset)

@@ -1,30 +1,30 @@
 //! The ledger after a body.
 
-ghost use Rattle.std.specs.Prelude.{◌≡◌, IfOk};
-ghost use Rattle.sx_body.specs.Credits.{HasCredits};
-ghost use Rattle.sx_body.specs.Settled.{with_all_accounts};
-ghost use Rattle.sx_ledger.specs.Body.{IsAdmissible, body_after, offers_after as all_offers};
+ghost use Rattle.std.specs.Prelude.{◌≡◌, List, IfOk};
+ghost use Rattle.sx_body.specs.Accounts.{with_all_accounts};
+ghost use Rattle.sx_body.specs.Tally.{IsTally, IsTallyOfBody};
+ghost use Rattle.sx_ledger.specs.Body.{IsAdmissibleIn, body_after, offers_after as all_offers};
+ghost use Rattle.sx_tx.specs.declared.tx.Tx.{Tx as Transaction};
 
+use crate::accounts::apply_to_known;
 use crate::created::with_created;
-use crate::credits::Credits;
-use crate::settled::settled;
+use crate::tally::Tally;
 use std::alloc::Global;
 use sx_bytes::NoMemory;
 use sx_ledger::{Accounts, Ledger, Offers, Parts};
-use sx_tx::Tx;
 
 // The parts of the ledger, with all accounts as they are after the body.
-fn with_accounts(
-    alloc: Global,
-    ledger: Ledger,
-    txs: &[Tx],
-    credits: &Credits,
-) -> Result<Parts, NoMemory>
-    requires body { IsAdmissible ledger txs.now }
-    requires credits { HasCredits ledger txs.now credits.now }
-    ensures { IfOk result (λ parts. parts ≡ with_all_accounts ledger txs.now) }
+fn with_accounts(alloc: Global, ledger: Ledger, tally: &Tally) -> Result<Parts, NoMemory>
+    requires body { IsTallyOfBody ledger tally.now }
+    ensures { (txs : List Transaction) → IsAdmissibleIn 2 ledger txs → IsTally ledger txs tally.now
+        → IfOk result (λ parts. parts ≡ with_all_accounts ledger txs) }
 {
     let assets = ledger.assets() as usize;
+    let parts = apply_to_known(alloc, ledger, tally);
+    let ids = &tally.creations.ids;
+    if ids.is_empty() {
+        return Ok(parts);
+    }
     let Parts {
         version,
         height,
@@ -32,8 +32,8 @@ fn with_accounts(
         rounding,
         accounts,
         offers,
-    } = settled(alloc, ledger, txs, credits);
-    let accounts = with_created(alloc, accounts.into_items(), txs, assets)?;
+    } = parts;
+    let accounts = with_created(alloc, accounts.into_items(), ids, assets)?;
     Ok(Parts {
         version,
         height,
@@ -44,23 +44,23 @@ fn with_accounts(
     })
 }
 
-/// The ledger after the body of a block, before anything trades, where the credits of the body and the
-/// offers after it are known: those that [`screen`](crate::screen) and
+/// The ledger after the body of a block, before anything trades, where the tally of the body is known
+/// and so are the offers after it: those that [`precheck`](crate::precheck) and
 /// [`offers_after`](crate::offers_after) answer. Balances change in place.
-pub fn settle(
+pub fn apply_accounts(
     alloc: Global,
     ledger: Ledger,
-    txs: &[Tx],
-    credits: &Credits,
+    tally: &Tally,
     offers: Offers,
 ) -> Result<Ledger, NoMemory>
-    requires body { IsAdmissible ledger txs.now }
-    requires credits { HasCredits ledger txs.now credits.now }
-    requires offers { offers ≡ all_offers ledger txs.now }
-    ensures { IfOk result (λ after. after ≡ body_after ledger txs.now) }
+    requires body { IsTallyOfBody ledger tally.now }
+    requires offers { (txs : List Transaction) → IsAdmissibleIn 2 ledger txs → IsTally ledger txs tally.now
+        → offers ≡ all_offers ledger txs }
+    ensures { (txs : List Transaction) → IsAdmissibleIn 2 ledger txs → IsTally ledger txs tally.now
+        → IfOk result (λ after. after ≡ body_after ledger txs) }
 {
     let height = ledger.height();
-    let parts = with_accounts(alloc, ledger, txs, credits)?;
+    let parts = with_accounts(alloc, ledger, tally)?;
     Ok(Ledger::of(Parts {
         version: parts.version,
         height,

@@ -1,50 +1,48 @@
 //! What a body of transactions does to the accounts and offers of a ledger.
 //!
-//! A body is admissible for a ledger where it stands strictly by account and sequence number, each
-//! transaction passes the static checks, no offer is cancelled twice and no account created twice,
-//! the limits on accounts and offers hold, and no account is overdrawn (`IsAdmissible` of
-//! `sx_ledger`).
+//! [`precheck`] goes over the transactions once. It answers the first that the ledger refuses by itself,
+//! or, where none is, a [`Tally`] of what all of them do: debits and credits, the sequence numbers that
+//! are used, the offers that are cancelled and made, and the accounts that are created. Contracts see a
+//! tally through its relation to the list of transactions (`IsTally`), where each part is a plain sum or
+//! a plain list. [`refusal_laws`] says that the first refusal is one.
 //!
-//! [`screen`] goes over transactions once. It answers the first that the ledger refuses by itself, or,
-//! where none is, what all of them credit: [`Credits`], which contracts see as sums over the list
-//! (`HasCredits`). [`refusal_laws`] says that the first refusal is one. [`first_overdraft`] answers the
-//! first account and asset whose debits are above the balance at the opening, or `None` exactly where
-//! there is none. [`offers_after`] answers the offers after an admissible body, and [`settle`] the
-//! ledger after it, from the credits and the offers that are known by then: exactly those of the
-//! definitions of `sx_ledger`, which are plain sums over the list of transactions. [`cancelled_key`] and
-//! [`created_id`] tell what a single transaction cancels and creates.
+//! The tally tells the rest of what makes a body admissible (`IsAdmissibleIn` of `sx_ledger`), and no
+//! transaction is looked at again: [`Tally::cancelled_again`] and [`Tally::created_again`] tell the first
+//! transaction that cancels an offer or creates an account that one before it does, [`Tally::created`]
+//! and [`Tally::made`] how many accounts and offers come, and [`Tally::first_overdraft`] the first account
+//! and asset whose debits are above what may be spent, by the rule of either version.
 //!
-//! The code goes over the transactions a fixed number of times, and looks each account, payee and
-//! cancelled offer up once. It sorts what is cancelled, and the accounts and offers with those that
-//! are created and made. Where no offer is cancelled, the offers are copied without a search; where
-//! none is made, they are not sorted. Accounts change in place; one without a transaction and without
-//! a credit is only read.
+//! [`offers_after`] answers the offers after an admissible body, and [`apply_accounts`] the ledger after
+//! it: exactly those of the definitions of `sx_ledger`.
 //!
-//! Not here: whether a body is admissible but for refused transactions and overdrafts, and what
-//! trades afterwards.
+//! Each payee and each cancelled offer is searched for once, and an account once where its transactions
+//! stand together. Only accounts that are debited or credited have sums of their own, and only their
+//! balances are read and changed, in place. Accounts are sorted only where one is created, and offers only
+//! where one is made.
+//!
+//! Not here: whether transactions stand in order, and what trades afterwards.
 #![tactic(auto)]
 
+mod accounts;
 mod applying;
+mod cancellations;
 mod created;
-mod credits;
-mod debits;
+mod creations;
+mod entries;
 mod kinds;
 mod laws;
 mod offers;
 mod overdraft;
-mod own;
+mod postings;
+mod prechecking;
 mod ranges;
-mod screening;
-mod settled;
+mod repeats;
+mod tally;
 mod used;
 
-pub use applying::settle;
-pub use credits::Credits;
-pub use kinds::{cancelled_key, created_id};
+pub use applying::apply_accounts;
 pub use laws::refusal_laws;
 pub use offers::offers_after;
-pub use overdraft::{Overdraft, first_overdraft};
-pub use screening::{ScreenFault, screen};
-
-#[cfg(test)]
-mod tests;
+pub use overdraft::Overdraft;
+pub use prechecking::{PrecheckFault, precheck};
+pub use tally::Tally;

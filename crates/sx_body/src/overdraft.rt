@@ -1,21 +1,17 @@
-//! The first account whose debits are above what it holds.
+//! The first account whose debits are above what it may spend.
 
-ghost use Rattle.std.specs.Prelude.{◌≡◌, ℕ, Ok, ◌*◌, ◌<◌, ◌≤◌, ◌^◌, length, slice_index, IsTrue, IfSome, IfNone, None};
-ghost use Rattle.std.specs.List.{All};
-ghost use Rattle.sx_body.specs.Overdraft.{CoversBelow, IsFirstOf, IsFirstOverdrawn, NoneOverdrawn};
-ghost use Rattle.sx_bytes.specs.Grammar.{in_order};
-ghost use Rattle.sx_ledger.specs.Body.{tx_before};
-ghost use Rattle.sx_ledger.specs.Effects.{debits};
-ghost use Rattle.sx_ledger.specs.Ledger.{balance_at};
-ghost use Rattle.sx_ledger.specs.Static.{static_of};
+ghost use Rattle.std.specs.Prelude.{◌≡◌, ℕ, ◌<◌, ◌≤◌, List, length, nat_lt, slice_index, slice_get, IfSome, IfNone};
+ghost use Rattle.std.specs.Prelude.{Some};
+ghost use Rattle.sx_body.specs.Overdraft.{CoversAt, CoversBelow, IsFirstOverdrawn, IsOverdraftAt, IsOverdraftOf};
+ghost use Rattle.sx_body.specs.Overdraft.{NoneOverdrawn, may_spend};
+ghost use Rattle.sx_body.specs.Tally.{IsTally, IsTallyFor};
+ghost use Rattle.sx_tx.specs.declared.tx.Tx.{Tx as Transaction};
 
-use crate::debits::debits_of;
-use crate::own::split_own;
+use crate::tally::Tally;
 use sx_base::{AccountId, AssetId};
 use sx_ledger::{Account, Ledger};
-use sx_tx::Tx;
 
-/// An account whose transactions debit more of an asset than it held at the opening.
+/// An account whose transactions debit more of an asset than it may spend.
 #[derive(Clone, Copy, Debug, PartialEq, Eq)]
 pub struct Overdraft {
     /// The account.
@@ -24,71 +20,108 @@ pub struct Overdraft {
     pub asset: AssetId,
     /// What the account held at the opening, in units of the asset.
     pub opening: u64,
+    /// What the body credits to it, in units of the asset.
+    pub credits: u128,
     /// What its transactions debit, in units of the asset.
     pub debits: u128,
 }
 
-// The first asset whose sum is above its balance.
-fn overdrawn_asset(balances: &[u64], sums: &[u128]) -> Option<AssetId>
+// Whether debits are above what may be spent. In version 1 that is what is there, and in others what is
+// credited as well.
+fn is_over(version: u8, balance: u64, credits: u128, debits: u128) -> bool
+    ensures { result ≡ nat_lt (may_spend version balance credits) debits }
+{
+    let missing = debits.saturating_sub(u128::from(balance));
+    if version == 1 {
+        return missing > 0;
+    }
+    missing > credits
+}
+
+// The first asset of which the debits are above what may be spent.
+fn overdrawn_asset(
+    version: u8,
+    balances: &[u64],
+    debits: &[u128],
+    credits: &[u128],
+) -> Option<AssetId>
     requires few_assets { length balances.now ≤ 32 }
-    requires sums { length balances.now ≤ length sums.now }
+    requires debits { length balances.now ≡ length debits.now }
+    requires credits { length balances.now ≡ length credits.now }
     ensures in_range { IfSome result (λ asset. asset < length balances.now) }
-    ensures over { IfSome result (λ asset. slice_index balances.now asset < slice_index sums.now asset) }
-    ensures before { IfSome result (λ asset. CoversBelow asset balances.now sums.now) }
-    ensures none { IfNone result (CoversBelow (length balances.now) balances.now sums.now) }
+    ensures over { IfSome result (λ asset.
+        may_spend version (slice_index balances.now asset) (slice_index credits.now asset)
+        < slice_index debits.now asset) }
+    ensures before { IfSome result (λ asset. CoversBelow asset version balances.now debits.now credits.now) }
+    ensures none { IfNone result (CoversBelow (length balances.now) version balances.now debits.now credits.now) }
 {
     for (asset, balance) in balances.iter().enumerate() {
-        if u128::from(*balance) < sums[asset] {
+        if is_over(version, *balance, credits[asset], debits[asset]) {
             return AssetId::new(asset as u8).ok();
         }
     }
     None
 }
 
-// The first overdraft of an account, whose transactions are these.
-fn overdraft_of(account: &Account, own: &[Tx]) -> Option<Overdraft>
-    requires own { All (λ tx. tx.account.0 ≡ account.now.id.0) own.now }
+// The first overdraft of an account, which has these debits and credits, asset by asset.
+fn overdraft_of(
+    version: u8,
+    account: &Account,
+    debits: &[u128],
+    credits: &[u128],
+) -> Option<Overdraft>
     requires few_assets { length account.now.balances ≤ 32 }
-    ensures first { IfSome result (IsFirstOf account.now own.now) }
-    ensures none { IfNone result ((asset : ℕ) → asset < length account.now.balances → debits own.now account.now.id.0 asset ≤ balance_at asset account.now) }
-    ensures small { IfSome result (λ overdraft. overdraft.debits ≤ length own.now * 2 ^ 62) }
+    requires debits { length account.now.balances ≡ length debits.now }
+    requires credits { length account.now.balances ≡ length credits.now }
+    ensures first { IfSome result (IsOverdraftOf version account.now debits.now credits.now) }
+    ensures none { IfNone result (CoversBelow (length account.now.balances) version account.now.balances
+        debits.now credits.now) }
 {
-    if own.is_empty() {
-        return None;
-    }
-    let sums = debits_of(own);
     let balances = account.balances.items();
-    let asset = overdrawn_asset(balances, &sums)?;
+    let asset = overdrawn_asset(version, balances, debits, credits)?;
     let number = usize::from(asset.get());
     Some(Overdraft {
         account: account.id,
         asset,
         opening: balances[number],
-        debits: sums[number],
+        credits: credits[number],
+        debits: debits[number],
     })
 }
 
-/// The first account, by id, whose transactions debit more of an asset than it holds in the ledger,
-/// and of it the first such asset. The transactions stand strictly by account and sequence number,
-/// and each passes the static checks; they are at most 1,000,000, so the debits of an account and an
-/// asset are below `2^82` units. It goes over the accounts and the transactions once, and takes no
-/// memory.
-pub fn first_overdraft(ledger: &Ledger, txs: &[Tx]) -> Option<Overdraft>
-    requires ordered { IsTrue (in_order tx_before None txs.now) }
-    requires passes { All (λ tx. static_of ledger.now tx ≡ Ok tt) txs.now }
-    requires few { length txs.now ≤ 1000000 }
-    ensures first { IfSome result (IsFirstOverdrawn ledger.now.accounts txs.now) }
-    ensures none { IfNone result (NoneOverdrawn ledger.now.accounts txs.now) }
-    ensures small { IfSome result (λ overdraft. overdraft.debits < 2 ^ 82) }
-{
-    let accounts = ledger.parts().accounts.items();
-    let mut left = txs;
-    for account in accounts {
-        let (own, others) = split_own(left, account.id);
-        if let Some(overdraft) = overdraft_of(account, own) {
-            return Some(overdraft);
+impl Tally {
+    // The first overdraft of the account at a place.
+    fn overdraft_at(&self, ledger: &Ledger, version: u8, place: u32) -> Option<Overdraft>
+        requires place { place < length ledger.now.accounts }
+        requires shape { IsTallyFor ledger.now self.now }
+        ensures first { IfSome result (IsOverdraftAt version ledger.now self.now.postings place) }
+        ensures none { IfNone result (CoversAt version ledger.now self.now.postings place) }
+    {
+        let account = ledger.account(place);
+        if !self.postings.is_named(place as usize) {
+            return None;
         }
-        left = others;
+        let debits = self.postings.debits(place as usize);
+        let credits = self.postings.credits(place as usize);
+        overdraft_of(version, account, debits, credits)
     }
-    None
+
+    /// The first account, by id, whose transactions debit more of an asset than it may spend by the rule
+    /// of this version, and of it the first such asset: in version 1 an account may spend what it holds in
+    /// the ledger, in version 2 also what the transactions credit to it. It goes over the accounts once,
+    /// and takes no memory.
+    pub fn first_overdraft(&self, ledger: &Ledger, version: u8) -> Option<Overdraft>
+        requires shape { IsTallyFor ledger.now self.now }
+        ensures first { (txs : List Transaction) → IsTally ledger.now txs self.now
+            → IfSome result (IsFirstOverdrawn version ledger.now txs) }
+        ensures none { (txs : List Transaction) → IsTally ledger.now txs self.now
+            → IfNone result (NoneOverdrawn version ledger.now txs) }
+    {
+        for place in 0..ledger.accounts() {
+            if let Some(overdraft) = self.overdraft_at(ledger, version, place) {
+                return Some(overdraft);
+            }
+        }
+        None
+    }
 }

@@ -38,6 +38,11 @@ impl Model for Books {
     ghost invariant = { λ books. IsKept books.assets books.store };
 }
 
+/// Books have at most [`Books::MOST_OFFERS`] offers.
+pub fn book_laws()
+    ensures most { Books.MOST_OFFERS ≡ most_offers }
+{}
+
 impl Books {
     /// The most offers.
     pub const MOST_OFFERS: u32 = 1 << 31;

@@ -28,8 +28,5 @@ mod fault;
 mod store;
 mod walking;
 
-pub use books::Books;
+pub use books::{Books, book_laws};
 pub use fault::{Absent, BookFault};
-
-#[cfg(test)]
-mod tests;

@@ -5,4 +5,5 @@ pub mod Ordered
 pub mod DecodingSteps
 pub mod Written
 pub mod Parts
+pub mod FaultPlaces
 mod Cases

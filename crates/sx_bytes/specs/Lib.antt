@@ -4,3 +4,4 @@ pub mod Fault
 pub mod Grammar
 pub mod Written
 pub mod Laws
+pub mod FaultPlaces

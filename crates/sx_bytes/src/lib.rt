@@ -28,6 +28,3 @@ pub use list_of::{Bytes, ListOf};
 pub use memory::NoMemory;
 pub use reader::Reader;
 pub use writer::Writer;
-
-#[cfg(test)]
-mod tests;

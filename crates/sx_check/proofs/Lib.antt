@@ -1,6 +1,10 @@
-pub mod RepeatLaws
+pub mod Steps
 pub mod Counting
+pub mod RepeatLaws
 pub mod SameReason
 pub mod ReasonLaws
 pub mod MarketLaws
 pub mod OfferLaws
+pub mod Searches
+pub mod Judgement
+pub mod Cases

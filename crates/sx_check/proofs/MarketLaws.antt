@@ -1,31 +1,52 @@
 -- What a block says of its trade, against the bounds of its pairs.
-use Rattle.std.proofs.Common.{◌≡◌, Option, Some, None, sym, subst, arith}
+use Rattle.std.proofs.Common.{◌≡◌, Option, Some, None, refl, sym, subst}
 use Rattle.std.specs.Prelude.{is_some}
 use Rattle.sx_apply.specs.Bounds.{HasBounds}
 use Rattle.sx_block.specs.declared.header.Block.{Block}
-use Rattle.sx_block.specs.Block.{IsBlock}
-use Rattle.sx_block.specs.EffectLaws.{IsTradable}
-use Rattle.sx_block.specs.Validity.{CutHolds, flow_of_block, high_in, low_in, offers_of, undropped_low_in}
+use Rattle.sx_block.specs.Rule as rule
+use Rattle.sx_block.specs.Validity.{CutHolds, HoldsBefore, high_in, low_in, offers_of, undropped_low_in}
+use Rattle.sx_block.specs.ValidityLaws.{BlockFits}
+use Rattle.sx_block.proofs.Rules.{one_more}
 use Rattle.sx_check.specs.Invalid.{reason_of}
 use Rattle.sx_check.specs.Refusals.{IsBlockMisfit, RefusesEarly}
-use Rattle.sx_check.specs.Rules.{HasBody, HasFit}
 use Rattle.sx_dual.specs.declared.cut.Cut.{Cut}
 use Rattle.sx_dual.specs.declared.misfit.Misfit.{Misfit}
 use Rattle.sx_dual.specs.declared.misfit.Misfit.TheVariants.{Outside, Unbalanced, Slack}
 use Rattle.sx_dual.specs.Cuts.{IsCut}
 use Rattle.sx_dual.specs.Tables.{BoundsTable}
 use Rattle.sx_ledger.specs.declared.parts.Parts.{Parts}
-use Rattle.sx_ledger.specs.Body.{body_after}
 use Rattle.sx_ledger.specs.Bounds.{low_of as low_at}
 use Rattle.sx_ledger.specs.Ledger.{assets_of}
 
 -- ---- the reasons
 
-pub misfit_refuses : (parts : Parts) (block : Block) (misfit : Misfit) → HasBody parts block
+pub misfit_refuses : (parts : Parts) (block : Block) (misfit : Misfit) → HoldsBefore rule.Within parts block
     → IsBlockMisfit parts block misfit → RefusesEarly parts block (reason_of misfit)
-misfit_refuses parts block (Outside sell buy low high y) body m = record { refuses = (body, m); early = omega arith }
-misfit_refuses parts block (Unbalanced asset out into) body m = record { refuses = (body, m); early = omega arith }
-misfit_refuses parts block (Slack sell buy gain y) body m = record { refuses = (body, m); early = omega arith }
+misfit_refuses parts block (Outside sell buy low high y) body m = record {
+  refuses = record { before = body; breaks = m };
+  early = λ said real e. absurd cc;
+}
+misfit_refuses parts block (Unbalanced asset out into) body m = record {
+  refuses = record { before = one_more rule.Within rule.Balanced parts block refl body m.0; breaks = m };
+  early = λ said real e. absurd cc;
+}
+misfit_refuses parts block (Slack sell buy gain y) body m = record {
+  refuses = record {
+    before = one_more rule.Balanced rule.Tight parts block refl
+        (one_more rule.Within rule.Balanced parts block refl body m.0.within) m.0.balanced;
+    breaks = m;
+  };
+  early = λ said real e. absurd cc;
+}
+
+-- where the flow and the potentials fit, the three rules on them hold
+pub fit_holds : (parts : Parts) (block : Block) → HoldsBefore rule.Within parts block → BlockFits parts block
+    → HoldsBefore rule.Cut parts block
+fit_holds parts block body fits =
+    one_more rule.Tight rule.Cut parts block refl
+    (one_more rule.Balanced rule.Tight parts block refl
+    (one_more rule.Within rule.Balanced parts block refl body fits.circulation.within) fits.circulation.balanced)
+    fits.tight
 
 -- where lower bounds are dropped they are all 0
 pub dropped_bounds : (parts : Parts) (block : Block) (cut : Cut) (bounds : BoundsTable)
@@ -51,12 +72,3 @@ pub cut_holds : (parts : Parts) (block : Block) (cut : Cut) → block.header.dro
     → CutHolds (assets_of parts) (undropped_low_in parts block) (high_in parts block) block.header.dropped
 cut_holds parts block cut dropped is =
     subst (CutHolds (assets_of parts) (undropped_low_in parts block) (high_in parts block)) (sym dropped) is
-
-pub fit_is_tradable : (parts : Parts) (block : Block) → IsBlock block → HasFit parts block
-    → IsTradable (body_after parts block.txs) block.header.prices (flow_of_block block)
-fit_is_tradable parts block form fit = record {
-  same_assets = fit.body.for_ledger.same_assets;
-  in_range = form.header.prices;
-  within = λ sell buy s b differ. (fit.fits.circulation.within sell buy s b differ).at_most;
-  balanced = fit.fits.circulation.balanced;
-}

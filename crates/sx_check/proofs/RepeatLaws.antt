@@ -1,25 +1,15 @@
 -- Transactions that do again what one before them does: where none does, what is done differs, and back.
-use Rattle.std.proofs.Common.{◌≡◌, ◌≢◌, ℕ, zero, suc, ◌+◌, ◌<◌, ◌≤◌, Bool, true, false, cond, List, [], ◌∷◌, length}
-use Rattle.std.proofs.Common.{get_or, Option, Some, None, inl, inr, refl, sym, ap, subst, ◌∙◌, arith}
-use Rattle.std.specs.Prelude.{nat_eq, nat_lt, ◌==◌, ◌&&◌}
-use Rattle.std.specs.Bool.{OnFalse}
-use Rattle.std.specs.BTreeMap.{is_at}
-use Rattle.std.specs.BTreeSet.{BTreeSet, contains}
-use Rattle.std.specs.Cmp.{unsigned_ties}
-use Rattle.std.specs.Ordering.{nat_cmp}
+use Rattle.std.proofs.Common.{◌≡◌, ℕ, zero, suc, ◌<◌, Bool, true, false, List, [], ◌∷◌, length, get_or, Option, Some}
+use Rattle.std.proofs.Common.{None, inl, inr, refl, sym, ap, subst, ◌∙◌, arith}
+use Rattle.std.specs.Prelude.{nat_eq}
 use Rattle.std.specs.List.{AllByRecursion, IsDistinct, cons_option, filter_map}
-use Rattle.std.proofs.lemmas.Bool.{and_parts, cases_Bool, cases_lt, cases_order, eqb-true, eq-eqb, false_from_ne_true}
-use Rattle.std.proofs.lemmas.Bool.{ltb-true, or_cases}
+use Rattle.std.proofs.lemmas.Bool.{cases_order, eqb-true, eq-eqb, false_from_ne_true}
 use Rattle.std.proofs.lemmas.Map.Keys.{IsDistinct-cons, IsDistinct-head, IsDistinct-tail}
 use Rattle.std.proofs.lemmas.Option.{none-some, same_Some}
-use Rattle.sx_bytes.specs.Grammar.{in_order, may_follow}
-use Rattle.sx_check.specs.Repeats.{HoldsCreated, IsFirstRepeat, Repeats, cancels, creates, done_at}
-use Rattle.sx_ledger.specs.declared.key.Key.{Key}
-use Rattle.sx_ledger.specs.Body.{cancelled, cancelled_by, created, tx_before}
+use Rattle.sx_body.specs.Repeats.{IsFirstRepeat, Repeats, cancels, creates, done_at}
+use Rattle.sx_ledger.specs.Body.{cancelled, created}
 use Rattle.sx_ledger.specs.Order.{same_key}
 use Rattle.sx_ledger.proofs.KeyOrder.{same_key_from, same_key_is}
-use Rattle.sx_tx.specs.declared.kind.Kind.{Kind}
-use Rattle.sx_tx.specs.declared.kind.Kind.TheVariants as kind
 use Rattle.sx_tx.specs.declared.tx.Tx.{Tx}
 
 -- ---- what is done at a place
@@ -155,100 +145,3 @@ creates_distinct txs none = distinct_from_none creates nat_eq (λ x y e. eqb-tru
 
 pub creates_refuted : (txs : List Tx) (place : ℕ) → IsDistinct nat_eq (created txs) → Repeats creates txs place → ⊥
 creates_refuted txs place distinct r = distinct_refutes creates nat_eq (λ x. eq-eqb x x refl) txs place distinct r
-
--- ---- transactions by account
-
-before-le : (one other : Tx) → tx_before one other ≡ true → one.account.0 ≤ other.account.0
-before-le one other e =
-    elim (or_cases (nat_lt one.account.0 other.account.0)
-    ((one.account.0 == other.account.0) && nat_lt one.seq other.seq) e) [
-      | inl lt ↦ omega (arith, ltb-true one.account.0 other.account.0 lt)
-      | inr both ↦ omega (
-        arith,
-        eqb-true one.account.0 other.account.0
-            (and_parts (one.account.0 == other.account.0) (nat_lt one.seq other.seq) both).0,
-      )
-    ]
-
-from_first : (first : Tx) (txs : List Tx) → in_order tx_before (Some first) txs ≡ true → (j : ℕ) (d : Tx) → j <
-    length txs
-    → first.account.0 ≤ (get_or txs j d).account.0
-from_first first [] ordered j d lt = absurd (omega arith)
-from_first first (tx ∷ txs) ordered zero d lt =
-    before-le first tx (and_parts (tx_before first tx) (in_order tx_before (Some tx) txs) ordered).0
-from_first first (tx ∷ txs) ordered (suc j) d lt =
-    let both = and_parts (tx_before first tx) (in_order tx_before (Some tx) txs) ordered in
-    omega (arith, before-le first tx both.0, from_first tx txs both.1 j d (omega arith))
-
-rises : (previous : Option Tx) (txs : List Tx) → in_order tx_before previous txs ≡ true → (i j : ℕ) (d : Tx) → i ≤ j
-    → j < length txs → (get_or txs i d).account.0 ≤ (get_or txs j d).account.0
-rises previous [] ordered i j d le lt = absurd (omega arith)
-rises previous (tx ∷ txs) ordered zero zero d le lt = omega arith
-rises previous (tx ∷ txs) ordered zero (suc j) d le lt =
-    let both = and_parts (may_follow tx_before previous tx) (in_order tx_before (Some tx) txs) ordered in
-    from_first tx txs both.1 j d (omega arith)
-rises previous (tx ∷ txs) ordered (suc i) zero d le lt = absurd (omega arith)
-rises previous (tx ∷ txs) ordered (suc i) (suc j) d le lt =
-    let both = and_parts (may_follow tx_before previous tx) (in_order tx_before (Some tx) txs) ordered in
-    rises (Some tx) txs both.1 i j d (omega arith) (omega arith)
-
--- a transaction cancels offers of its own account alone
-own_key : (tx : Tx) (key : Key) (k : Kind) → cancelled_by tx k ≡ Some key → tx.account.0 ≡ key.account.0
-own_key tx key (kind.Pay to asset amount) is = absurd (none-some key is)
-own_key tx key (kind.Create id) is = absurd (none-some key is)
-own_key tx key (kind.Offer sell buy limit amount) is = absurd (none-some key is)
-own_key tx key (kind.Cancel sell buy limit seq) is =
-    ap (λ (key : Key). key.account.0)
-    (same_Some (record { sell = sell; buy = buy; limit = limit; account = tx.account; seq = seq }) key is)
-
--- before a transaction of another account, none cancels an offer of the account of a later one
-pub none_before : (txs : List Tx) (key : Key) (first at place : ℕ) (d : Tx) → in_order tx_before None txs ≡ true
-    → first ≤ at → at ≤ place → place < length txs → (get_or txs at d).account.0 ≢ key.account.0
-    → (get_or txs place d).account.0 ≡ key.account.0 → done_at cancels txs first ≡ Some key → ⊥
-none_before txs key first at place d ordered before le lt other own done =
-    let is = done-is cancels txs first key d done in
-    let tx = get_or txs first d in
-    let mine : tx.account.0 ≡ key.account.0 = own_key tx key tx.kind is.1 in
-    let low = rises None txs ordered first at d before (omega arith) in
-    let high = rises None txs ordered at place d le lt in
-    other (omega arith)
-
--- ---- the ids of accounts that are created
-
-pub on_false : (b : Bool) (P : Type 0) → P → OnFalse b P
-on_false true P p = tt
-on_false false P p = p
-
-tied_is : (id q : ℕ) → is_at (nat_cmp id) q ≡ true → id ≡ q
-tied_is id q tied = eqb-true id q (unsigned_ties id q ∙ tied)
-
-is_tied : (id q : ℕ) → id ≡ q → is_at (nat_cmp id) q ≡ true
-is_tied id q same = sym (unsigned_ties id q) ∙ eq-eqb id q same
-
--- one more id
-pub holds_more : (old new : BTreeSet ℕ) (txs : List Tx) (place id : ℕ) → HoldsCreated old txs place
-    → done_at creates txs place ≡ Some id
-    → ((q : ℕ) → contains nat_cmp new q ≡ cond (is_at (nat_cmp id) q) true (contains nat_cmp old q))
-    → HoldsCreated new txs (place + 1)
-holds_more old new txs place id holds here added = record {
-  only = λ q there.
-      elim (cases_Bool (is_at (nat_cmp id) q)) [
-        | inl tied ↦ record { first = place; earlier = omega arith; done = here ∙ ap Some (tied_is id q tied) }
-        | inr other ↦
-            let was : contains nat_cmp old q ≡ true = sym (rw other at (added q)) ∙ there in
-            let before = holds.only q was in
-            record { first = before.first; earlier = omega (arith, before.earlier); done = before.done }
-      ];
-  all = λ q before.
-      elim (cases_Bool (is_at (nat_cmp id) q)) [
-        | inl tied ↦ rw tied at (added q)
-        | inr other ↦ elim (cases_lt before.first place) [
-          | inl earlier ↦ rw other at (added q)
-              ∙ holds.all q (record { first = before.first; earlier = earlier; done = before.done })
-          | inr last ↦
-              let at : before.first ≡ place = omega (arith, before.earlier) in
-              let same : Some id ≡ Some q = sym here ∙ ap (done_at creates txs) (sym at) ∙ before.done in
-              absurd (let tied = is_tied id q (same_Some id q same) in cc)
-        ]
-      ];
-}

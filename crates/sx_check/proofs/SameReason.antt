@@ -1,37 +1,32 @@
--- Two first reasons of one number are the same.
-use Rattle.std.proofs.Common.{◌≡◌, ℕ, ◌<◌, ◌≤◌, false, List, length, get_or, Some, Ok, Err, inl, inr, refl, sym, ap}
-use Rattle.std.proofs.Common.{ap₂, subst, ◌∙◌, ◌==◌, arith}
-use Rattle.std.specs.Prelude.{slice_get, slice_index, take}
+-- Two ways in which one rule is broken first are the same.
+use Rattle.std.proofs.Common.{◌≡◌, ℕ, ◌≤◌, false, List, inl, inr, refl, sym, ap, ap₂, subst, ◌∙◌}
+use Rattle.std.proofs.Common.{◌==◌, arith}
+use Rattle.std.specs.Prelude.{slice_index}
 use Rattle.std.proofs.lemmas.Bool.{cases_order, eq-eqb}
-use Rattle.std.proofs.lemmas.List.{get_or-take, length-take}
-use Rattle.std.proofs.lemmas.Option.{get_or_from_slice_get, same_Some, slice_get_within}
+use Rattle.std.proofs.lemmas.Option.{same_Some}
 use Rattle.sx_block.specs.declared.header.Block.{Block}
-use Rattle.sx_block.specs.Validity.{flow_of_block, high_in, low_in}
+use Rattle.sx_block.specs.Rule.{rank}
+use Rattle.sx_block.specs.Validity.{Rounds, flow_of_block, high_in, low_in}
 use Rattle.sx_base.specs.declared.account_id.AccountId.{AccountId}
 use Rattle.sx_body.specs.declared.overdraft.Overdraft.{Overdraft}
 use Rattle.sx_body.specs.Overdraft.{IsFirstOverdrawn}
-use Rattle.sx_body.specs.Refusal.{IsFirstRefused}
+use Rattle.sx_body.specs.Repeats.{cancels, creates}
+use Rattle.sx_body.proofs.Refusals.{one_refusal}
 use Rattle.sx_check.specs.declared.invalid.Invalid.{Invalid}
 use Rattle.sx_check.specs.declared.invalid.Invalid.TheVariants.{Ended, WrongHeight, WrongParent, WrongBody}
 use Rattle.sx_check.specs.declared.invalid.Invalid.TheVariants.{WrongAssets, Tx, TwoCancels, TwoNames, Crowded}
-use Rattle.sx_check.specs.declared.invalid.Invalid.TheVariants.{Overdrawn, Outside, Unbalanced, Slack, NoCut}
+use Rattle.sx_check.specs.declared.invalid.Invalid.TheVariants.{Overdrawn, Overspent, Outside, Unbalanced, Slack, NoCut}
 use Rattle.sx_check.specs.declared.invalid.Invalid.TheVariants.{Rounding, WrongAfter}
-use Rattle.sx_check.specs.Invalid.{number_of}
-use Rattle.sx_check.specs.Refusals.{IsCrowded, IsMisrounded, Refuses}
-use Rattle.sx_check.specs.Rules.{Rounds}
-use Rattle.sx_check.specs.Repeats.{cancels, creates}
+use Rattle.sx_check.specs.Refusals.{Breaks, IsCrowded, IsMisrounded, rule_of}
 use Rattle.sx_check.proofs.RepeatLaws.{one_first}
 use Rattle.sx_dual.specs.Circulation.{IsBalanced, IsWithin, bought, sold}
 use Rattle.sx_dual.specs.Fit.{IsTight, gain_of}
 use Rattle.sx_dual.specs.Tables.{potential_of}
 use Rattle.sx_dual.specs.Misfit.{IsFirstAsset, IsFirstPair}
-use Rattle.sx_ledger.specs.declared.account.Account.{Account}
 use Rattle.sx_ledger.specs.declared.parts.Parts.{Parts}
-use Rattle.sx_ledger.specs.declared.statics.Static.{Static}
-use Rattle.sx_ledger.specs.Body.{holding_of}
-use Rattle.sx_ledger.specs.Effects.{debits}
+use Rattle.sx_ledger.specs.Body.{holding_of, spendable}
+use Rattle.sx_ledger.specs.Effects.{credits, debits}
 use Rattle.sx_ledger.specs.Ledger.{assets_of}
-use Rattle.sx_ledger.specs.Static.{static_of}
 use Rattle.sx_tx.specs.declared.tx.Tx.{Tx as Transaction}
 
 -- ---- the first of its kind
@@ -62,31 +57,12 @@ one_asset n P asset asset' one other =
       | inr (inr gt) ↦ absurd (other.fails (one.earlier asset' gt))
     ]
 
-earlier_passes : (parts : Parts) (txs : List Transaction) (one other : ℕ) (why why' : Static) → one < other
-    → IsFirstRefused parts txs one why → IsFirstRefused parts txs other why' → ⊥
-earlier_passes parts txs one other why why' lt first second =
-    let within = slice_get_within txs one first.tx first.there in
-    let kept : one < length (take other txs) = omega (arith, length-take other txs) in
-    let passed = second.before one first.tx kept in
-    let is : get_or (take other txs) one first.tx ≡ first.tx =
-    get_or-take other txs one first.tx lt ∙ get_or_from_slice_get txs one first.tx first.tx first.there in
-    let e : Err why ≡ Ok tt = sym first.refused ∙ ap (static_of parts) (sym is) ∙ passed in
-    absurd cc
-
-one_refused : (parts : Parts) (txs : List Transaction) (index index' : ℕ) (why why' : Static)
-    → IsFirstRefused parts txs index why → IsFirstRefused parts txs index' why' → (index ≡ index') × (why ≡ why')
-one_refused parts txs index index' why why' one other =
-    elim (cases_order index index') [
-      | inl same ↦
-          let there : Some one.tx ≡ Some other.tx = sym one.there ∙ ap (slice_get txs) same ∙ other.there in
-          let tx : one.tx ≡ other.tx = cc in
-          let e : Err why ≡ Err why' = sym one.refused ∙ ap (static_of parts) tx ∙ other.refused in
-          (same, cc)
-      | inr (inl lt) ↦ absurd (earlier_passes parts txs index index' why why' lt one other)
-      | inr (inr gt) ↦ absurd (earlier_passes parts txs index' index why' why gt other one)
-    ]
-
 -- ---- reasons of one number
+
+-- an overdraft, field by field
+abbrev made : AccountId → ℕ → ℕ → ℕ → ℕ → Overdraft
+made account asset opening credits debits =
+    record { account = account; asset = asset; opening = opening; credits = credits; debits = debits }
 
 one_crowd : (parts : Parts) (txs : List Transaction) (have more limit have' more' limit' : ℕ)
     → IsCrowded parts txs have more limit → IsCrowded parts txs have' more' limit'
@@ -103,28 +79,29 @@ one_crowd parts txs have more limit have' more' limit' r s =
       ]
     ]
 
-one_overdraft : (accounts : List Account) (txs : List Transaction) (one other : Overdraft)
-    → IsFirstOverdrawn accounts txs one → IsFirstOverdrawn accounts txs other
+-- two first overdrafts of a body are the same
+one_overdraft : (version : ℕ) (parts : Parts) (txs : List Transaction) (one other : Overdraft)
+    → IsFirstOverdrawn version parts txs one → IsFirstOverdrawn version parts txs other
     → (one.account.0 ≡ other.account.0) × (one.asset ≡ other.asset)
-one_overdraft accounts txs one other first second =
+one_overdraft version parts txs one other first second =
     elim (cases_order one.account.0 other.account.0) [
       | inl same ↦ elim (cases_order one.asset other.asset) [
         | inl both ↦ (same, both)
         | inr (inl lt) ↦ absurd (
             let le = second.assets_before one.asset lt in
-            let at : debits txs one.account.0 one.asset ≤ holding_of accounts one.account.0 one.asset = rw same le in
-            omega (arith, first.opening, first.taken, first.over)
+            let at : debits txs one.account.0 one.asset ≤ spendable version parts txs one.account.0 one.asset = rw same
+            le in
+            omega (arith, first.taken, first.over)
             )
         | inr (inr gt) ↦ absurd (
             let le = first.assets_before other.asset gt in
-            let at : debits txs other.account.0 other.asset ≤ holding_of accounts other.account.0 other.asset = rw
-            (← same) le in
-            omega (arith, second.opening, second.taken, second.over)
+            let at : debits txs other.account.0 other.asset ≤ spendable version parts txs other.account.0 other.asset =
+            rw (← same) le in
+            omega (arith, second.taken, second.over)
             )
       ]
       | inr (inl lt) ↦ absurd (omega (
         arith,
-        first.opening,
         first.taken,
         first.over,
         second.accounts_before
@@ -132,7 +109,6 @@ one_overdraft accounts txs one other first second =
       ))
       | inr (inr gt) ↦ absurd (omega (
         arith,
-        second.opening,
         second.taken,
         second.over,
         first.accounts_before
@@ -140,17 +116,22 @@ one_overdraft accounts txs one other first second =
       ))
     ]
 
-same_overdraft : (accounts : List Account) (txs : List Transaction) (one other : Overdraft)
-    → IsFirstOverdrawn accounts txs one → IsFirstOverdrawn accounts txs other
-    → Overdrawn one.account one.asset one.opening one.debits ≡ Overdrawn other.account other.asset other.opening
-    other.debits
-same_overdraft accounts txs one other first second =
-    let at = one_overdraft accounts txs one other first second in
+same_overdraft : (version : ℕ) (parts : Parts) (txs : List Transaction) (one other : Overdraft)
+    → IsFirstOverdrawn version parts txs one → IsFirstOverdrawn version parts txs other → one ≡ other
+same_overdraft version parts txs one other first second =
+    let at = one_overdraft version parts txs one other first second in
     let account : one.account ≡ other.account = ap (λ (id : ℕ). let a : AccountId = record { 0 = id } in a) at.0 in
     let opening : one.opening ≡ other.opening =
-    first.opening ∙ ap₂ (holding_of accounts) at.0 at.1 ∙ sym second.opening in
+    first.opening ∙ ap₂ (holding_of parts.accounts) at.0 at.1 ∙ sym second.opening in
+    let given : one.credits ≡ other.credits =
+    first.given ∙ ap₂ (credits parts.offers txs) at.0 at.1 ∙ sym second.given in
     let taken : one.debits ≡ other.debits = first.taken ∙ ap₂ (debits txs) at.0 at.1 ∙ sym second.taken in
-    cc (account, at.1, opening, taken)
+    same_parts one.account other.account one.asset other.asset one.opening other.opening one.credits other.credits
+    one.debits other.debits account at.1 opening given taken
+  where
+    same_parts : (a a' : AccountId) (x x' o o' c c' d d' : ℕ) → a ≡ a' → x ≡ x' → o ≡ o' → c ≡ c' → d ≡ d'
+        → made a x o c d ≡ made a' x' o' c' d'
+    same_parts a a' x x' o o' c c' d d' ea ex eo ec ed = cc (ea, ex, eo, ec, ed)
 
 one_misrounded : (parts : Parts) (block : Block) (asset said real asset' said' real' : ℕ)
     → IsMisrounded parts block asset said real → IsMisrounded parts block asset' said' real'
@@ -172,54 +153,65 @@ one_misrounded parts block asset said real asset' said' real' r s =
           )
     ]
 
+-- ---- reasons of one rule
+
 differ : (a b : ℕ) → (a == b) ≡ false → a ≡ b → ⊥
 differ a b apart same = let equal = eq-eqb a b same in absurd cc
 
-pub same_number : (parts : Parts) (block : Block) (one other : Invalid) → Refuses parts block one → Refuses parts block
-    other
-    → number_of one ≡ number_of other → one ≡ other
-same_number parts block Ended Ended r s e = refl
-same_number parts block (WrongHeight have said) (WrongHeight have' said') r s e = cc (r.1, r.2, s.1, s.2)
-same_number parts block (WrongParent said real) (WrongParent said' real') r s e = cc (r.1, r.2, s.1, s.2)
-same_number parts block (WrongBody said real) (WrongBody said' real') r s e = cc (r.1, r.2, s.1, s.2)
-same_number parts block (WrongAssets have said) (WrongAssets have' said') r s e = cc (r.1, r.2, s.1, s.2)
-same_number parts block (Tx index why) (Tx index' why') r s e =
-    let at = one_refused parts block.txs index index' why why' r.1 s.1 in cc (at.0, at.1)
-same_number parts block (TwoCancels index) (TwoCancels index') r s e =
-    ap TwoCancels (one_first cancels block.txs index index' r.1 s.1)
-same_number parts block (TwoNames index) (TwoNames index') r s e =
-    ap TwoNames (one_first creates block.txs index index' r.1 s.1)
-same_number parts block (Crowded have more limit) (Crowded have' more' limit') r s e =
-    one_crowd parts block.txs have more limit have' more' limit' r.1 s.1
-same_number parts block (Overdrawn account asset opening debits) (Overdrawn account' asset' opening' debits') r s e =
-    same_overdraft parts.accounts block.txs (record
-    { account = account; asset = asset; opening = opening; debits = debits })
-    (record { account = account'; asset = asset'; opening = opening'; debits = debits' }) r.1 s.1
-same_number parts block (Outside sell buy low high y) (Outside sell' buy' low' high' y') r s e =
+-- two ways in which one rule is broken first are the same
+pub same_rule : (parts : Parts) (block : Block) (one other : Invalid) → Breaks parts block one
+    → Breaks parts block other → rank (rule_of one) ≡ rank (rule_of other) → one ≡ other
+same_rule parts block Ended Ended r s e = refl
+same_rule parts block (WrongHeight have said) (WrongHeight have' said') r s e = cc (r.0, r.1, s.0, s.1)
+same_rule parts block (WrongParent said real) (WrongParent said' real') r s e = cc (r.0, r.1, s.0, s.1)
+same_rule parts block (WrongBody said real) (WrongBody said' real') r s e = cc (r.0, r.1, s.0, s.1)
+same_rule parts block (WrongAssets have said) (WrongAssets have' said') r s e = cc (r.0, r.1, s.0, s.1)
+same_rule parts block (Tx index why) (Tx index' why') r s e =
+    let at = one_refusal parts block.txs index index' why why' r s in cc (at.0, at.1)
+same_rule parts block (TwoCancels index) (TwoCancels index') r s e =
+    ap TwoCancels (one_first cancels block.txs index index' r s)
+same_rule parts block (TwoNames index) (TwoNames index') r s e =
+    ap TwoNames (one_first creates block.txs index index' r s)
+same_rule parts block (Crowded have more limit) (Crowded have' more' limit') r s e =
+    one_crowd parts block.txs have more limit have' more' limit' r s
+same_rule parts block (Overdrawn account asset opening debits) (Overdrawn account' asset' opening' debits') r s e =
+    ap (λ (o : Overdraft). Overdrawn o.account o.asset o.opening o.debits)
+    (same_overdraft block.header.version parts block.txs
+    (made account asset opening (credits parts.offers block.txs account.0 asset) debits)
+    (made account' asset' opening' (credits parts.offers block.txs account'.0 asset') debits') r.1 s.1)
+same_rule parts block (Overspent account asset opening given debits) (Overspent account' asset' opening' given' debits')
+    r s e =
+    ap (λ (o : Overdraft). Overspent o.account o.asset o.opening o.credits o.debits)
+    (same_overdraft block.header.version parts block.txs (made account asset opening given debits)
+    (made account' asset' opening' given' debits') r.1 s.1)
+same_rule parts block (Overdrawn account asset opening debits) (Overspent account' asset' opening' given' debits') r s e
+    = absurd (differ 1 2 refl (sym r.0 ∙ s.0))
+same_rule parts block (Overspent account asset opening given debits) (Overdrawn account' asset' opening' debits') r s e
+    = absurd (differ 2 1 refl (sym r.0 ∙ s.0))
+same_rule parts block (Outside sell buy low high y) (Outside sell' buy' low' high' y') r s e =
     let n = assets_of parts in
     let at = one_pair n (IsWithin (low_in parts block) (high_in parts block) (flow_of_block block)) sell buy sell'
-    buy' r.1.0 s.1.0 in
-    let lows : low ≡ low' = r.1.1 ∙ ap₂ (low_in parts block) at.0 at.1 ∙ sym s.1.1 in
-    let highs : high ≡ high' = r.1.2 ∙ ap₂ (high_in parts block) at.0 at.1 ∙ sym s.1.2 in
-    let flows : y ≡ y' = r.1.3 ∙ ap₂ (flow_of_block block) at.0 at.1 ∙ sym s.1.3 in
+    buy' r.0 s.0 in
+    let lows : low ≡ low' = r.1 ∙ ap₂ (low_in parts block) at.0 at.1 ∙ sym s.1 in
+    let highs : high ≡ high' = r.2 ∙ ap₂ (high_in parts block) at.0 at.1 ∙ sym s.2 in
+    let flows : y ≡ y' = r.3 ∙ ap₂ (flow_of_block block) at.0 at.1 ∙ sym s.3 in
     cc (at.0, at.1, lows, highs, flows)
-same_number parts block (Unbalanced asset out into) (Unbalanced asset' out' into') r s e =
+same_rule parts block (Unbalanced asset out into) (Unbalanced asset' out' into') r s e =
     let n = assets_of parts in
-    let at = one_asset n (IsBalanced n (flow_of_block block)) asset asset' r.1.1 s.1.1 in
-    let outs : out ≡ out' = r.1.2 ∙ ap (sold n (flow_of_block block)) at ∙ sym s.1.2 in
-    let intos : into ≡ into' = r.1.3 ∙ ap (bought n (flow_of_block block)) at ∙ sym s.1.3 in
+    let at = one_asset n (IsBalanced n (flow_of_block block)) asset asset' r.1 s.1 in
+    let outs : out ≡ out' = r.2 ∙ ap (sold n (flow_of_block block)) at ∙ sym s.2 in
+    let intos : into ≡ into' = r.3 ∙ ap (bought n (flow_of_block block)) at ∙ sym s.3 in
     cc (at, outs, intos)
-same_number parts block (Slack sell buy gain y) (Slack sell' buy' gain' y') r s e =
+same_rule parts block (Slack sell buy gain y) (Slack sell' buy' gain' y') r s e =
     let n = assets_of parts in
     let potential = potential_of block.header.potentials in
     let at = one_pair n (IsTight (low_in parts block) (high_in parts block) (flow_of_block block) potential) sell
-    buy sell' buy' r.1.1 s.1.1 in
-    let gains : gain ≡ gain' = r.1.2 ∙ ap₂ (gain_of potential) at.0 at.1 ∙ sym s.1.2 in
-    let flows : y ≡ y' = r.1.3 ∙ ap₂ (flow_of_block block) at.0 at.1 ∙ sym s.1.3 in
+    buy sell' buy' r.1 s.1 in
+    let gains : gain ≡ gain' = r.2 ∙ ap₂ (gain_of potential) at.0 at.1 ∙ sym s.2 in
+    let flows : y ≡ y' = r.3 ∙ ap₂ (flow_of_block block) at.0 at.1 ∙ sym s.3 in
     cc (at.0, at.1, gains, flows)
-same_number parts block (NoCut cut) (NoCut cut') r s e =
-    ap NoCut (same_Some cut cut' (sym r.1 ∙ s.1))
-same_number parts block (Rounding asset said real) (Rounding asset' said' real') r s e =
-    one_misrounded parts block asset said real asset' said' real' r.1 s.1
-same_number parts block (WrongAfter said real) (WrongAfter said' real') r s e = cc (r.1, r.2, s.1, s.2)
-same_number parts block one other r s e = absurd (differ (number_of one) (number_of other) refl e)
+same_rule parts block (NoCut cut) (NoCut cut') r s e = ap NoCut (same_Some cut cut' (sym r.0 ∙ s.0))
+same_rule parts block (Rounding asset said real) (Rounding asset' said' real') r s e =
+    one_misrounded parts block asset said real asset' said' real' r s
+same_rule parts block (WrongAfter said real) (WrongAfter said' real') r s e = cc (r.0, r.1, s.0, s.1)
+same_rule parts block one other r s e = absurd (differ (rank (rule_of one)) (rank (rule_of other)) refl e)

@@ -3,12 +3,11 @@ use Rattle.std.specs.Prelude.{◌≡◌, ◌≢◌, ℕ, List, length, is_some}
 use Rattle.sx_apply.specs.Effects.{AreEffects}
 use Rattle.sx_block.specs.declared.header.Block.{Block}
 use Rattle.sx_block.specs.declared.header.Header.{Header}
-use Rattle.sx_block.specs.Validity.{flow_of_block}
+use Rattle.sx_block.specs.Validity.{IsSound, flow_of_block}
 use Rattle.sx_check.specs.declared.checked.Checked.{Checked}
 use Rattle.sx_check.specs.declared.checked.Judged.{Judged}
 use Rattle.sx_check.specs.declared.invalid.Invalid.{Invalid}
 use Rattle.sx_check.specs.declared.invalid.Invalid.TheVariants.{WrongAfter}
-use Rattle.sx_check.specs.Rules.{IsSound}
 use Rattle.sx_dual.specs.Circulation.{traded_value}
 use Rattle.sx_ledger.specs.declared.parts.Parts.{Parts}
 

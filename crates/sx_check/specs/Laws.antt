@@ -1,13 +1,13 @@
--- Laws of refusals and of what makes a block valid, for all ledgers and blocks.
-use Rattle.std.specs.Prelude.{◌≡◌}
+-- Laws of refusals, for all ledgers and blocks.
+use Rattle.std.specs.Prelude.{◌≡◌, ◌⊎◌, ℕ, List}
 use Rattle.sx_block.specs.declared.header.Block.{Block}
-use Rattle.sx_block.specs.EffectLaws.{IsRounded, IsTradable}
-use Rattle.sx_block.specs.Validity.{IsValid, digest_of_ledger, flow_of_block, ledger_after}
+use Rattle.sx_block.specs.Block.{IsBlock}
+use Rattle.sx_block.specs.Validity.{IsSound, IsValid, digest_of_ledger, ledger_after}
 use Rattle.sx_check.specs.declared.invalid.Invalid.{Invalid}
+use Rattle.sx_check.specs.Checked.{IsWrongAfter}
 use Rattle.sx_check.specs.Refusals.{Refuses}
-use Rattle.sx_check.specs.Rules.{IsSound}
 use Rattle.sx_ledger.specs.declared.parts.Parts.{Parts}
-use Rattle.sx_ledger.specs.Body.{body_after}
+use Rattle.sx_ledger.specs.Ledger.{IsLedger}
 
 -- a block is refused for one first reason at most
 abbrev pub OneReason : Type 0
@@ -19,15 +19,18 @@ OneReason =
 abbrev pub ValidIsNotRefused : Type 0
 ValidIsNotRefused = (parts : Parts) (block : Block) (why : Invalid) → IsValid parts block → ¬ Refuses parts block why
 
--- a block is valid where it is sound and names the ledger that it leaves
-abbrev pub SoundIsValid : Type 0
-SoundIsValid =
-    (parts : Parts) (block : Block) → IsSound parts block →
-    block.header.after ≡ digest_of_ledger (ledger_after parts block) → IsValid parts block
+-- a block that is valid but for the digest of the ledger that it leaves is refused where it names another ledger
+abbrev pub WrongAfterRefuses : Type 0
+WrongAfterRefuses =
+    (parts : Parts) (block : Block) (after : List ℕ) (why : Invalid) → IsSound parts block →
+    after ≡ digest_of_ledger (ledger_after parts block) → IsWrongAfter block.header after why →
+    Refuses parts block why
 
--- what a sound block trades can be traded after its transactions, and what it says of rounding is so
-abbrev pub SoundIsTradable : Type 0
-SoundIsTradable =
-    (parts : Parts) (block : Block) → IsSound parts block →
-    IsTradable (body_after parts block.txs) block.header.prices (flow_of_block block)
-    × IsRounded (body_after parts block.txs) block.header.prices (flow_of_block block) block.header.rounding
+-- each block is valid, or refused for some first reason
+pub record IsRefused (parts : Parts) (block : Block) : Type 0 where
+  pub why : Invalid
+  pub refuses : Refuses parts block why
+
+abbrev pub EveryBlockIsJudged : Type 0
+EveryBlockIsJudged =
+    (parts : Parts) (block : Block) → IsLedger parts → IsBlock block → IsValid parts block ⊎ IsRefused parts block

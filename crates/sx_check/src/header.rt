@@ -1,11 +1,12 @@
 //! The header of a block against the ledger and the transactions: reasons 1 to 5.
 
-ghost use Rattle.std.specs.Prelude.{◌≡◌, length, OnOk, IfErr};
+ghost use Rattle.std.specs.Prelude.{◌≡◌, IfErr, OnOk};
 ghost use Rattle.sha2.specs.Sha256.{sha256};
 ghost use Rattle.sx_block.specs.Block.{IsBlock};
-ghost use Rattle.sx_block.specs.Validity.{digest_of_ledger};
+ghost use Rattle.sx_block.specs.Rule as rule;
+ghost use Rattle.sx_block.specs.Validity.{HoldsBefore, digest_of_ledger};
 ghost use Rattle.sx_check.specs.Refusals.{RefusesEarly};
-ghost use Rattle.sx_check.specs.Rules.{Commits, HasNextHeight, IsForLedger, NamesParent};
+ghost use Rattle.sx_ledger.specs.Ledger.{IsLedger};
 ghost use Rattle.sx_tx.specs.Transactions.{list_bytes};
 
 use crate::invalid::Invalid;
@@ -13,8 +14,9 @@ use sx_block::{Block, Digest};
 use sx_ledger::Ledger;
 
 // The block has the next height.
+#[tactic(auto, using(crate::proofs::Steps::ended, crate::proofs::Steps::wrong_height, crate::proofs::Steps::height_holds))]
 fn check_height(ledger: &Ledger, block: &Block) -> Result<(), Invalid>
-    ensures next { OnOk result (HasNextHeight ledger.now block.now) }
+    ensures next { OnOk result (HoldsBefore rule.Parent ledger.now block.now) }
     ensures refused { IfErr result (RefusesEarly ledger.now block.now) }
 {
     let have = ledger.height();
@@ -29,9 +31,10 @@ fn check_height(ledger: &Ledger, block: &Block) -> Result<(), Invalid>
 }
 
 // And it names the ledger, whose digest is `parent`.
+#[tactic(auto, using(crate::proofs::Steps::wrong_parent, crate::proofs::Steps::parent_holds))]
 fn check_parent(ledger: &Ledger, block: &Block, parent: &Digest) -> Result<(), Invalid>
     requires parent { parent.now ≡ digest_of_ledger ledger.now }
-    ensures named { OnOk result (NamesParent ledger.now block.now) }
+    ensures named { OnOk result (HoldsBefore rule.Body ledger.now block.now) }
     ensures refused { IfErr result (RefusesEarly ledger.now block.now) }
 {
     check_height(ledger, block)?;
@@ -44,6 +47,7 @@ fn check_parent(ledger: &Ledger, block: &Block, parent: &Digest) -> Result<(), I
 }
 
 // And it names its transactions, whose digest is `body`.
+#[tactic(auto, using(crate::proofs::Steps::wrong_body, crate::proofs::Steps::body_holds))]
 fn check_commitments(
     ledger: &Ledger,
     block: &Block,
@@ -52,7 +56,7 @@ fn check_commitments(
 ) -> Result<(), Invalid>
     requires parent { parent.now ≡ digest_of_ledger ledger.now }
     requires body { body.now ≡ sha256 (list_bytes block.now.txs) }
-    ensures named { OnOk result (Commits ledger.now block.now) }
+    ensures named { OnOk result (HoldsBefore rule.Assets ledger.now block.now) }
     ensures refused { IfErr result (RefusesEarly ledger.now block.now) }
 {
     check_parent(ledger, block, parent)?;
@@ -66,6 +70,7 @@ fn check_commitments(
 
 // The header is one for the ledger: it has the next height, the ledger and the transactions have the
 // digests that it says, and it speaks of as many assets.
+#[tactic(auto, using(crate::proofs::Steps::wrong_assets, crate::proofs::Steps::assets_hold))]
 pub fn check_header(
     ledger: &Ledger,
     block: &Block,
@@ -75,7 +80,8 @@ pub fn check_header(
     requires form { IsBlock block.now }
     requires parent { parent.now ≡ digest_of_ledger ledger.now }
     requires body { body.now ≡ sha256 (list_bytes block.now.txs) }
-    ensures for_ledger { OnOk result (IsForLedger ledger.now block.now) }
+    ensures kept { OnOk result (IsLedger ledger.now) }
+    ensures for_ledger { OnOk result (HoldsBefore rule.Passes ledger.now block.now) }
     ensures refused { IfErr result (RefusesEarly ledger.now block.now) }
 {
     check_commitments(ledger, block, parent, body)?;

@@ -63,13 +63,24 @@ pub enum Invalid {
         more: u32,
         limit: u32,
     },
-    /// 10: the first account, by its id, and asset of which the transactions debit more than the
-    /// account holds at the opening. Both are whole units of the asset.
+    /// 10, where the block is of version 1: the first account, by its id, and asset of which the
+    /// transactions debit more than the account holds at the opening. Both are whole units of the asset.
     #[error("account {} is debited {debits} of asset {} and has {opening}", .account.0, .asset.get())]
     Overdrawn {
         account: AccountId,
         asset: AssetId,
         opening: u64,
+        debits: u128,
+    },
+    /// 17, in the place of 10 where the block is of version 2: the first account, by its id, and asset of
+    /// which the transactions debit more than the account holds at the opening and is credited by them.
+    /// All three are whole units of the asset.
+    #[error("account {} is debited {debits} of asset {}, has {opening} and is credited {credits}", .account.0, .asset.get())]
+    Overspent {
+        account: AccountId,
+        asset: AssetId,
+        opening: u64,
+        credits: u128,
         debits: u128,
     },
     /// 11: the first pair, by the sold and then the bought asset, that trades less than its lower
@@ -122,7 +133,7 @@ pub enum Invalid {
 }
 
 impl Invalid {
-    /// The number of the reason, from 1 to 16.
+    /// The number of the reason, from 1 to 17.
     pub fn number(&self) -> u8
         ensures { result ≡ number_of self.now }
     {
@@ -137,6 +148,7 @@ impl Invalid {
             Invalid::TwoNames { .. } => 8,
             Invalid::Crowded { .. } => 9,
             Invalid::Overdrawn { .. } => 10,
+            Invalid::Overspent { .. } => 17,
             Invalid::Outside { .. } => 11,
             Invalid::Unbalanced { .. } => 12,
             Invalid::Slack { .. } => 13,

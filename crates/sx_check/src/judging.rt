@@ -3,10 +3,9 @@
 ghost use Rattle.std.specs.Prelude.{◌≡◌, ◌≢◌, IfErr, IfOk, OnOk};
 ghost use Rattle.sha2.specs.Sha256.{sha256};
 ghost use Rattle.sx_block.specs.Block.{IsBlock};
-ghost use Rattle.sx_block.specs.Validity.{IsValid, digest_of_ledger, ledger_after};
+ghost use Rattle.sx_block.specs.Validity.{IsSound, IsValid, digest_of_ledger, ledger_after};
 ghost use Rattle.sx_check.specs.Checked.{IsJudged, IsWrongAfter, checked_of};
 ghost use Rattle.sx_check.specs.Refusals.{Explains, ExplainsEarly, Refuses};
-ghost use Rattle.sx_check.specs.Rules.{IsSound};
 ghost use Rattle.sx_tx.specs.Transactions.{list_bytes};
 
 use crate::body::check_body;
@@ -36,7 +35,7 @@ fn checked(block: &Block) -> Checked
 
 /// Judges a block on a ledger by all but the digest of the ledger that it leaves: Ok exactly where the
 /// block is valid but for that, with what it does to the ledger, and else the first reason, which is
-/// one of the first fifteen. `parent` is the digest of the ledger and `body` that of the block's
+/// any but `WrongAfter`. `parent` is the digest of the ledger and `body` that of the block's
 /// transactions. The block has the form of one, as those have that are read.
 ///
 /// It goes over the transactions and the offers a fixed number of times, and copies nothing.
@@ -54,14 +53,14 @@ pub fn judge(
     ensures refused { IfErr result (ExplainsEarly ledger.now block.now) }
 {
     check_header(ledger, block, parent, body)?;
-    let credits = check_body(alloc, ledger, block)?;
-    let offers = offers_after(alloc, ledger, block.txs.items())?;
+    let tally = check_body(alloc, ledger, block)?;
+    let offers = offers_after(alloc, ledger, &tally)?;
     check_market(alloc, ledger, block, offers.items())?;
     let fills = check_rounding(alloc, ledger, block, offers.items())?;
     Ok(Judged {
         checked: checked(block),
         effects: Effects {
-            credits,
+            tally,
             offers,
             fills,
         },

@@ -55,6 +55,3 @@ mod solver;
 mod walk;
 
 pub use solver::best;
-
-#[cfg(test)]
-mod tests;

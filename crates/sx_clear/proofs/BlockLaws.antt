@@ -1,15 +1,13 @@
--- From a trade to a sound block, and from a sound block to a valid one.
+-- What trades at given prices, and what follows of a valid block.
 use Rattle.std.proofs.Common.{◌≡◌, ℕ, ◌<◌, ◌≤◌, List, length, Option, Some, None, refl, sym, subst, ◌∙◌, arith}
-use Rattle.std.specs.Prelude.{All, ◌↔◌, IsTrue, is_some}
+use Rattle.std.specs.Prelude.{All, ◌↔◌, IsTrue, is_some, slice_index}
 use Rattle.std.proofs.lemmas.List.Elements.{All-from_get_or}
-use Rattle.sx_apply.specs.Sound.{IsSound}
 use Rattle.sx_apply.specs.Trading.{CanTrade}
 use Rattle.sx_base.specs.Ranges.{most_amount}
 use Rattle.sx_block.specs.declared.header.Block.{Block}
-use Rattle.sx_block.specs.Digest.{IsDigest}
 use Rattle.sx_block.specs.EffectLaws.{IsRounded, IsTradable}
-use Rattle.sx_block.specs.Validity.{IsValid, digest_of_ledger, flow_of_block, high_in, ledger_after, offers_of}
-use Rattle.sx_block.specs.Validity.{undropped_low_in}
+use Rattle.sx_block.specs.Validity.{IsValid, flow_of_block, high_in, offers_of, undropped_low_in}
+use Rattle.sx_block.proofs.Rules.{sound_fits, valid_is_sound}
 use Rattle.sx_block.proofs.TradeKeeps.{trade_keeps_ledger}
 use Rattle.sx_block.proofs.TradeTotals.{added_at, added_length}
 use Rattle.sx_block.proofs.ValidBlocks.{drops_the_impossible}
@@ -23,6 +21,7 @@ use Rattle.sx_ledger.specs.declared.offer.Offer.{Offer}
 use Rattle.sx_ledger.specs.declared.parts.Parts.{Parts}
 use Rattle.sx_ledger.specs.Body.{body_after}
 use Rattle.sx_ledger.specs.Bounds.{low_of}
+use Rattle.sx_ledger.specs.Fills.{IsRounding}
 use Rattle.sx_ledger.specs.Ledger.{IsLedger, assets_of, most_height}
 use Rattle.sx_price.specs.Limits.{IsPrice}
 use Rattle.sx_tx.specs.declared.tx.Tx.{Tx}
@@ -64,51 +63,18 @@ module _ (parts : Parts) (txs : List Tx) (prices : List ℕ) (j : ℕ) (trade : 
         added_at k parts.rounding rounding (omega (arith, long)) long,
       ))
 
--- ---- the digest of the ledger that is left
-
-abbrev pub with_after : Block → List ℕ → Block
-with_after block after = record block { header = record block.header { after = after } }
-
-pub sealed_is_valid : (parts : Parts) (block : Block) (after : List ℕ) → IsSound parts block → IsDigest after
-    → after ≡ digest_of_ledger (ledger_after parts block) → IsValid parts (with_after block after)
-sealed_is_valid parts block after sound digest same =
-    let header = sound.form.header in
-    record {
-      form = record {
-        header = record {
-          version = header.version;
-          height = header.height;
-          parent = header.parent;
-          body = header.body;
-          some_mu = header.some_mu;
-          most_mu = header.most_mu;
-          some_asset = header.some_asset;
-          few_assets = header.few_assets;
-          prices = header.prices;
-          same_assets = header.same_assets;
-          trades = header.trades;
-          cut = header.cut;
-          one_potential = header.one_potential;
-          potentials = header.potentials;
-          one_rounding = header.one_rounding;
-          rounding = header.rounding;
-          after = digest;
-        };
-        few = sound.form.few;
-        each = sound.form.each;
-        ordered = sound.form.ordered;
-      };
-      below_last = sound.below_last;
-      next_height = sound.next_height;
-      parent = sound.parent;
-      body = sound.body;
-      same_assets = sound.same_assets;
-      admissible = sound.admissible;
-      fits = sound.fits;
-      cut = sound.cut;
-      rounding = sound.rounding;
-      after = same;
-    }
+-- what rounding keeps of the offers after the transactions
+pub rounded_by : (parts : Parts) (txs : List Tx) (prices : List ℕ) (flow : ℕ → ℕ → ℕ) (rounding : List ℕ)
+    (offers : List Offer) → length prices ≡ assets_of parts → offers ≡ (body_after parts txs).offers
+    → length rounding ≡ length prices
+    → ((asset : ℕ) → asset < length prices → IsRounding prices flow offers asset (slice_index rounding asset))
+    → IsRounded (body_after parts txs) prices flow rounding
+rounded_by parts txs prices flow rounding offers same are long each = record {
+  one_each = long ∙ same;
+  is = λ asset lt.
+      subst (λ (os : List Offer). IsRounding prices flow os asset (slice_index rounding asset)) are
+      (each asset (omega (arith, lt, same)));
+}
 
 -- ---- what follows of validity
 
@@ -120,7 +86,7 @@ drops_as parts block None valid is =
     (flow_of_block block) =
     subst (λ (o : Option Cut). IsCirculation (assets_of parts)
     (λ sell buy. low_of block.header.prices block.header.mu (is_some o) (offers_of parts block) sell buy)
-    (high_in parts block) (flow_of_block block)) is valid.fits.circulation in
+    (high_in parts block) (flow_of_block block)) is (sound_fits parts block (valid_is_sound parts block valid)).circulation in
     (λ never. absurd cc, λ none. absurd (none (flow_of_block block) flow))
 drops_as parts block (Some cut) valid is = (λ _. drops_the_impossible parts block cut valid is, λ _. refl)
 

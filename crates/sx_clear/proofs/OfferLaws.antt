@@ -18,6 +18,7 @@ use Rattle.sx_ledger.specs.declared.parts.Parts.{Parts}
 use Rattle.sx_ledger.specs.Body.{IsAdmissible, body_after}
 use Rattle.sx_ledger.specs.Ledger.{IsLedger, assets_of, offered}
 use Rattle.sx_ledger.proofs.BodyKeepsLedger.{body_keeps_ledger}
+use Rattle.sx_ledger.proofs.LaterBodies.{later_admits_more}
 use Rattle.sx_tx.specs.declared.tx.Tx.{Tx}
 use Rattle.sx_tx.specs.Transactions.{IsTx}
 
@@ -50,12 +51,18 @@ quotes_are n offers count are = record {
 -- the ledger after a body is one, and so are its offers
 pub middle_is : (parts : Parts) (txs : List Tx) (body : Body) → IsLedger parts → IsAdmissible parts txs
     → IsBodyOf parts txs body → IsLedger (body_after parts txs)
-middle_is parts txs body is admissible found = body_keeps_ledger parts txs is found.credits.in_range admissible
+middle_is parts txs body is admissible found = body_keeps_ledger 1 parts txs is found.tally.in_range admissible
+
+-- the offers that were found are those after the transactions
+pub offers_is : (parts : Parts) (txs : List Tx) (body : Body) → IsAdmissible parts txs → IsBodyOf parts txs body
+    → body.offers ≡ (body_after parts txs).offers
+offers_is parts txs body admissible found =
+    found.offers txs (later_admits_more 2 parts txs admissible) found.tally
 
 pub offers_are : (parts : Parts) (txs : List Tx) (body : Body) → IsLedger parts → IsAdmissible parts txs
     → IsBodyOf parts txs body → AreOffers (assets_of parts) body.offers
 offers_are parts txs body is admissible found =
-    subst (AreOffers (assets_of parts)) (sym found.offers)
+    subst (AreOffers (assets_of parts)) (sym (offers_is parts txs body admissible found))
     (ledger_offers (body_after parts txs) (middle_is parts txs body is admissible found))
 
 pub asset_count : (parts : Parts) → IsLedger parts → IsAssetCount (assets_of parts)
@@ -68,4 +75,4 @@ pub offers_at : (parts : Parts) (txs : List Tx) (prices : List ℕ) (offers : Li
 offers_at parts txs prices offers is each admissible same are =
     subst (λ (n : ℕ). AreOffers n offers) (sym same)
     (subst (AreOffers (assets_of parts)) (sym are)
-    (ledger_offers (body_after parts txs) (body_keeps_ledger parts txs is each admissible)))
+    (ledger_offers (body_after parts txs) (body_keeps_ledger 1 parts txs is each admissible)))

@@ -3,6 +3,7 @@ use Rattle.std.proofs.Common.{◌≡◌, ℕ, ◌≤◌, List, Result, Ok, Err, 
 use Rattle.std.specs.Prelude.{IfOk}
 use Rattle.sx_block.specs.declared.header.Block.{Block}
 use Rattle.sx_clear.specs.Quotes.{imbalance_at, quotes_of, searched_at}
+use Rattle.sx_curve.specs.Search.{usual_exponent}
 use Rattle.sx_curve.proofs.SearchLaws.{search_mends}
 use Rattle.sx_ledger.specs.declared.parts.Parts.{Parts}
 use Rattle.sx_ledger.specs.Body.{body_after}
@@ -16,5 +17,5 @@ mends_from parts txs j rounds prices (Ok block) is same posted =
     let at : block.header.prices ≡ searched_at parts block.txs j rounds =
     posted ∙ is ∙ ap (λ (xs : List Tx). searched_at parts xs j rounds) (sym same) in
     subst (λ (ps : List ℕ). imbalance_at parts block.txs j ps ≤ imbalance_at parts block.txs j parts.prices) (sym at)
-    (search_mends (quotes_of (body_after parts block.txs).offers) parts.prices j rounds)
+    (search_mends usual_exponent (quotes_of (body_after parts block.txs).offers) parts.prices j rounds)
 mends_from parts txs j rounds prices (Err e) is same posted = tt

@@ -14,7 +14,7 @@ use Rattle.sx_dual.specs.Cuts.{goes_in, sum_in}
 use Rattle.sx_dual.specs.Sums.{EachPair, between, sum_below}
 use Rattle.sx_dual.specs.Tables.{BoundsTable, FlowTable, high_of, low_of, potential_of, value_of}
 use Rattle.sx_dual.proofs.SumLaws.{between-other, between-self, sum_below-same}
-use Rattle.sx_feas.specs.Feas.{IsCutOf}
+use Rattle.sx_dual.specs.Cuts.{IsCutOf}
 use Rattle.sx_ledger.specs.declared.offer.Offer.{Offer}
 use Rattle.sx_ledger.specs.declared.parts.Parts.{Parts}
 use Rattle.sx_ledger.specs.Body.{body_after}

@@ -1,12 +1,22 @@
 -- What is found of a body before anything trades.
-use Rattle.std.specs.Prelude.{◌≡◌, List}
-use Rattle.sx_body.specs.Credits.{HasCredits}
+use Rattle.std.specs.Prelude.{ℕ, List}
+use Rattle.sx_apply.specs.Effects.{AreOffersAfter}
+use Rattle.sx_apply.specs.Trading.{CanExecute}
+use Rattle.sx_body.specs.Tally.{IsTally}
 use Rattle.sx_clear.specs.declared.body.Body.{Body}
+use Rattle.sx_ledger.specs.declared.fill.Fill.{Fill}
 use Rattle.sx_ledger.specs.declared.parts.Parts.{Parts}
-use Rattle.sx_ledger.specs.Body.{offers_after}
+use Rattle.sx_ledger.specs.Body.{IsAdmissible, body_after}
 use Rattle.sx_tx.specs.declared.tx.Tx.{Tx}
 
--- what these transactions credit, and the offers after them
+-- what these transactions do, and the offers after them
 pub record IsBodyOf (parts : Parts) (txs : List Tx) (body : Body) : Type 0 where
-  pub credits : HasCredits parts txs body.credits
-  pub offers : body.offers ≡ offers_after parts txs
+  pub tally : IsTally parts txs body.tally
+  pub offers : AreOffersAfter parts body.tally body.offers
+
+-- these are the fills of the offers after an admissible body that was found, with what rounding keeps
+pub record CanLeave (parts : Parts) (found : Body) (prices rounding : List ℕ) (fills : List Fill) : Type 0 where
+  pub txs : List Tx
+  pub admissible : IsAdmissible parts txs
+  pub body : IsBodyOf parts txs found
+  pub trade : CanExecute (body_after parts txs) prices rounding fills

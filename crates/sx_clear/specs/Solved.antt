@@ -9,7 +9,7 @@ use Rattle.sx_dual.specs.declared.cut.Cut.{Cut as Set}
 use Rattle.sx_dual.specs.Fit.{Fits}
 use Rattle.sx_dual.specs.Sums.{EachPair}
 use Rattle.sx_dual.specs.Tables.{BoundsTable, FlowTable, high_of, low_of, potential_of, value_of}
-use Rattle.sx_feas.specs.Feas.{IsCutOf}
+use Rattle.sx_dual.specs.Cuts.{IsCutOf}
 use Rattle.sx_ledger.specs.declared.parts.Parts.{Parts}
 use Rattle.sx_ledger.specs.Body.{body_after}
 use Rattle.sx_ledger.specs.Bounds.{high_of as high_at, low_of as low_at}

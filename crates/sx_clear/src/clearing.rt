@@ -8,18 +8,21 @@ ghost use Rattle.sx_clear.specs.Found.{IsBodyOf};
 ghost use Rattle.sx_clear.specs.Quotes.{imbalance_at, quotes_of, searched_at};
 ghost use Rattle.sx_curve.specs.Search.{searched_prices};
 ghost use Rattle.sx_dual.specs.Circulation.{IsGreatest};
+ghost use Rattle.sx_dual.specs.Tables.{IsAssetCount};
 ghost use Rattle.sx_ledger.specs.Body.{IsAdmissible};
 ghost use Rattle.sx_ledger.specs.Ledger.{assets_of, most_height};
 ghost use Rattle.sx_tx.specs.Transactions.{most_transactions};
 
 use crate::body::{Body, body_of};
 use crate::curves::offer_curves;
-use crate::drafting::draft_of;
-use crate::sealing::seal;
+use crate::filling::{Filled, fill};
+use crate::heading::{Terms, block_of};
+use crate::leaving::digest_left;
+use crate::ranges::price_ranges;
+use crate::trade::trade_at;
 use std::alloc::Global;
 use std::sync::ledger;
 use std::thread::Threads;
-use sx_apply::Effects;
 use sx_block::Block;
 use sx_bytes::NoMemory;
 use sx_ledger::{Ledger, Offer};
@@ -44,18 +47,24 @@ fn clear_body<L: ledger::Ledger>(
     requires assets { length prices ≡ assets_of ledger.now }
     requires body { IsBodyOf ledger.now txs body }
     ensures valid { IfOk result (IsValid ledger.now) }
+    ensures version { IfOk result (λ block. block.header.version ≡ 1) }
     ensures txs { IfOk result (λ block. block.txs ≡ txs) }
     ensures mu { IfOk result (λ block. block.header.mu ≡ mu) }
     ensures prices { IfOk result (λ block. block.header.prices ≡ prices) }
 {
-    let Body { credits, offers } = body;
-    let draft = draft_of(alloc, ledger, txs, mu, prices, offers.items(), steps)?;
-    let effects = Effects {
-        credits,
-        offers,
-        fills: draft.fills,
+    let height = ledger.height() + 1;
+    price_ranges(&prices);
+    let trade = trade_at(alloc, body.offers.items(), &prices, mu, steps)?;
+    let Filled { fills, rounding } = fill(alloc, body.offers.items(), &prices, &trade.flow)?;
+    let after = digest_left(alloc, ledger, body, &prices, &rounding, fills.items())?;
+    let terms = Terms {
+        mu,
+        prices,
+        trade,
+        rounding,
+        after,
     };
-    seal(alloc, ledger, draft.block, effects)
+    block_of(alloc, ledger, height, txs, terms)
 }
 
 /// The block of a body at these prices, one for each asset of the ledger: a valid one, with a circulation
@@ -93,14 +102,17 @@ fn searched<R: Threads + Sync>(
     rt: &R,
     alloc: Global,
     ledger: &Ledger,
+    assets: u32,
     offers: &[Offer],
     mu: Mu,
     rounds: u32,
 ) -> Result<Prices, NoMemory>
+    requires assets { assets ≡ assets_of ledger.now }
+    requires count { IsAssetCount assets }
     requires offers { AreOffers (assets_of ledger.now) offers.now }
     ensures exact { IfOk result (λ prices. prices ≡ searched_prices (quotes_of offers.now) ledger.now.prices mu rounds) }
 {
-    let curves = offer_curves(alloc, ledger.assets(), offers)?;
+    let curves = offer_curves(alloc, assets, offers)?;
     search(rt, alloc, &curves, &ledger.parts().prices, mu, rounds)
 }
 
@@ -128,9 +140,8 @@ pub fn clear<R: Threads + Sync, L: ledger::Ledger>(
     ensures greatest { IfOk result (λ block. IsGreatest (assets_of ledger.now) (low_in ledger.now block) (high_in ledger.now block) (flow_of_block block)) }
     ensures dropped { IfOk result (DropsExactly ledger.now) }
 {
-    // The ledger keeps what a ledger keeps.
-    let _assets = ledger.assets();
+    let assets = ledger.assets();
     let body = body_of(alloc, ledger, txs.items())?;
-    let prices = searched(rt, alloc, ledger, body.offers.items(), mu, rounds)?;
+    let prices = searched(rt, alloc, ledger, assets, body.offers.items(), mu, rounds)?;
     clear_body(alloc, ledger, txs, mu, prices, body, steps)
 }

@@ -1,13 +1,12 @@
 //! The supply curves of a ledger's offers.
 
-ghost use Rattle.std.specs.Prelude.{◌≡◌, ◌≤◌, IfOk, length};
+ghost use Rattle.std.specs.Prelude.{◌≡◌, IfOk};
 ghost use Rattle.std.specs.List.Sorted.{IsPermutation};
 ghost use Rattle.sx_apply.specs.Bounds.{AreOffers};
 ghost use Rattle.sx_clear.specs.Quotes.{quotes_of as the_quotes_of};
 ghost use Rattle.sx_dual.specs.Tables.{IsAssetCount};
 ghost use Rattle.sx_ledger.specs.Body.{IsAdmissible, body_after};
 ghost use Rattle.sx_ledger.specs.Ledger.{assets_of};
-ghost use Rattle.sx_tx.specs.Transactions.{most_transactions};
 
 use crate::body::body_of;
 use crate::quotes::quotes_of;
@@ -28,11 +27,9 @@ pub fn offer_curves(alloc: Global, assets: u32, offers: &[Offer]) -> Result<Curv
     Curves::build(alloc, assets, &quotes)
 }
 
-/// The supply curves of the offers after a body, of at most 1,000,000 transactions. `NoMemory` is the
-/// only error. It goes over the transactions once, and sorts the quotes.
+/// The supply curves of the offers after a body. `NoMemory` is the only error. It goes over the transactions once, and sorts the quotes.
 pub fn curves_of(alloc: Global, ledger: &Ledger, txs: &[Tx]) -> Result<Curves, NoMemory>
     requires admissible { IsAdmissible ledger.now txs.now }
-    requires few { length txs.now ≤ most_transactions }
     ensures assets { IfOk result (λ curves. curves.assets ≡ assets_of ledger.now) }
     ensures quotes { IfOk result (λ curves. IsPermutation (the_quotes_of (body_after ledger.now txs.now).offers) curves.quotes) }
 {

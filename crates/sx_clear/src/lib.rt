@@ -34,11 +34,11 @@
 mod body;
 mod clearing;
 mod curves;
-mod drafting;
 mod filling;
+mod heading;
+mod leaving;
 mod quotes;
 mod ranges;
-mod sealing;
 mod solving;
 mod trade;
 

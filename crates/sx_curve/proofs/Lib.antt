@@ -8,4 +8,3 @@ pub mod Segments
 pub mod BelowSums
 pub mod FirstSums
 pub mod Kept
-pub mod SmallMarket

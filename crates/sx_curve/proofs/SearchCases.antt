@@ -3,7 +3,8 @@ use Rattle.std.proofs.Common.{◌≡◌, ℕ, ◌+◌, ◌-◌, ◌*◌, ◌^◌
 use lib.Count.{count_leading_zeros}
 use Rattle.sx_curve.specs.declared.quote.Quote.{Quote}
 use Rattle.sx_curve.specs.Demand.{imbalance, net_of, pair_value, sold_value, value_into, value_out, volume_of}
-use Rattle.sx_curve.specs.Search.{after_trial, held_after, moved_price, price_change, searched_prices, trial_prices}
+use Rattle.sx_curve.specs.Search.{after_trial, held_after, moved_price, price_change, searched_from}
+use Rattle.sx_curve.specs.Search.{searched_prices, trial_prices}
 
 abbrev one : ℕ
 one = 2 ^ 24
@@ -86,3 +87,39 @@ last_trial :
     × (held_after at_rate 10 5 (record { prices = ones; exponent = 41 }) ≡ record { prices = ones; exponent = 41 })
 unfolding sold_value value_into value_out imbalance count_leading_zeros trial_prices after_trial held_after
 last_trial = (refl, refl)
+
+-- the search may begin with another exponent: the first step is then a half and not a sixteenth
+halves_searched_from_one : searched_from 1 halves ones 10 1 ≡ 13981014 ∷ 19573418 ∷ []
+unfolding sold_value value_into value_out imbalance count_leading_zeros trial_prices after_trial held_after
+halves_searched_from_one = refl
+
+-- ---- three assets that all trade, at prices that divide nothing: no part in between comes out even
+
+abbrev uneven : List ℕ
+uneven = 16777259 ∷ 19999999 ∷ 12345701 ∷ []
+
+-- the second and the sixth must trade, and the others may but need not
+abbrev ring : List Quote
+ring =
+    quote 0 1 14065000 1000003 ∷ quote 0 1 10000000 77 ∷ quote 1 2 27160001 999983 ∷ quote 2 0 12340007 1000033
+    ∷ quote 1 0 19990003 500009 ∷ quote 2 1 9000001 12345 ∷ quote 0 2 22780003 700001 ∷ []
+
+ring_sells : (sold_value ring uneven 10 0 1 ≡ 10725945357279) × (sold_value ring uneven 10 0 2 ≡ 10279227312073)
+    × (sold_value ring uneven 10 1 0 ≡ 5091811652394) × (sold_value ring uneven 10 1 2 ≡ 14346174389880)
+    × (sold_value ring uneven 10 2 0 ≡ 5798460849912) × (sold_value ring uneven 10 2 1 ≡ 152407678845)
+unfolding sold_value
+ring_sells = (refl, refl, refl, refl, refl, refl)
+
+ring_demand : (net_of ring uneven 10 0 ≡ neg_ℤ (pos 10114900167046))
+    × (net_of ring uneven 10 1 ≡ neg_ℤ (pos 8559633006150)) × (net_of ring uneven 10 2 ≡ pos 18674533173196)
+    × (volume_of ring uneven 10 0 ≡ 31895445171658) × (volume_of ring uneven 10 1 ≡ 30316339078398)
+    × (volume_of ring uneven 10 2 ≡ 30576270230710) × (imbalance ring uneven 10 ≡ 37349066346392)
+unfolding sold_value value_into value_out imbalance
+ring_demand = (refl, refl, refl, refl, refl, refl, refl)
+
+-- a trial goes too far and is given up
+ring_trial :
+    (trial_prices ring 10 (record { prices = uneven; exponent = 4 }) ≡ 16444727 ∷ 19647070 ∷ 12816961 ∷ [])
+    × (after_trial ring 10 (record { prices = uneven; exponent = 4 }) ≡ record { prices = uneven; exponent = 5 })
+unfolding sold_value value_into value_out imbalance count_leading_zeros trial_prices after_trial
+ring_trial = (refl, refl)

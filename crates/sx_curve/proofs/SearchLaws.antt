@@ -51,11 +51,11 @@ unfolding trial_prices
 trial_length quotes j held = length-map-range_with_len _ 0 (length held.prices)
 
 pub search_keeps_length : SearchKeepsLength
-search_keeps_length quotes prices j rounds =
+search_keeps_length first quotes prices j rounds =
     let same = λ (end : List ℕ). length end ≡ length prices in
     kept quotes j same
     (λ held start. either quotes j same held (λ less. trial_length quotes j held ∙ start) start) rounds
-    (first_held prices) refl
+    (first_held first prices) refl
 
 -- ---- their range
 
@@ -82,28 +82,28 @@ trial_in_range quotes j held in_range k d lt =
     (volume_of quotes held.prices j k) (in_range k 0 below))
 
 pub search_keeps_range : SearchKeepsRange
-search_keeps_range quotes prices j rounds in_range =
+search_keeps_range first quotes prices j rounds in_range =
     kept quotes j (All IsPrice)
     (λ held start. either quotes j (All IsPrice) held (λ less. trial_in_range quotes j held start) start) rounds
-    (first_held prices) in_range
+    (first_held first prices) in_range
 
 -- ---- the imbalance
 
 pub search_mends : SearchMends
-search_mends quotes prices j rounds =
+search_mends first quotes prices j rounds =
     let less = λ (end : List ℕ). imbalance quotes end j ≤ imbalance quotes prices j in
     kept quotes j less (λ held start. either quotes j less held (λ falls. omega arith) start) rounds
-    (first_held prices) (omega arith)
+    (first_held first prices) (omega arith)
 
 pub no_rounds_stay : NoRoundsStay
 unfolding held_after
-no_rounds_stay quotes prices j = refl
+no_rounds_stay first quotes prices j = refl
 
 pub balanced_stays : BalancedStays
 unfolding held_after
-balanced_stays quotes prices j zero balanced = refl
-balanced_stays quotes prices j (suc rounds) balanced =
-    let start = first_held prices in
+balanced_stays first quotes prices j zero balanced = refl
+balanced_stays first quotes prices j (suc rounds) balanced =
+    let start = first_held first prices in
     let off : goes_on quotes j start ≡ false = and_left _ _ (not_from_true _ (eq-eqb _ 0 balanced)) in
     ap (λ (end : Held). end.prices)
     (cond-false (goes_on quotes j start) (held_after quotes j rounds (after_trial quotes j start)) start off)
@@ -160,5 +160,5 @@ module _ (xs ys : List Quote) (h : IsPermutation xs ys) where
       λ i. cond (not (here i == 0) && nat_le held.exponent 40) (rest i) held
 
 pub search_permuted : SearchPermuted
-search_permuted xs ys prices j rounds h =
-    ap (λ (end : Held). end.prices) (held_permuted xs ys h j rounds (first_held prices))
+search_permuted first xs ys prices j rounds h =
+    ap (λ (end : Held). end.prices) (held_permuted xs ys h j rounds (first_held first prices))

@@ -6,7 +6,7 @@ use Rattle.sx_price.specs.Limits.{IsExponent, IsPrice}
 use Rattle.sx_curve.specs.declared.quote.Quote.{Quote}
 use Rattle.sx_curve.specs.Quotes.{amounts, pair_of, quotes_below}
 use Rattle.sx_curve.specs.Demand.{e_mid, e_must, imbalance, m_mid, may_at, must_at, pair_value, sold_value}
-use Rattle.sx_curve.specs.Search.{binary_digits, searched_prices}
+use Rattle.sx_curve.specs.Search.{binary_digits, searched_from}
 
 -- ---- what a pair sells
 
@@ -44,39 +44,40 @@ ValueWithinBounds =
     (sell_price * e_must sell_price buy_price j quotes ≤ pair_value sell_price buy_price j quotes)
     × (pair_value sell_price buy_price j quotes ≤ sell_price * amounts (filter (may_at sell_price buy_price) quotes))
 
--- ---- the search
+-- ---- the search, whatever exponent it begins with
 
 -- it keeps the number of prices, and each in its range
 abbrev pub SearchKeepsLength : Type 0
 SearchKeepsLength =
-    (quotes : List Quote) (prices : List ℕ) (j rounds : ℕ) →
-    length (searched_prices quotes prices j rounds) ≡ length prices
+    (first : ℕ) (quotes : List Quote) (prices : List ℕ) (j rounds : ℕ) →
+    length (searched_from first quotes prices j rounds) ≡ length prices
 
 abbrev pub SearchKeepsRange : Type 0
 SearchKeepsRange =
-    (quotes : List Quote) (prices : List ℕ) (j rounds : ℕ) → All IsPrice prices →
-    All IsPrice (searched_prices quotes prices j rounds)
+    (first : ℕ) (quotes : List Quote) (prices : List ℕ) (j rounds : ℕ) → All IsPrice prices →
+    All IsPrice (searched_from first quotes prices j rounds)
 
 -- its result has at most the imbalance of its start
 abbrev pub SearchMends : Type 0
 SearchMends =
-    (quotes : List Quote) (prices : List ℕ) (j rounds : ℕ) →
-    imbalance quotes (searched_prices quotes prices j rounds) j ≤ imbalance quotes prices j
+    (first : ℕ) (quotes : List Quote) (prices : List ℕ) (j rounds : ℕ) →
+    imbalance quotes (searched_from first quotes prices j rounds) j ≤ imbalance quotes prices j
 
 -- without rounds it ends where it starts, and where nothing is to mend
 abbrev pub NoRoundsStay : Type 0
-NoRoundsStay = (quotes : List Quote) (prices : List ℕ) (j : ℕ) → searched_prices quotes prices j 0 ≡ prices
+NoRoundsStay =
+    (first : ℕ) (quotes : List Quote) (prices : List ℕ) (j : ℕ) → searched_from first quotes prices j 0 ≡ prices
 
 abbrev pub BalancedStays : Type 0
 BalancedStays =
-    (quotes : List Quote) (prices : List ℕ) (j rounds : ℕ) → imbalance quotes prices j ≡ 0 →
-    searched_prices quotes prices j rounds ≡ prices
+    (first : ℕ) (quotes : List Quote) (prices : List ℕ) (j rounds : ℕ) → imbalance quotes prices j ≡ 0 →
+    searched_from first quotes prices j rounds ≡ prices
 
 -- the order of the quotes is of no account
 abbrev pub SearchPermuted : Type 0
 SearchPermuted =
-    (xs ys : List Quote) (prices : List ℕ) (j rounds : ℕ) → IsPermutation xs ys →
-    searched_prices ys prices j rounds ≡ searched_prices xs prices j rounds
+    (first : ℕ) (xs ys : List Quote) (prices : List ℕ) (j rounds : ℕ) → IsPermutation xs ys →
+    searched_from first ys prices j rounds ≡ searched_from first xs prices j rounds
 
 abbrev pub SoldPermuted : Type 0
 SoldPermuted =

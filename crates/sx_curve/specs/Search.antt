@@ -66,10 +66,17 @@ held_after quotes j zero held = held
 held_after quotes j (suc trials) held =
     if goes_on quotes j held then held_after quotes j trials (after_trial quotes j held) else held
 
--- the search begins with the exponent 4
-abbrev pub first_held : List ℕ → Held
-first_held prices = record { prices = prices; exponent = 4 }
+-- a search begins with an exponent
+abbrev pub first_held : ℕ → List ℕ → Held
+first_held first prices = record { prices = prices; exponent = first }
 
--- the prices that the search from these ones ends at, in at most this many rounds
+-- the prices that the search from these ones and this exponent ends at, in at most this many rounds
+abbrev pub searched_from : ℕ → List Quote → List ℕ → ℕ → ℕ → List ℕ
+searched_from first quotes prices j rounds = (held_after quotes j rounds (first_held first prices)).prices
+
+-- where nothing else is said, it begins with this exponent
+abbrev pub usual_exponent : ℕ
+usual_exponent = 4
+
 abbrev pub searched_prices : List Quote → List ℕ → ℕ → ℕ → List ℕ
-searched_prices quotes prices j rounds = (held_after quotes j rounds (first_held prices)).prices
+searched_prices = searched_from usual_exponent

@@ -45,6 +45,3 @@ pub use curves::Curves;
 pub use laws::{search_laws, value_laws};
 pub use quote::Quote;
 pub use sums::Sums;
-
-#[cfg(test)]
-mod tests;

@@ -110,3 +110,8 @@ fit_is_greatest n low high y potential fits =
             weighed n potential other circulation.balanced,
           );
     }
+
+pub one_greatest_value : (n : ℕ) (low high y other : ℕ → ℕ → ℕ) → IsGreatest n low high y →
+    IsGreatest n low high other → traded_value n y ≡ traded_value n other
+one_greatest_value n low high y other one two =
+    omega (arith, one.greatest other two.circulation, two.greatest y one.circulation)

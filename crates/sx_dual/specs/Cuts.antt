@@ -1,7 +1,8 @@
 -- Sets of assets that force in more than can go out. A set is a number, whose bit i stands for asset i.
-use Rattle.std.specs.Prelude.{ℕ, ◌<◌, Bool, not, ◌&&◌, ◌==◌, if◌then◌else◌}
+use Rattle.std.specs.Prelude.{ℕ, ◌^◌, ◌<◌, Bool, not, ◌&&◌, ◌==◌, if◌then◌else◌}
 use Rattle.std.specs.Int.{bit_at}
 use Rattle.sx_dual.specs.Sums.{pair_sum}
+use Rattle.sx_dual.specs.Tables.{BoundsTable, high_of, low_of}
 
 -- the asset is in the set
 abbrev pub is_in : ℕ → ℕ → Bool
@@ -25,3 +26,8 @@ sum_out n f set = pair_sum n (λ sell buy. if goes_out set sell buy then f sell 
 -- more must go into the set than may go out of it
 abbrev pub IsCut : ℕ → (ℕ → ℕ → ℕ) → (ℕ → ℕ → ℕ) → ℕ → Type 0
 IsCut n low high set = sum_out n high set < sum_in n low set
+
+-- the set has assets of the bounds only, and is a cut by them
+pub record IsCutOf (bounds : BoundsTable) (set : ℕ) : Type 0 where
+  pub within : set < 2 ^ bounds.assets
+  pub cut : IsCut bounds.assets (low_of bounds) (high_of bounds) set

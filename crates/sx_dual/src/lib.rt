@@ -33,6 +33,3 @@ pub use flow::Flow;
 pub use laws::dual_laws;
 pub use misfit::Misfit;
 pub use potentials::Potentials;
-
-#[cfg(test)]
-mod tests;

@@ -10,3 +10,4 @@ pub mod Linking
 pub mod Seating
 pub mod Agreeing
 pub mod Stepping
+mod Cases

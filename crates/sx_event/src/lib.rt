@@ -72,6 +72,3 @@ pub use event::{Event, Step};
 pub use laws::{rule_laws, runs_keep, step_laws, word_laws};
 pub use machine::Core;
 pub use marks::{Claim, Note};
-
-#[cfg(test)]
-mod tests;

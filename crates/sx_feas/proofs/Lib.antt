@@ -4,4 +4,3 @@ pub mod Cuts
 pub mod Shaping
 pub mod Filling
 pub mod Marking
-pub mod Two

@@ -1,15 +1,10 @@
 -- A circulation within bounds, or a cut.
-use Rattle.std.specs.Prelude.{◌≡◌, ℕ, ◌<◌, ◌^◌}
+use Rattle.std.specs.Prelude.{◌≡◌}
 use Rattle.sx_dual.specs.Circulation.{IsCirculation}
-use Rattle.sx_dual.specs.Cuts.{IsCut}
+use Rattle.sx_dual.specs.Cuts.{IsCutOf}
 use Rattle.sx_dual.specs.Tables.{BoundsTable, low_of, high_of, value_of}
 use Rattle.sx_feas.specs.declared.finding.Feas.{Feas}
 use Rattle.sx_feas.specs.declared.finding.Feas.TheVariants.{Flow, Cut}
-
--- the set has these assets only, and more must go into it than may go out of it
-pub record IsCutOf (bounds : BoundsTable) (set : ℕ) : Type 0 where
-  pub within : set < 2 ^ bounds.assets
-  pub cut : IsCut bounds.assets (low_of bounds) (high_of bounds) set
 
 -- a flow is a circulation of the same assets within the bounds, and a cut is one by the bounds
 abbrev pub IsAnswer : BoundsTable → Feas → Type 0

@@ -3,7 +3,8 @@
 ghost use Rattle.std.specs.Prelude.{◌≡◌, ℕ, ◌+◌, ◌<◌, ◌≤◌, IfNone, IfOk, IfSome};
 ghost use Rattle.sx_dual.specs.Circulation.{IsBalanced};
 ghost use Rattle.sx_dual.specs.Tables.{value_of};
-ghost use Rattle.sx_feas.specs.Feas.{IsAnswer, IsCutOf};
+ghost use Rattle.sx_dual.specs.Cuts.{IsCutOf};
+ghost use Rattle.sx_feas.specs.Feas.{IsAnswer};
 ghost use Rattle.sx_feas.specs.Shape.{IsShaped, KeepsCovered, bought_now, sold_now, traded};
 
 use crate::cutting::{explore, reached_assets};

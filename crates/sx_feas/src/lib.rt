@@ -37,6 +37,3 @@ mod pushing;
 mod totals;
 
 pub use finding::{Feas, feasible};
-
-#[cfg(test)]
-mod tests;

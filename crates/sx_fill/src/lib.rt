@@ -17,6 +17,3 @@ mod pair;
 
 pub use laws::pair_laws;
 pub use pair::{fill_pair, push_fills};
-
-#[cfg(test)]
-mod tests;

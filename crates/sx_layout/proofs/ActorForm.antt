@@ -17,7 +17,8 @@ use Rattle.sx_layout.specs.declared.stage.Next.TheVariants.{On, Decided}
 use Rattle.sx_layout.specs.declared.stage.Stage.{Stage}
 use Rattle.sx_layout.specs.declared.stage.Stage.TheVariants as stage
 use Rattle.sx_layout.specs.Actors.{Actor, beginning}
-use Rattle.sx_layout.specs.Deciding.{after_claim, after_purse, after_value, follows, next_event, second, second_of}
+use Rattle.sx_layout.specs.Asked.{wanted_by}
+use Rattle.sx_layout.specs.Deciding.{after_claim, after_purse, after_value, follows, next_event, second, stage_of}
 use Rattle.sx_layout.specs.Deciding.{too_late, what_follows}
 use Rattle.sx_layout.specs.Outcomes.{IsOutcome}
 use Rattle.sx_layout.specs.Plan.{Plan}
@@ -133,7 +134,7 @@ late_form (kind.Offer sell buy limit amount) = tt
 late_form (kind.Cancel sell buy limit seq) = tt
 
 second_form : (parts : Parts) (plan : Plan) (account : ℕ) (of : Kind) → IsKind of →
-    StageForm (second_of parts plan account of)
+    StageForm (stage_of (wanted_by parts plan account of))
 second_form parts plan account (kind.Pay to asset amount) is = is.2.1
 second_form parts plan account (kind.Create id) is = tt
 second_form parts plan account (kind.Offer sell buy limit amount) is = is.1.1

@@ -1,40 +1,38 @@
 -- What an actor's claims are: the marks of its decided candidates, and those of the one that it is in the middle of.
-use Rattle.std.proofs.Common.{◌≡◌, ℕ, List, [], ◌∷◌, ◌++◌, Some, None, Ok, refl, sym, ap, ◌∙◌}
+use Rattle.std.proofs.Common.{◌≡◌, ℕ, List, [], ◌∷◌, ◌++◌, Ok, refl, sym, ap, ◌∙◌}
 use Rattle.std.proofs.Common.{append_assoc, append-nil}
-use Rattle.std.proofs.lemmas.Grind.{flat_map-append}
 use Rattle.sx_event.specs.declared.marks.Claim.{Claim}
+use Rattle.sx_layout.specs.declared.asked.Wanted.TheVariants as wanted
 use Rattle.sx_layout.specs.declared.outcome.Outcome.{Outcome}
+use Rattle.sx_layout.specs.declared.spot.Spot.{Spot}
 use Rattle.sx_layout.specs.declared.stage.Stage.{Stage}
 use Rattle.sx_layout.specs.declared.stage.Stage.TheVariants as stage
 use Rattle.sx_layout.specs.Actors.{Actor, beginning}
 use Rattle.sx_layout.specs.Gathering.{Decision, decisions}
-use Rattle.sx_layout.specs.Marks.{Closes, bit_mark, marks, marks_of, named, number_of}
-use Rattle.sx_layout.specs.Plan.{Plan, account_place, purse_spot}
-use Rattle.sx_layout.specs.PlanLaws.{Thing, spot_of}
+use Rattle.sx_layout.specs.Asked.{number_spot, wanted_of}
+use Rattle.sx_layout.specs.Marks.{Closes, bit_mark, marks, marks_of}
+use Rattle.sx_layout.specs.Plan.{Plan}
 use Rattle.sx_layout.proofs.DecidedPairs.{AreDecided, decided_append, decisions_append}
+use Rattle.sx_layout.proofs.MarksLaws.{marks_grow}
 use Rattle.sx_ledger.specs.declared.parts.Parts.{Parts}
-use Rattle.sx_ledger.specs.Effects.{debit}
 use Rattle.sx_ledger.specs.Static.{static_of}
 use Rattle.sx_tx.specs.declared.tx.Tx.{Tx}
 
 -- ---- the candidate in the middle
 
--- it passes the static test, and the bit is that of what it names
+-- it passes the static test, and wants this bit
 pub record IsNamed (parts : Parts) (plan : Plan) (tx : Tx) (word bit : ℕ) : Type 0 where
   pub passes : static_of parts tx ≡ Ok tt
-  pub thing : Thing
-  pub names : named parts plan tx ≡ Some thing
-  pub at : word ≡ (spot_of plan thing).0.word
-  pub place : bit ≡ (spot_of plan thing).1
-  pub free : debit tx ≡ None
+  pub spot : Spot
+  pub wants : wanted_of parts plan tx ≡ wanted.Bit spot bit
+  pub at : word ≡ spot.word
 
--- it passes the static test, and the purse is that of its debit
+-- it passes the static test, and wants so much of this purse
 pub record IsDebited (parts : Parts) (plan : Plan) (tx : Tx) (purse need : ℕ) : Type 0 where
   pub passes : static_of parts tx ≡ Ok tt
-  pub asset : ℕ
-  pub debits : debit tx ≡ Some (record { account = tx.account.0; asset = asset; units = need })
-  pub at : purse ≡ (purse_spot plan (account_place parts tx.account.0) asset).word
-  pub free : named parts plan tx ≡ None
+  pub spot : Spot
+  pub wants : wanted_of parts plan tx ≡ wanted.Units spot need
+  pub at : purse ≡ spot.word
 
 abbrev pub StageIs : Parts → Plan → Tx → Stage → Type 0
 StageIs parts plan tx stage.Number = Unit {0}
@@ -46,12 +44,16 @@ abbrev pub FirstIs : Parts → Plan → Stage → List Tx → Type 0
 FirstIs parts plan at [] = Unit {0}
 FirstIs parts plan at (tx ∷ txs) = StageIs parts plan tx at
 
+-- the claim of its number
+abbrev pub number_mark : Parts → Plan → Tx → List Claim
+number_mark parts plan tx = bit_mark 0 (number_spot parts plan tx).0 (number_spot parts plan tx).1
+
 -- the claims that it has already: its number
 abbrev pub pending_of : Parts → Plan → Tx → Stage → List Claim
 pending_of parts plan tx stage.Number = []
-pending_of parts plan tx (stage.Name word bit) = bit_mark plan 0 (number_of parts tx)
-pending_of parts plan tx (stage.Look purse need) = bit_mark plan 0 (number_of parts tx)
-pending_of parts plan tx (stage.Take purse need) = bit_mark plan 0 (number_of parts tx)
+pending_of parts plan tx (stage.Name word bit) = number_mark parts plan tx
+pending_of parts plan tx (stage.Look purse need) = number_mark parts plan tx
+pending_of parts plan tx (stage.Take purse need) = number_mark parts plan tx
 
 abbrev pub pending : Parts → Plan → Stage → List Tx → List Claim
 pending parts plan at [] = []
@@ -77,12 +79,6 @@ pub number_first : (parts : Parts) (plan : Plan) (left : List Tx) → FirstIs pa
 number_first parts plan [] = tt
 number_first parts plan (tx ∷ txs) = tt
 
-more_marks : (parts : Parts) (plan : Plan) (list : List Decision) (one : Decision) →
-    marks parts plan 0 (list ++ one ∷ []) ≡ marks parts plan 0 list ++ marks_of parts plan 0 one
-more_marks parts plan list one =
-    flat_map-append (marks_of parts plan 0) list (one ∷ [])
-    ∙ ap (λ (more : List Claim). marks parts plan 0 list ++ more) (append-nil (marks_of parts plan 0 one))
-
 module _ (parts : Parts) (plan : Plan) (purses bits : List ℕ) (part : List Tx) where
   -- its first candidate is decided, with these new claims
   pub decide : (claims after more : List Claim) (tx : Tx) (txs : List Tx) (at : Stage) (done : List Outcome)
@@ -106,7 +102,7 @@ module _ (parts : Parts) (plan : Plan) (purses bits : List ℕ) (part : List Tx)
             after_is ∙ ap (λ (c : List Claim). c ++ more) keeps.has
             ∙ append_assoc before (pending_of parts plan tx at) more
             ∙ ap (λ (c : List Claim). before ++ c) more_is
-            ∙ sym (more_marks parts plan (decisions decided done) one)
+            ∙ sym (marks_grow parts plan 0 (decisions decided done) one)
             ∙ ap (marks parts plan 0) (sym all)
             ∙ sym (append-nil (marks parts plan 0 (decisions (decided ++ tx ∷ []) (done ++ said ∷ []))))
             ∙ ap (λ (c : List Claim). marks parts plan 0 (decisions (decided ++ tx ∷ []) (done ++ said ∷ [])) ++ c)

@@ -20,7 +20,8 @@ use Rattle.sx_layout.specs.Ahead.{IsNext, NumberFits}
 use Rattle.sx_layout.specs.Deciding.{next_event, second, what_follows}
 use Rattle.sx_layout.specs.Plan.{Plan}
 use Rattle.sx_layout.specs.Running.{acted, acted_at, moved, ready}
-use Rattle.sx_layout.specs.RunKeeps.{ActorFits, IsSetting, Setting, WordsStay}
+use Rattle.sx_layout.specs.RunKeeps.{ActorFits, IsOneShard, WordsStay}
+use Rattle.sx_layout.specs.Setting.{Setting}
 use Rattle.sx_layout.proofs.ActorMarks.{ActorKeeps}
 use Rattle.sx_layout.proofs.LaterWords.{Later, keeps_later, same_later, step_later}
 use Rattle.sx_layout.proofs.OwnStep.{OpensAs, own_step}
@@ -64,7 +65,7 @@ pub record IsTurned (s : Setting) (part : List Tx) (state : State) (name : ℕ) 
   pub later : Later state.purses state.bits new.purses new.bits
   pub keeps : ActorKeeps s.parts s.plan new.purses new.bits (view_of new name).claims part actor
 
-module _ (s : Setting) (is : IsSetting s) (form : All IsTx s.candidates) (part : List Tx) (state : State) (name : ℕ)
+module _ (s : Setting) (is : IsOneShard s) (form : All IsTx s.candidates) (part : List Tx) (state : State) (name : ℕ)
     (rule : Rule state) (opens : OpensAs s.plan state) (words : WordsStay s.plan state) where
   one_shard : s.plan.shards ≡ 1
   one_shard = ap (λ (plan : Plan). plan.shards) is.plan

@@ -1,15 +1,20 @@
 -- What a candidate asks for that the ledger does not refuse: it is there, and it tells who asks for it.
-use Rattle.std.proofs.Common.{◌≡◌, ℕ, zero, suc, ◌+◌, ◌<◌, ◌≤◌, Bool, true, false, List, [], ◌∷◌, length}
+use Rattle.std.proofs.Common.{◌≡◌, ℕ, zero, suc, ◌+◌, ◌-◌, ◌<◌, ◌≤◌, Bool, true, false, List, [], ◌∷◌, length}
 use Rattle.std.proofs.Common.{Option, Some, None, Result, Ok, Err, inl, inr, refl, sym, ap, subst, ◌∙◌, arith}
+use Rattle.std.proofs.Common.{map}
 use Rattle.std.specs.Prelude.{slice_get, nat_le, nat_lt, ◌==◌, if◌then◌else◌}
+use Rattle.std.specs.Int.{bit_at}
 use Rattle.std.specs.List.{list_any, cons_option}
 use Rattle.std.proofs.lemmas.Bool.{cases_lt, eqb-true, eq-eqb, le-leb, lt-ltb, not-false, or_cases, or_left}
 use Rattle.std.proofs.lemmas.Bool.{or_right}
 use Rattle.std.proofs.lemmas.List.{length-map}
-use Rattle.std.proofs.lemmas.Option.{slice_get_within, same_Some}
-use Rattle.sx_layout.specs.Marks.{number_of, named_by, named}
+use Rattle.std.proofs.lemmas.Nat.Bits.{bit_at-lt}
+use Rattle.std.proofs.lemmas.Option.{get_or_from_slice_get, slice_get-map, slice_get_within, same_Some}
+use Rattle.std.specs.Option.{option_map}
+use Rattle.sx_layout.specs.Asked.{number_of}
 use Rattle.sx_layout.specs.Plan.{account_place, offer_place, place_in, plan_of}
-use Rattle.sx_layout.specs.PlanLaws.{Thing, AnOffer, AName, IsThing}
+use Rattle.sx_layout.specs.PlanLaws.{Thing, AnOffer, AName, IsThing, opening_of}
+use Rattle.sx_layout.proofs.MarkedThings.{named, named_by}
 use Rattle.sx_layout.proofs.RisingNumbers.{has, has_each_once}
 use Rattle.sx_layout.proofs.Totals.{found}
 use Rattle.sx_ledger.specs.declared.account.Account.{Account}
@@ -18,14 +23,17 @@ use Rattle.sx_ledger.specs.declared.offer.Offer.{Offer}
 use Rattle.sx_ledger.specs.declared.parts.Parts.{Parts}
 use Rattle.sx_ledger.specs.declared.statics.Static.{Static}
 use Rattle.sx_ledger.specs.Body.{created, created_by}
-use Rattle.sx_ledger.specs.Ledger.{assets_of, ids, keys}
+use Rattle.sx_ledger.specs.Ledger.{IsLedger, assets_of, ids, keys}
 use Rattle.sx_ledger.specs.Order.{key_of, same_key}
-use Rattle.sx_ledger.specs.Static.{cancels_unknown, first_holding, has_account, has_offer, last_of, names_beyond}
-use Rattle.sx_ledger.specs.Static.{static_list, static_of}
+use Rattle.sx_ledger.specs.Static.{cancels_unknown, first_holding, has_account, has_offer, names_beyond}
+use Rattle.sx_ledger.specs.Static.{static_list, static_of, window_of}
 use Rattle.sx_ledger.proofs.KeyOrder.{same_key_is, same_key_from}
+use Rattle.sx_ledger.proofs.Lookup.{entry_at, window_is}
 use Rattle.sx_tx.specs.declared.kind.Kind.{Kind}
 use Rattle.sx_tx.specs.declared.kind.Kind.TheVariants as kind
 use Rattle.sx_tx.specs.declared.tx.Tx.{Tx}
+use Rattle.sx_tx.specs.declared.window.Window.{Window}
+use Rattle.sx_tx.specs.Window.{is_marked, open_numbers}
 
 -- ---- the static test is passed
 
@@ -46,8 +54,9 @@ none_holds (reason ∷ reasons) passes =
 
 pub record Asks (parts : Parts) (tx : Tx) : Type 0 where
   pub own : has_account parts.accounts tx.account.0 ≡ true
-  pub above : last_of parts.accounts tx.account.0 < tx.seq
-  pub within : tx.seq ≤ last_of parts.accounts tx.account.0 + 64
+  pub above : (window_of parts.accounts tx.account.0).last < tx.seq
+  pub within : tx.seq ≤ (window_of parts.accounts tx.account.0).last + open_numbers
+  pub unmarked : is_marked (window_of parts.accounts tx.account.0) tx.seq ≡ false
   pub assets : names_beyond (assets_of parts) tx.kind ≡ false
   pub offer : cancels_unknown parts.offers tx.account.0 tx.kind ≡ false
 
@@ -56,10 +65,11 @@ asks parts tx ok =
     let none = none_holds (static_list parts tx) ok in
     record {
       own = not-false (has_account parts.accounts tx.account.0) none.0;
-      above = more (last_of parts.accounts tx.account.0) tx.seq none.1.0;
-      within = most (last_of parts.accounts tx.account.0 + 64) tx.seq none.1.1.0;
-      assets = none.1.1.1.0;
-      offer = none.1.1.1.1.1.1.1.0;
+      above = more ((window_of parts.accounts tx.account.0).last) tx.seq none.1.0;
+      within = most ((window_of parts.accounts tx.account.0).last + open_numbers) tx.seq none.1.1.0;
+      unmarked = none.1.1.1.0;
+      assets = none.1.1.1.1.0;
+      offer = none.1.1.1.1.1.1.1.1.0;
     }
   where
     more : (m n : ℕ) → nat_le n m ≡ false → m < n
@@ -123,6 +133,37 @@ pub number_is : (parts : Parts) (candidates : List Tx) (shards : ℕ) (tx : Tx) 
     → IsThing (plan_of parts candidates shards) (number_of parts tx)
 number_is parts candidates shards tx is =
     (account_below parts tx is, (let low = is.above in let high = is.within in omega arith))
+
+-- the bit of its number is clear at the opening
+clear_from : (word bit : ℕ) → (bit_at word bit == 1) ≡ false → bit_at word bit ≡ 0
+clear_from word bit unmarked =
+    elim (cases_lt (bit_at word bit) 1) [
+      | inl none ↦ omega (arith, none)
+      | inr some ↦
+          let one : bit_at word bit ≡ 1 = omega (arith, some, bit_at-lt word bit) in
+          let marked = eq-eqb (bit_at word bit) 1 one in
+          absurd cc
+    ]
+
+pub number_clear : (parts : Parts) (tx : Tx) → IsLedger parts → Asks parts tx
+    → bit_at (opening_of parts (number_of parts tx)) (tx.seq - (window_of parts.accounts tx.account.0).last - 1) ≡ 0
+number_clear parts tx ledger is =
+    let place = account_place parts tx.account.0 in
+    let window = window_of parts.accounts tx.account.0 in
+    let there = found (λ (other : ℕ). other == tx.account.0) (ids parts.accounts)
+    (has_id parts.accounts tx.account.0 is.own) in
+    let entry = entry_at (λ (a : Account). a.id.0) parts.accounts place there.entry there.stands in
+    let id : entry.0.id.0 ≡ tx.account.0 = sym entry.2 ∙ eqb-true there.entry tx.account.0 there.passes in
+    let same : entry.0.window ≡ window =
+    sym (window_is parts.accounts place entry.0 entry.1 ledger.by_id) ∙ ap (window_of parts.accounts) id in
+    let word : opening_of parts (number_of parts tx) ≡ window.used =
+    get_or_from_slice_get (map (λ (a : Account). a.window.used) parts.accounts) place entry.0.window.used 0
+    (slice_get-map (λ (a : Account). a.window.used) parts.accounts place
+    ∙ ap (option_map (λ (a : Account). a.window.used)) entry.1)
+    ∙ ap (λ (w : Window). w.used) same in
+    let bit : tx.seq - window.last - 1 ≡ tx.seq - suc window.last = omega arith in
+    ap (λ (w : ℕ). bit_at w (tx.seq - window.last - 1)) word ∙ ap (bit_at window.used) bit
+    ∙ clear_from window.used (tx.seq - suc window.last) is.unmarked
 
 named_is_by : (parts : Parts) (candidates : List Tx) (shards place : ℕ) (tx : Tx) (of : Kind) (thing : Thing)
     → slice_get candidates place ≡ Some tx → tx.kind ≡ of → cancels_unknown parts.offers tx.account.0 of ≡ false

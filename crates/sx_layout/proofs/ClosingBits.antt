@@ -1,29 +1,29 @@
 -- At a closing each thing has at most one claimer, and what is set has one.
-use Rattle.std.proofs.Common.{◌≡◌, ℕ, zero, suc, ◌-◌, ◌≤◌, true, List, [], ◌∷◌, get_or}
-use Rattle.std.proofs.Common.{map, Some, Ok, inl, inr, refl, sym, ap, ap₂, subst, ◌∙◌, arith}
+use Rattle.std.proofs.Common.{◌≡◌, ℕ, zero, suc, ◌-◌, ◌≤◌, true, List, [], ◌∷◌}
+use Rattle.std.proofs.Common.{Some, Ok, inl, inr, sym, ap, ap₂, subst, ◌∙◌, arith}
 use Rattle.std.specs.Prelude.{slice_get, slice_index}
 use Rattle.std.specs.Int.{bit_at}
-use Rattle.std.specs.List.{AllByRecursion}
 use Rattle.std.proofs.lemmas.Bool.{cases_order}
-use Rattle.std.proofs.lemmas.List.Elements.{recursion_from_All}
 use Rattle.std.proofs.lemmas.Nat.Bits.{bit_at-zero, bit_at-lt}
 use Rattle.std.proofs.lemmas.Option.{same_Some}
 use Rattle.sx_layout.specs.declared.outcome.Outcome.{Outcome}
 use Rattle.sx_layout.specs.declared.outcome.Outcome.TheVariants as outcome
 use Rattle.sx_layout.specs.Gathering.{Decision, decisions, keeps_number, NumbersOnce}
-use Rattle.sx_layout.specs.Marks.{Closes, IsClosing, IsSet, number_of, things}
+use Rattle.sx_layout.specs.Asked.{number_of}
+use Rattle.sx_layout.specs.Marks.{Closes, IsClosing, IsSet}
 use Rattle.sx_layout.specs.Plan.{Plan, account_place, plan_of, words_of}
 use Rattle.sx_layout.specs.PlanLaws.{Thing, Number, AnOffer, AName, IsThing, opening_of, spot_of}
-use Rattle.sx_layout.proofs.AskedThings.{Asks, asks, named_is, number_is}
+use Rattle.sx_layout.proofs.AskedThings.{Asks, asks, named_is, number_clear, number_is}
 use Rattle.sx_layout.proofs.BodyOrder.{kept}
+use Rattle.sx_layout.proofs.MarkedThings.{named_by, things}
 use Rattle.sx_layout.proofs.MarkCounts.{hits, hits_itself, hits_same, number_in, thing_of, times_all}
 use Rattle.sx_layout.proofs.SpotLaws.{bits_are_apart}
 use Rattle.sx_layout.proofs.PlanLaws.{bits_are_there}
 use Rattle.sx_layout.proofs.Totals.{total, two_places, some_place, In, in_counts, counts_in}
-use Rattle.sx_ledger.specs.declared.account.Account.{Account}
 use Rattle.sx_ledger.specs.declared.parts.Parts.{Parts}
-use Rattle.sx_ledger.specs.Ledger.{IsAccount, assets_of}
-use Rattle.sx_ledger.specs.Static.{last_of, static_of}
+use Rattle.sx_ledger.specs.Static.{static_of, window_of}
+use Rattle.sx_tx.specs.declared.kind.Kind.{Kind}
+use Rattle.sx_tx.specs.declared.kind.Kind.TheVariants as kind
 use Rattle.sx_tx.specs.declared.tx.Tx.{Tx}
 
 pub candidate_at : (candidates : List Tx) (outcomes : List Outcome) (place : ℕ) (one : Decision)
@@ -43,12 +43,6 @@ kept_passes parts plan purses bits tx outcome.SeqTaken closes keeps = absurd cc
 kept_passes parts plan purses bits tx outcome.OfferTaken closes keeps = closes.0
 kept_passes parts plan purses bits tx outcome.NameTaken closes keeps = closes.0
 kept_passes parts plan purses bits tx (outcome.Overdraft seen need) closes keeps = closes.0
-
-unused : (assets : ℕ) (accounts : List Account) → AllByRecursion (IsAccount assets) accounts → (place : ℕ)
-    → get_or (map (λ account. account.window.used) accounts) place 0 ≡ zero
-unused assets [] are place = refl
-unused assets (account ∷ accounts) are zero = are.0.used
-unused assets (account ∷ accounts) are (suc place) = unused assets accounts are.1 place
 
 module _ (parts : Parts) (candidates : List Tx) (shards : ℕ) (outcomes : List Outcome) (purses bits : ℕ → List ℕ)
     (is : IsClosing parts candidates shards outcomes purses bits) where
@@ -81,23 +75,43 @@ module _ (parts : Parts) (candidates : List Tx) (shards : ℕ) (outcomes : List 
   abbrev claims : Thing → Decision → ℕ
   claims t one = total (hits plan (spot_of plan t)) (things parts plan one)
 
-  -- the bits of things are clear at the opening
-  clear : (t : Thing) → opening_of parts t ≡ zero
-  clear (Number place number) =
-      unused (assets_of parts) parts.accounts
-      (recursion_from_All (IsAccount (assets_of parts)) parts.accounts is.laid_out.ledger.accounts) place
-  clear (AnOffer place) = refl
-  clear (AName index) = refl
+  -- the bits of things that candidates have are clear at the opening
+  abbrev IsOpen : Thing → Type 0
+  IsOpen t = bit_at (opening_of parts t) (spot_of plan t).1 ≡ 0
+
+  pub offer_open : (place : ℕ) → IsOpen (AnOffer place)
+  offer_open place = bit_at-zero (spot_of plan (AnOffer place)).1
+
+  pub name_open : (index : ℕ) → IsOpen (AName index)
+  name_open index = bit_at-zero (spot_of plan (AName index)).1
+
+  pub number_open : (tx : Tx) → Asks parts tx → IsOpen (number_of parts tx)
+  number_open tx asked = number_clear parts tx is.laid_out.ledger asked
+
+  named_open : (tx : Tx) (of : Kind) (t : Thing) → named_by parts plan tx.account.0 of ≡ Some t → IsOpen t
+  named_open tx (kind.Pay to asset amount) t names = absurd cc
+  named_open tx (kind.Create id) t names = subst IsOpen (same_Some (AName _) t names) (name_open _)
+  named_open tx (kind.Offer sell buy limit amount) t names = absurd cc
+  named_open tx (kind.Cancel sell buy limit seq) t names = subst IsOpen (same_Some (AnOffer _) t names) (offer_open _)
+
+  thing_open : (place : ℕ) (one : Decision) (t : Thing) → slice_get list place ≡ Some one →
+      In t (things parts plan one)
+      → IsOpen t
+  thing_open place one t at among =
+      elim (thing_of parts plan one t among) [
+        | inl own ↦ subst IsOpen (sym own.1) (number_open one.tx (asks_at place one at own.0))
+        | inr names ↦ named_open one.tx one.tx.kind t names.1
+      ]
 
   -- so the bit of a thing is set as often as it is claimed
-  adds_up : (t : Thing) → IsThing plan t → total (claims t) list
+  adds_up : (t : Thing) → IsThing plan t → IsOpen t → total (claims t) list
       ≡ bit_at (slice_index (bits (spot_of plan t).0.shard) (spot_of plan t).0.word) (spot_of plan t).1
-  adds_up t there =
+  adds_up t there clear =
       let spot = spot_of plan t in
       let has = bits_are_there parts candidates shards t is.laid_out there in
       let sum = (is.bits_add_up spot.0.shard has.shard).adds_up spot.0.word spot.1 in
       let none : bit_at (slice_index (words_of plan.bits spot.0.shard) spot.0.word) spot.1 ≡ 0 =
-      ap (λ (w : ℕ). bit_at w spot.1) (has.opening ∙ clear t) ∙ bit_at-zero spot.1 in
+      ap (λ (w : ℕ). bit_at w spot.1) has.opening ∙ clear in
       let all = times_all parts plan spot list in
       omega (arith, sum, none, all)
 
@@ -110,7 +124,7 @@ module _ (parts : Parts) (candidates : List Tx) (shards : ℕ) (outcomes : List 
   one_claimer t there i j one other at at_other among too =
       let spot = spot_of plan t in
       let word = slice_index (bits spot.0.shard) spot.0.word in
-      let sum = adds_up t there in
+      let sum = adds_up t there (thing_open i one t at among) in
       let small = bit_at-lt word spot.1 in
       let first = claims_itself t one among in
       let second = claims_itself t other too in
@@ -140,9 +154,9 @@ module _ (parts : Parts) (candidates : List Tx) (shards : ℕ) (outcomes : List 
     pub stands : slice_get list place ≡ Some one
     pub among : In t (things parts plan one)
 
-  pub claimer : (t : Thing) → IsThing plan t → IsSet plan bits t → Claimer t
-  claimer t there set =
-      let at = some_place (claims t) list (let sum = adds_up t there in omega (arith, sum, set)) in
+  pub claimer : (t : Thing) → IsThing plan t → IsOpen t → IsSet bits (spot_of plan t).0 (spot_of plan t).1 → Claimer t
+  claimer t there clear set =
+      let at = some_place (claims t) list (let sum = adds_up t there clear in omega (arith, sum, set)) in
       let found = counts_in (hits plan (spot_of plan t)) (things parts plan at.entry) at.counts in
       let same = bits_are_apart parts candidates shards found.entry t is.laid_out
       (thing_there at.place at.entry found.entry at.stands found.among) there
@@ -157,7 +171,7 @@ module _ (parts : Parts) (candidates : List Tx) (shards : ℕ) (outcomes : List 
   -- two that keep one number are one
   pub numbers_once : NumbersOnce list
   numbers_once i j one other at at_other account seq keeps too =
-      let number : ℕ → ℕ → Thing = λ a s. Number (account_place parts a) (s - last_of parts.accounts a - 1) in
+      let number : ℕ → ℕ → Thing = λ a s. Number (account_place parts a) (s - (window_of parts.accounts a).last - 1) in
       let same : number_of parts other.tx ≡ number_of parts one.tx = ap₂ number (sym account) (sym seq) in
       one_claimer (number_of parts one.tx) (number_is parts candidates shards one.tx (asks_at i one at keeps)) i j
       one other

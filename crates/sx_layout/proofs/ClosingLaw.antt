@@ -10,8 +10,10 @@ use Rattle.sx_layout.specs.declared.space.NoRoom.{NoRoom}
 use Rattle.sx_layout.specs.declared.space.NoRoom.TheVariants as no_room
 use Rattle.sx_layout.specs.Gathering.{Decision, decisions, is_accepted, body_of}
 use Rattle.sx_layout.specs.Gathering.{IsGathered, IsOverdrawn, Shows}
-use Rattle.sx_layout.specs.Marks.{Closes, ClosingGathers, IsClosing, IsShort, named}
-use Rattle.sx_layout.specs.Plan.{Plan, offer_place, place_in, plan_of}
+use Rattle.sx_layout.specs.Asked.{wanted_by}
+use Rattle.sx_layout.specs.Deciding.{too_late}
+use Rattle.sx_layout.specs.Marks.{Closes, ClosingGathers, IsClosing, IsGone, IsMissed, IsShort}
+use Rattle.sx_layout.specs.Plan.{Plan, account_place, offer_place, place_in, plan_of, purse_spot}
 use Rattle.sx_layout.specs.PlanLaws.{Thing, AnOffer, AName}
 use Rattle.sx_layout.proofs.AskedThings.{Asks, asks, named_is}
 use Rattle.sx_layout.proofs.BodyElements.{all_body}
@@ -19,17 +21,22 @@ use Rattle.sx_layout.proofs.BodySums.{at_most_one, counted, distinct_if, hit, hi
 use Rattle.sx_layout.proofs.BodyOrder.{body_ordered, kept}
 use Rattle.sx_layout.proofs.BodySums.{length-named, one_if, total_body, total_candidates}
 use Rattle.sx_layout.proofs.ClosingBits.{asks_at, candidate_at, numbers_once, one_claimer, passes_at}
-use Rattle.sx_layout.proofs.ClosingPurses.{covered, debit_at, purse}
-use Rattle.sx_layout.proofs.ClosingRefusals.{name_taken, offer_taken, seq_taken}
+use Rattle.sx_layout.proofs.ClosingPurses.{covered, purse}
+use Rattle.sx_layout.proofs.DebitPlaces.{debit_at}
+use Rattle.sx_layout.proofs.MarkedThings.{named, named_by}
+use Rattle.sx_layout.proofs.ClosingRefusals.{NamesSet, name_taken, offer_taken, seq_taken}
 use Rattle.sx_layout.proofs.NamedThings.{names_cancelled, names_created}
 use Rattle.sx_layout.proofs.MarkCounts.{named_in}
 use Rattle.sx_layout.proofs.Totals.{total}
 use Rattle.sx_ledger.specs.declared.parts.Parts.{Parts}
 use Rattle.sx_ledger.specs.Body.{IsAdmissible, cancelled_by, created, created_by, made, made_by}
+use Rattle.sx_ledger.specs.Effects.{Posting, debit, debit_of}
 use Rattle.sx_ledger.specs.Ledger.{most_accounts, most_height, most_offers}
 use Rattle.sx_ledger.specs.Order.{same_key}
 use Rattle.sx_ledger.specs.Static.{static_of}
 use Rattle.sx_ledger.proofs.KeyOrder.{same_key_is, same_key_from}
+use Rattle.sx_tx.specs.declared.kind.Kind.{Kind}
+use Rattle.sx_tx.specs.declared.kind.Kind.TheVariants as kind
 use Rattle.sx_tx.specs.declared.tx.Tx.{Tx}
 
 -- ---- what is named once
@@ -93,6 +100,9 @@ at_most m n fails = elim (cases_lt m n) [
   | inl lt ↦ let less : nat_lt m n ≡ true = lt-ltb m n lt in absurd cc
   | inr le ↦ le
 ]
+
+abbrev posting_of : ℕ → ℕ → ℕ → Posting
+posting_of account asset units = record { account = account; asset = asset; units = units }
 
 module _ (parts : Parts) (candidates : List Tx) (shards : ℕ) (outcomes : List Outcome) (purses bits : ℕ → List ℕ)
     (is : IsClosing parts candidates shards outcomes purses bits) where
@@ -175,23 +185,53 @@ module _ (parts : Parts) (candidates : List Tx) (shards : ℕ) (outcomes : List 
         covered = covered parts candidates shards outcomes purses bits is;
       }
 
-  overdrawn : (tx : Tx) (seen need : ℕ) → Asks parts tx → IsShort parts plan purses tx seen need
+  short_of : (tx : Tx) (asset seen need amount : ℕ) → Asks parts tx
+      → debit tx ≡ Some (record { account = tx.account.0; asset = asset; units = amount }) → need ≡ amount
+      → IsShort plan purses (purse_spot plan (account_place parts tx.account.0) asset) seen need
       → IsOverdrawn parts (body_of list) tx seen need
-  overdrawn tx seen need own short =
-      let place = debit_at parts tx (record { account = tx.account.0; asset = short.asset; units = need }) own
-      short.debit in
-      let words = purse parts candidates shards outcomes purses bits is tx.account.0 short.asset own.own place.small in
+  short_of tx asset seen need amount own debits same short =
+      let place = debit_at parts tx (record { account = tx.account.0; asset = asset; units = amount }) own debits in
+      let words = purse parts candidates shards outcomes purses bits is tx.account.0 asset own.own place.small in
       let opening = words.opening in
       let closing = words.closing in
       let low = short.low in
       let most = short.opening in
       record {
-        asset = short.asset;
-        debit = short.debit;
+        asset = asset;
+        debit = debits ∙ ap (λ (n : ℕ). Some (posting_of tx.account.0 asset n)) (sym same);
         short = short.short;
         left = omega (arith, closing, low);
         opening = omega (arith, opening, most);
       }
+
+  overdrawn : (tx : Tx) (of : Kind) (seen need : ℕ) → Asks parts tx → tx.kind ≡ of
+      → IsMissed plan purses (wanted_by parts plan tx.account.0 of) seen need
+      → IsOverdrawn parts (body_of list) tx seen need
+  overdrawn tx (kind.Pay to asset amount) seen need own same missed =
+      short_of tx asset seen need amount own (ap (debit_of tx.account.0) same) missed.0 missed.1
+  overdrawn tx (kind.Create id) seen need own same missed = absurd missed
+  overdrawn tx (kind.Offer sell buy limit amount) seen need own same missed =
+      short_of tx sell seen need amount own (ap (debit_of tx.account.0) same) missed.0 missed.1
+  overdrawn tx (kind.Cancel sell buy limit seq) seen need own same missed = absurd missed
+
+  -- the offer or the id that it names is gone
+  gone_offer : (tx : Tx) (of : Kind) → tx.kind ≡ of → too_late of ≡ outcome.OfferTaken
+      → IsGone bits (wanted_by parts plan tx.account.0 of)
+      → (offer : ℕ) × NamesSet parts plan bits tx (AnOffer offer)
+  gone_offer tx (kind.Pay to asset amount) same late gone = absurd gone
+  gone_offer tx (kind.Create id) same late gone = absurd cc
+  gone_offer tx (kind.Offer sell buy limit amount) same late gone = absurd gone
+  gone_offer tx (kind.Cancel sell buy limit seq) same late gone =
+      (_, record { names = ap (named_by parts plan tx.account.0) same; set = gone })
+
+  gone_name : (tx : Tx) (of : Kind) → tx.kind ≡ of → too_late of ≡ outcome.NameTaken
+      → IsGone bits (wanted_by parts plan tx.account.0 of)
+      → (index : ℕ) × NamesSet parts plan bits tx (AName index)
+  gone_name tx (kind.Pay to asset amount) same late gone = absurd gone
+  gone_name tx (kind.Create id) same late gone =
+      (_, record { names = ap (named_by parts plan tx.account.0) same; set = gone })
+  gone_name tx (kind.Offer sell buy limit amount) same late gone = absurd gone
+  gone_name tx (kind.Cancel sell buy limit seq) same late gone = absurd cc
 
   shows_by : (place : ℕ) (tx : Tx) (of : Outcome) → slice_get list place ≡ Some (record { tx = tx; outcome = of })
       → Closes parts plan purses bits tx of → Shows parts list (body_of list) place tx of
@@ -204,18 +244,16 @@ module _ (parts : Parts) (candidates : List Tx) (shards : ℕ) (outcomes : List 
   )
   shows_by place tx outcome.OfferTaken at closes = (
     closes.0,
-    offer_taken parts candidates shards outcomes purses bits is place tx closes.1.0 at
-        (asks parts tx closes.0)
-        closes.1.1,
+    (let gone = gone_offer tx tx.kind refl closes.1 closes.2 in
+        offer_taken parts candidates shards outcomes purses bits is place tx gone.0 at (asks parts tx closes.0) gone.1),
   )
   shows_by place tx outcome.NameTaken at closes = (
     closes.0,
-    name_taken parts candidates shards outcomes purses bits is place tx closes.1.0 at
-        (asks parts tx closes.0)
-        closes.1.1,
+    (let gone = gone_name tx tx.kind refl closes.1 closes.2 in
+        name_taken parts candidates shards outcomes purses bits is place tx gone.0 at (asks parts tx closes.0) gone.1),
   )
   shows_by place tx (outcome.Overdraft seen need) at closes =
-      (closes.0, overdrawn tx seen need (asks parts tx closes.0) closes.1)
+      (closes.0, overdrawn tx tx.kind seen need (asks parts tx closes.0) refl closes.1)
 
   gathered : IsGathered parts candidates outcomes (body_of list)
   gathered = record {

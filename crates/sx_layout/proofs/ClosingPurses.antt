@@ -1,71 +1,35 @@
 -- At a closing each purse has what the body leaves of its balance.
-use Rattle.std.proofs.Common.{◌≡◌, ℕ, zero, ◌+◌, ◌<◌, ◌≤◌, Bool, true, false, List}
-use Rattle.std.proofs.Common.{Option, Some, None, inl, inr, refl, sym, ap, subst, ◌∙◌, arith}
-use Rattle.std.specs.Prelude.{slice_get, slice_index, nat_le, ◌==◌, ◌&&◌, ◌||◌}
-use Rattle.std.proofs.lemmas.Bool.{and_parts, cases_Bool, cases_lt, eqb-true, eq-eqb, le-leb}
-use Rattle.std.proofs.lemmas.Option.{slice_get_within, get_or_from_slice_get, same_Some}
+use Rattle.std.proofs.Common.{◌≡◌, ℕ, zero, ◌+◌, ◌<◌, ◌≤◌, true, false, List}
+use Rattle.std.proofs.Common.{Option, Some, None, inl, inr, refl, sym, ap, ◌∙◌, arith}
+use Rattle.std.specs.Prelude.{slice_get, slice_index, ◌==◌, ◌&&◌}
+use Rattle.std.proofs.lemmas.Bool.{and_parts, cases_Bool, cases_lt, eqb-true, eq-eqb}
+use Rattle.std.proofs.lemmas.Option.{slice_get_within, get_or_from_slice_get}
 use Rattle.sx_event.specs.declared.marks.Claim.TheVariants.{Debit}
 use Rattle.sx_event.specs.Rule.{debit_in, debits as claimed_debits}
 use Rattle.sx_layout.specs.declared.outcome.Outcome.{Outcome}
 use Rattle.sx_layout.specs.declared.spot.Spot.{Spot}
 use Rattle.sx_layout.specs.Gathering.{Decision, decisions, is_accepted, body_of}
-use Rattle.sx_layout.specs.Marks.{IsClosing, taken, debit_mark}
+use Rattle.sx_layout.specs.Marks.{IsClosing}
 use Rattle.sx_layout.specs.Plan.{Plan, account_place, plan_of, purse_spot, words_of}
 use Rattle.sx_layout.proofs.AskedThings.{Asks, has_id, one_account}
 use Rattle.sx_layout.proofs.BodySums.{counted, debits_total, total_body}
 use Rattle.sx_layout.proofs.BodyOrder.{kept}
 use Rattle.sx_layout.proofs.ClosingBits.{asks_at}
+use Rattle.sx_layout.proofs.DebitPlaces.{debit_at}
 use Rattle.sx_layout.proofs.MarkCounts.{debits_all}
+use Rattle.sx_layout.proofs.MarkedThings.{posting_mark, taken}
 use Rattle.sx_layout.proofs.SpotLaws.{purses_are_apart}
 use Rattle.sx_layout.proofs.PlanLaws.{purses_are_there}
 use Rattle.sx_layout.proofs.Totals.{total, found, some_place, sum_one, total_same}
 use Rattle.sx_ledger.specs.declared.account.Account.{Account}
 use Rattle.sx_ledger.specs.declared.parts.Parts.{Parts}
 use Rattle.sx_ledger.specs.Body.{holding_of}
-use Rattle.sx_ledger.specs.Effects.{Posting, debit, debit_of, debits, posted}
+use Rattle.sx_ledger.specs.Effects.{Posting, debit, debits, posted}
 use Rattle.sx_ledger.specs.Ledger.{assets_of, balance_at, ids}
-use Rattle.sx_ledger.specs.Static.{has_account, names_beyond}
+use Rattle.sx_ledger.specs.Static.{has_account}
 use Rattle.sx_ledger.proofs.Lookup.{entry_at}
 use Rattle.sx_ledger.proofs.PlacesOfIds.{holding_at}
-use Rattle.sx_tx.specs.declared.kind.Kind.{Kind}
-use Rattle.sx_tx.specs.declared.kind.Kind.TheVariants as kind
 use Rattle.sx_tx.specs.declared.tx.Tx.{Tx}
-
--- ---- where a debit is
-
--- a debit is at its own account, in an asset that there is
-pub record Where (parts : Parts) (account : ℕ) (posting : Posting) : Type 0 where
-  pub owner : posting.account ≡ account
-  pub small : posting.asset < assets_of parts
-
-below : (n m : ℕ) → nat_le n m ≡ false → m < n
-below n m fails = elim (cases_lt m n) [
-  | inl lt ↦ lt
-  | inr le ↦ let all : nat_le n m ≡ true = le-leb n m le in absurd cc
-]
-
-first_false : (b c : Bool) → (b || c) ≡ false → b ≡ false
-first_false true c e = absurd cc
-first_false false c e = refl
-
-at_by : (parts : Parts) (account : ℕ) (of : Kind) (posting : Posting) → names_beyond (assets_of parts) of ≡ false
-    → debit_of account of ≡ Some posting → Where parts account posting
-at_by parts account (kind.Pay to asset amount) posting known e =
-    subst (Where parts account) (same_Some (record { account = account; asset = asset; units = amount }) posting e)
-    (record { owner = refl; small = below (assets_of parts) asset known })
-at_by parts account (kind.Create id) posting known e = absurd cc
-at_by parts account (kind.Offer sell buy limit amount) posting known e =
-    subst (Where parts account) (same_Some (record { account = account; asset = sell; units = amount }) posting e)
-    (record {
-      owner = refl;
-      small = below (assets_of parts) sell
-          (first_false (nat_le (assets_of parts) sell) (nat_le (assets_of parts) buy) known);
-    })
-at_by parts account (kind.Cancel sell buy limit seq) posting known e = absurd cc
-
-pub debit_at : (parts : Parts) (tx : Tx) (posting : Posting) → Asks parts tx → debit tx ≡ Some posting
-    → Where parts tx.account.0 posting
-debit_at parts tx posting is e = at_by parts tx.account.0 tx.kind posting is.assets e
 
 -- ---- one debit
 
@@ -83,7 +47,7 @@ module _ (parts : Parts) (candidates : List Tx) (shards : ℕ) (outcomes : List 
   elsewhere : (account asset : ℕ) → has_account parts.accounts account ≡ true → asset < assets_of parts
       → (posting : Posting) → has_account parts.accounts posting.account ≡ true → posting.asset < assets_of parts
       → ((posting.account == account) && (posting.asset == asset)) ≡ false
-      → claimed_debits (debit_mark parts plan (purse_at account asset).shard (Some posting))
+      → claimed_debits (posting_mark parts plan (purse_at account asset).shard (Some posting))
       (purse_at account asset).word
       ≡ zero
   elsewhere account asset known small posting there within differ =
@@ -111,7 +75,7 @@ module _ (parts : Parts) (candidates : List Tx) (shards : ℕ) (outcomes : List 
   -- what it takes out of the purse of an account and an asset is what is posted there
   debit_counts : (account asset : ℕ) → has_account parts.accounts account ≡ true → asset < assets_of parts
       → (posting : Posting) → has_account parts.accounts posting.account ≡ true → posting.asset < assets_of parts
-      → claimed_debits (debit_mark parts plan (purse_at account asset).shard (Some posting))
+      → claimed_debits (posting_mark parts plan (purse_at account asset).shard (Some posting))
       (purse_at account asset).word
       ≡ posted (Some posting) account asset
   debit_counts account asset known small posting there within =
@@ -132,7 +96,7 @@ module _ (parts : Parts) (candidates : List Tx) (shards : ℕ) (outcomes : List 
 
   debit_of_one : (account asset : ℕ) → has_account parts.accounts account ≡ true → asset < assets_of parts
       → (one : Decision) → Asks parts one.tx → (posting : Option Posting) → debit one.tx ≡ posting
-      → claimed_debits (debit_mark parts plan (purse_at account asset).shard posting) (purse_at account asset).word
+      → claimed_debits (posting_mark parts plan (purse_at account asset).shard posting) (purse_at account asset).word
       ≡ posted posting account asset
   debit_of_one account asset known small one asked None e = refl
   debit_of_one account asset known small one asked (Some posting) e =
@@ -143,7 +107,7 @@ module _ (parts : Parts) (candidates : List Tx) (shards : ℕ) (outcomes : List 
 
   taken_counts : (account asset : ℕ) → has_account parts.accounts account ≡ true → asset < assets_of parts
       → (k : ℕ) (one : Decision) → slice_get list k ≡ Some one
-      → claimed_debits (debit_mark parts plan (purse_at account asset).shard (taken one)) (purse_at account asset).word
+      → claimed_debits (posting_mark parts plan (purse_at account asset).shard (taken one)) (purse_at account asset).word
       ≡ counted (λ tx. posted (debit tx) account asset) one
   taken_counts account asset known small k one at =
       elim (cases_Bool (is_accepted one.outcome)) [
@@ -182,7 +146,7 @@ module _ (parts : Parts) (candidates : List Tx) (shards : ℕ) (outcomes : List 
       there.balance ∙ sym holds in
       let sum = (is.purses_add_up spot.shard there.shard).adds_up spot.word in
       let all = debits_all parts plan spot.shard spot.word list in
-      let same = total_same (λ one. claimed_debits (debit_mark parts plan spot.shard (taken one)) spot.word)
+      let same = total_same (λ one. claimed_debits (posting_mark parts plan spot.shard (taken one)) spot.word)
       (counted (λ tx. posted (debit tx) account asset)) list (taken_counts account asset known small) in
       let body = body_debits account asset in
       record { opening = opening; closing = omega (arith, opening, sum, all, same, body) }

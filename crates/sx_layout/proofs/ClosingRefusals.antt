@@ -7,19 +7,21 @@ use Rattle.sx_layout.specs.declared.outcome.Outcome.{Outcome}
 use Rattle.sx_layout.specs.declared.outcome.Outcome.TheVariants as outcome
 use Rattle.sx_layout.specs.Gathering.{Decision, decisions, is_accepted, keeps_number, body_of}
 use Rattle.sx_layout.specs.Gathering.{IsSeqTaken, IsOfferTaken, IsNameTaken}
-use Rattle.sx_layout.specs.Marks.{IsClosing, IsGone, IsSet, number_of}
+use Rattle.sx_layout.specs.Asked.{number_of}
+use Rattle.sx_layout.specs.Marks.{IsClosing, IsSet}
 use Rattle.sx_layout.specs.Plan.{Plan, plan_of}
-use Rattle.sx_layout.specs.PlanLaws.{Thing, Number, AnOffer, AName}
+use Rattle.sx_layout.specs.PlanLaws.{Thing, Number, AnOffer, AName, spot_of}
 use Rattle.sx_layout.proofs.AskedThings.{Asks, has_created, named_is, number_is, one_account, one_key, one_name}
 use Rattle.sx_layout.proofs.BodyElements.{in_body}
 use Rattle.sx_layout.proofs.BodyOrder.{kept}
-use Rattle.sx_layout.proofs.ClosingBits.{asks_at, candidate_at, claimer, numbers_once}
+use Rattle.sx_layout.proofs.ClosingBits.{asks_at, candidate_at, claimer, name_open, number_open, numbers_once, offer_open}
 use Rattle.sx_layout.proofs.MarkCounts.{thing_of}
+use Rattle.sx_layout.proofs.MarkedThings.{named}
 use Rattle.sx_layout.proofs.RisingNumbers.{has, has_each_once}
 use Rattle.sx_ledger.specs.declared.key.Key.{Key}
 use Rattle.sx_ledger.specs.declared.parts.Parts.{Parts}
 use Rattle.sx_ledger.specs.Body.{created, created_by}
-use Rattle.sx_ledger.specs.Static.{last_of}
+use Rattle.sx_ledger.specs.Static.{window_of}
 use Rattle.sx_tx.specs.declared.tx.Tx.{Tx}
 use Rattle.sx_layout.proofs.NamedThings.{never_number, cancels_at, creates_at}
 
@@ -40,6 +42,11 @@ not_a_number place a b e = cc
 no_number : (index a b : ℕ) → AName index ≡ Number a b → ⊥
 no_number index a b e = cc
 
+-- it names the thing, whose bit is set
+pub record NamesSet (parts : Parts) (plan : Plan) (bits : ℕ → List ℕ) (tx : Tx) (thing : Thing) : Type 0 where
+  pub names : named parts plan tx ≡ Some thing
+  pub set : IsSet bits (spot_of plan thing).0 (spot_of plan thing).1
+
 module _ (parts : Parts) (candidates : List Tx) (shards : ℕ) (outcomes : List Outcome) (purses bits : ℕ → List ℕ)
     (is : IsClosing parts candidates shards outcomes purses bits) where
   abbrev plan : Plan
@@ -55,18 +62,19 @@ module _ (parts : Parts) (candidates : List Tx) (shards : ℕ) (outcomes : List 
       same_Some one other (sym at ∙ ap (slice_get list) same ∙ there)
 
   pub seq_taken : (place : ℕ) (tx : Tx) → slice_get list place ≡ Some (record { tx = tx; outcome = outcome.SeqTaken })
-      → Asks parts tx → IsSet plan bits (number_of parts tx) → IsSeqTaken list place tx
+      → Asks parts tx → IsSet bits (spot_of plan (number_of parts tx)).0 (spot_of plan (number_of parts tx)).1
+      → IsSeqTaken list place tx
   seq_taken place tx at own set =
       let t = number_of parts tx in
       let who = claimer parts candidates shards outcomes purses bits is t (number_is parts candidates shards tx own)
-      set in
+      (number_open parts candidates shards outcomes purses bits is tx own) set in
       elim (thing_of parts plan who.one t who.among) [
         | inl keeps ↦
             let asked = asks_at parts candidates shards outcomes purses bits is who.place who.one who.stands keeps.0 in
             let account = one_account parts who.one.tx.account.0 tx.account.0 asked.own own.own
             (sym (ap place_part keeps.1)) in
             let number = ap number_part keeps.1 in
-            let lasts = ap (last_of parts.accounts) account in
+            let lasts = ap (λ (id : ℕ). (window_of parts.accounts id).last) account in
             let first = asked.above in
             let second = own.above in
             record {
@@ -98,13 +106,14 @@ module _ (parts : Parts) (candidates : List Tx) (shards : ℕ) (outcomes : List 
 
   pub offer_taken : (place : ℕ) (tx : Tx) (offer : ℕ)
       → slice_get list place ≡ Some (record { tx = tx; outcome = outcome.OfferTaken })
-      → Asks parts tx → IsGone parts plan bits tx (AnOffer offer) → IsOfferTaken (body_of list) tx
+      → Asks parts tx → NamesSet parts plan bits tx (AnOffer offer) → IsOfferTaken (body_of list) tx
   offer_taken place tx offer at own gone =
       let here : Decision = record { tx = tx; outcome = outcome.OfferTaken } in
       let there = named_is parts candidates shards place tx (AnOffer offer)
       (candidate_at candidates outcomes place here at)
       own gone.names in
-      let who = claimer parts candidates shards outcomes purses bits is (AnOffer offer) there gone.set in
+      let who = claimer parts candidates shards outcomes purses bits is (AnOffer offer) there
+      (offer_open parts candidates shards outcomes purses bits is offer) gone.set in
       elim (thing_of parts plan who.one (AnOffer offer) who.among) [
         | inl keeps ↦ absurd (not_a_number offer _ _ keeps.1)
         | inr names ↦
@@ -131,13 +140,14 @@ module _ (parts : Parts) (candidates : List Tx) (shards : ℕ) (outcomes : List 
 
   pub name_taken : (place : ℕ) (tx : Tx) (index : ℕ)
       → slice_get list place ≡ Some (record { tx = tx; outcome = outcome.NameTaken })
-      → Asks parts tx → IsGone parts plan bits tx (AName index) → IsNameTaken (body_of list) tx
+      → Asks parts tx → NamesSet parts plan bits tx (AName index) → IsNameTaken (body_of list) tx
   name_taken place tx index at own gone =
       let here : Decision = record { tx = tx; outcome = outcome.NameTaken } in
       let there = named_is parts candidates shards place tx (AName index)
       (candidate_at candidates outcomes place here at)
       own gone.names in
-      let who = claimer parts candidates shards outcomes purses bits is (AName index) there gone.set in
+      let who = claimer parts candidates shards outcomes purses bits is (AName index) there
+      (name_open parts candidates shards outcomes purses bits is index) gone.set in
       elim (thing_of parts plan who.one (AName index) who.among) [
         | inl keeps ↦ absurd (no_number index _ _ keeps.1)
         | inr names ↦

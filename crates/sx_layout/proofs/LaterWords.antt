@@ -10,12 +10,15 @@ use Rattle.sx_event.specs.State.{State, view_of, purse_of}
 use Rattle.sx_event.specs.Step.{stepped, wins}
 use Rattle.sx_event.proofs.Read.{bits_stay}
 use Rattle.sx_event.proofs.Words.{found_stays, taken_falls}
+use Rattle.sx_layout.specs.declared.asked.Wanted.{Wanted}
+use Rattle.sx_layout.specs.declared.asked.Wanted.TheVariants as wanted
 use Rattle.sx_layout.specs.declared.outcome.Outcome.{Outcome}
 use Rattle.sx_layout.specs.declared.outcome.Outcome.TheVariants as outcome
+use Rattle.sx_layout.specs.declared.spot.Spot.{Spot}
 use Rattle.sx_layout.specs.Actors.{Actor}
-use Rattle.sx_layout.specs.Marks.{Closes, IsSet, number_of}
-use Rattle.sx_layout.specs.Plan.{Plan, account_place, purse_spot}
-use Rattle.sx_layout.specs.PlanLaws.{Thing, AnOffer, AName, spot_of}
+use Rattle.sx_layout.specs.Asked.{number_spot, wanted_of}
+use Rattle.sx_layout.specs.Marks.{Closes, IsGone, IsMissed, IsSet}
+use Rattle.sx_layout.specs.Plan.{Plan}
 use Rattle.sx_layout.proofs.ActorMarks.{ActorKeeps}
 use Rattle.sx_layout.proofs.DecidedPairs.{decided_map}
 use Rattle.sx_ledger.specs.declared.parts.Parts.{Parts}
@@ -54,40 +57,36 @@ same_later purses bits = record { falls = λ purse. omega arith; stays = λ word
 
 module _ (parts : Parts) (plan : Plan) (purses bits new_purses new_bits : List ℕ)
     (later : Later purses bits new_purses new_bits) where
-  set_later : (thing : Thing) → IsSet plan (λ shard. bits) thing → IsSet plan (λ shard. new_bits) thing
-  set_later thing set =
-      let spot = spot_of plan thing in
-      omega (arith, set, later.stays spot.0.word spot.1, bit_at-lt (slice_index new_bits spot.0.word) spot.1)
+  set_later : (at : Spot) (bit : ℕ) → IsSet (λ shard. bits) at bit → IsSet (λ shard. new_bits) at bit
+  set_later at bit set =
+      omega (arith, set, later.stays at.word bit, bit_at-lt (slice_index new_bits at.word) bit)
+
+  gone_later : (what : Wanted) → IsGone (λ shard. bits) what → IsGone (λ shard. new_bits) what
+  gone_later (wanted.Bit at bit) gone = set_later at bit gone
+  gone_later (wanted.Units purse need) gone = gone
+
+  at_most : {a b c : ℕ} → a ≤ b → c ≤ a → c ≤ b
+  at_most low falls = omega (arith, low, falls)
+
+  missed_later : (what : Wanted) (seen need : ℕ) → IsMissed plan (λ shard. purses) what seen need
+      → IsMissed plan (λ shard. new_purses) what seen need
+  missed_later (wanted.Bit at bit) seen need missed = missed
+  missed_later (wanted.Units purse amount) seen need missed =
+      let short = missed.1 in
+      let low = short.low in
+      (missed.0, record { short = short.short; low = at_most low (later.falls purse.word); opening = short.opening })
 
   closes_later : (tx : Tx) (of : Outcome) → Closes parts plan (λ shard. purses) (λ shard. bits) tx of
       → Closes parts plan (λ shard. new_purses) (λ shard. new_bits) tx of
   closes_later tx outcome.Accepted closes = closes
   closes_later tx (outcome.Static why) closes = closes
-  closes_later tx outcome.SeqTaken closes = (closes.0, set_later (number_of parts tx) closes.1)
+  closes_later tx outcome.SeqTaken closes =
+      let at = number_spot parts plan tx in (closes.0, set_later at.0 at.1 closes.1)
   closes_later tx outcome.OfferTaken closes =
-      let thing = AnOffer closes.1.0 in
-      (closes.0, (closes.1.0, record { names = closes.1.1.names; set = set_later thing closes.1.1.set }))
-  closes_later tx outcome.NameTaken closes =
-      let thing = AName closes.1.0 in
-      (closes.0, (closes.1.0, record { names = closes.1.1.names; set = set_later thing closes.1.1.set }))
-  closes_later tx (outcome.Overdraft seen need) closes = (
-    closes.0,
-    (
-        let short = closes.1 in
-        let falls = later.falls (purse_spot plan (account_place parts tx.account.0) short.asset).word in
-        let low = short.low in
-        record {
-          asset = short.asset;
-          debit = short.debit;
-          short = short.short;
-          low = at_most low falls;
-          opening = short.opening;
-        }
-        ),
-  )
-    where
-      at_most : {a b c : ℕ} → a ≤ b → c ≤ a → c ≤ b
-      at_most low falls = omega (arith, low, falls)
+      (closes.0, closes.1, gone_later (wanted_of parts plan tx) closes.2)
+  closes_later tx outcome.NameTaken closes = (closes.0, closes.1, gone_later (wanted_of parts plan tx) closes.2)
+  closes_later tx (outcome.Overdraft seen need) closes =
+      (closes.0, missed_later (wanted_of parts plan tx) seen need closes.1)
 
   pub keeps_later : (claims : List Claim) (part : List Tx) (actor : Actor)
       → ActorKeeps parts plan purses bits claims part actor

@@ -1,3 +1,5 @@
+pub mod OutcomeFaults
+pub mod ScriptFaults
 pub mod OutcomeLaws
 pub mod OutcomeListLaws
 pub mod Counts
@@ -10,13 +12,19 @@ pub mod Shares
 pub mod SpotLaws
 pub mod PlanLaws
 mod ScriptCases
-pub mod TxPlaces
+mod GatheringCases
 pub mod StepFits
 pub mod Openings
 pub mod NewIdLaws
 pub mod Totals
+pub mod MarkedThings
+pub mod MarksLaws
 pub mod AskedThings
+pub mod DebitPlaces
+pub mod AskedLaws
+pub mod TxPlaces
 pub mod MarkCounts
+pub mod GatheringLaws
 pub mod BodyOrder
 pub mod BodySums
 pub mod BodyElements

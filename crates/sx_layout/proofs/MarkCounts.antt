@@ -5,13 +5,16 @@ use Rattle.std.specs.Prelude.{◌==◌, ◌&&◌, if◌then◌else◌, option_to
 use Rattle.std.specs.List.{flat_map}
 use Rattle.std.proofs.lemmas.Bool.{cases_Bool, and_parts, eqb-true, eq-eqb}
 use Rattle.std.proofs.lemmas.List.Sums.{sum_by-append}
+use Rattle.sx_event.specs.declared.marks.Claim.{Claim}
 use Rattle.sx_event.specs.declared.marks.Claim.TheVariants.{Debit, Bit}
 use Rattle.sx_event.specs.Rule.{bit_in, debit_in, debits as claimed_debits, times}
 use Rattle.sx_layout.specs.declared.spot.Spot.{Spot}
 use Rattle.sx_layout.specs.Gathering.{Decision, is_accepted, keeps_number}
-use Rattle.sx_layout.specs.Marks.{number_of, named, things, taken, bit_mark, debit_mark, marks_of, marks}
+use Rattle.sx_layout.specs.Asked.{number_of}
+use Rattle.sx_layout.specs.Marks.{marks, marks_of}
 use Rattle.sx_layout.specs.Plan.{Plan, account_place, purse_spot}
 use Rattle.sx_layout.specs.PlanLaws.{Thing, spot_of}
+use Rattle.sx_layout.proofs.MarkedThings.{marks_are, named, posting_mark, taken, thing_mark, things}
 use Rattle.sx_layout.proofs.Totals.{total, sum_flat, sum_one, total_same, In}
 use Rattle.sx_ledger.specs.declared.parts.Parts.{Parts}
 use Rattle.sx_ledger.specs.Effects.{Posting}
@@ -57,7 +60,7 @@ named_in parts plan one t accepted names =
 
 -- how often a thing's claim has the bit of another
 abbrev pub hits : Plan → Spot × ℕ → Thing → ℕ
-hits plan spot thing = times (bit_mark plan spot.0.shard thing) spot.0.word spot.1
+hits plan spot thing = times (thing_mark plan spot.0.shard thing) spot.0.word spot.1
 
 pub hits_itself : (plan : Plan) (thing : Thing) → hits plan (spot_of plan thing) thing ≡ 1
 hits_itself plan thing =
@@ -97,7 +100,7 @@ hits_same plan spot thing le =
     nothing h = omega arith
 
 no_bits : (parts : Parts) (plan : Plan) (shard word bit : ℕ) (posting : Option Posting)
-    → times (debit_mark parts plan shard posting) word bit ≡ zero
+    → times (posting_mark parts plan shard posting) word bit ≡ zero
 no_bits parts plan shard word bit None = refl
 no_bits parts plan shard word bit (Some posting) =
     let spot = purse_spot plan (account_place parts posting.account) posting.asset in
@@ -109,12 +112,13 @@ no_bits parts plan shard word bit (Some posting) =
 pub times_of : (parts : Parts) (plan : Plan) (spot : Spot × ℕ) (one : Decision)
     → times (marks_of parts plan spot.0.shard one) spot.0.word spot.1 ≡ total (hits plan spot) (things parts plan one)
 times_of parts plan spot one =
-    let bits = flat_map (bit_mark plan spot.0.shard) (things parts plan one) in
-    let last = debit_mark parts plan spot.0.shard (taken one) in
+    let bits = flat_map (thing_mark plan spot.0.shard) (things parts plan one) in
+    let last = posting_mark parts plan spot.0.shard (taken one) in
+    let all = ap (λ (c : List Claim). times c spot.0.word spot.1) (marks_are parts plan spot.0.shard one) in
     let split = sum_by-append (bit_in spot.0.word spot.1) bits last in
-    let first = sum_flat (bit_in spot.0.word spot.1) (bit_mark plan spot.0.shard) (things parts plan one) in
+    let first = sum_flat (bit_in spot.0.word spot.1) (thing_mark plan spot.0.shard) (things parts plan one) in
     let second = no_bits parts plan spot.0.shard spot.0.word spot.1 (taken one) in
-    omega (arith, split, first, second)
+    omega (arith, all, split, first, second)
 
 -- how often all marks have the bit
 pub times_all : (parts : Parts) (plan : Plan) (spot : Spot × ℕ) (list : List Decision)
@@ -128,16 +132,16 @@ times_all parts plan spot list =
 -- ---- purses
 
 no_debits : (plan : Plan) (shard purse : ℕ) (list : List Thing)
-    → claimed_debits (flat_map (bit_mark plan shard) list) purse ≡ zero
+    → claimed_debits (flat_map (thing_mark plan shard) list) purse ≡ zero
 no_debits plan shard purse [] = refl
 no_debits plan shard purse (thing ∷ list) =
-    sum_by-append (debit_in purse) (bit_mark plan shard thing) (flat_map (bit_mark plan shard) list)
+    sum_by-append (debit_in purse) (thing_mark plan shard thing) (flat_map (thing_mark plan shard) list)
     ∙ here (cases_Bool ((spot_of plan thing).0.shard == shard)) (no_debits plan shard purse list)
   where
     here : ((spot_of plan thing).0.shard == shard) ≡ true ⊎ ((spot_of plan thing).0.shard == shard) ≡ false
-        → sum_by (debit_in purse) (flat_map (bit_mark plan shard) list) ≡ zero
-        → sum_by (debit_in purse) (bit_mark plan shard thing)
-        + sum_by (debit_in purse) (flat_map (bit_mark plan shard) list) ≡ zero
+        → sum_by (debit_in purse) (flat_map (thing_mark plan shard) list) ≡ zero
+        → sum_by (debit_in purse) (thing_mark plan shard thing)
+        + sum_by (debit_in purse) (flat_map (thing_mark plan shard) list) ≡ zero
     here (inl e) rest =
         let one = sum_one (debit_in purse) (Bit (spot_of plan thing).0.word (spot_of plan thing).1) in
         rw e (omega (arith, one, rest))
@@ -145,13 +149,14 @@ no_debits plan shard purse (thing ∷ list) =
 
 pub debits_all : (parts : Parts) (plan : Plan) (shard purse : ℕ) (list : List Decision)
     → claimed_debits (marks parts plan shard list) purse
-    ≡ total (λ one. claimed_debits (debit_mark parts plan shard (taken one)) purse) list
+    ≡ total (λ one. claimed_debits (posting_mark parts plan shard (taken one)) purse) list
 debits_all parts plan shard purse list =
     sum_flat (debit_in purse) (marks_of parts plan shard) list
     ∙ total_same (λ one. claimed_debits (marks_of parts plan shard one) purse)
-    (λ one. claimed_debits (debit_mark parts plan shard (taken one)) purse) list
+    (λ one. claimed_debits (posting_mark parts plan shard (taken one)) purse) list
     (λ k one at.
-    let split = sum_by-append (debit_in purse) (flat_map (bit_mark plan shard) (things parts plan one))
-    (debit_mark parts plan shard (taken one)) in
+    let all = ap (λ (c : List Claim). claimed_debits c purse) (marks_are parts plan shard one) in
+    let split = sum_by-append (debit_in purse) (flat_map (thing_mark plan shard) (things parts plan one))
+    (posting_mark parts plan shard (taken one)) in
     let none = no_debits plan shard purse (things parts plan one) in
-    omega (arith, split, none))
+    omega (arith, all, split, none))

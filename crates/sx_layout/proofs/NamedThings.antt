@@ -3,10 +3,10 @@ use Rattle.std.proofs.Common.{◌≡◌, ℕ, true, false}
 use Rattle.std.proofs.Common.{Some, refl, ap}
 use Rattle.std.proofs.lemmas.Bool.{not-false}
 use Rattle.std.proofs.lemmas.Option.{same_Some}
-use Rattle.sx_layout.specs.Marks.{named, named_by}
 use Rattle.sx_layout.specs.Plan.{Plan, offer_place, place_in}
 use Rattle.sx_layout.specs.PlanLaws.{Number, AnOffer, AName}
 use Rattle.sx_layout.proofs.AskedThings.{Asks}
+use Rattle.sx_layout.proofs.MarkedThings.{named, named_by}
 use Rattle.sx_ledger.specs.declared.key.Key.{Key}
 use Rattle.sx_ledger.specs.declared.parts.Parts.{Parts}
 use Rattle.sx_ledger.specs.Body.{cancelled_by, created_by}

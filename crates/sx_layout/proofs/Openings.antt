@@ -21,7 +21,8 @@ use Rattle.sx_layout.specs.Actors.{Actor, actor_of, after_splits, all_starting, 
 use Rattle.sx_layout.specs.Actors.{working}
 use Rattle.sx_layout.specs.Plan.{Plan, plan_of, words_of}
 use Rattle.sx_layout.specs.Running.{Run, after_turns, all_to_end, opening_run, outcomes_of_run}
-use Rattle.sx_layout.specs.RunKeeps.{ActorFits, RunFits, Setting, WordsStay}
+use Rattle.sx_layout.specs.RunKeeps.{ActorFits, RunFits, WordsStay}
+use Rattle.sx_layout.specs.Setting.{Setting}
 use Rattle.sx_layout.specs.RunOf.{Fit, run_of}
 use Rattle.sx_ledger.specs.declared.parts.Parts.{Parts}
 use Rattle.sx_tx.specs.declared.tx.Tx.{Tx}

@@ -18,7 +18,7 @@ use Rattle.sx_layout.specs.Outcomes.{outcome_bytes, IsOutcome, IsShortage}
 use Rattle.sx_ledger.specs.declared.statics.Static.{Static}
 use Rattle.sx_ledger.specs.declared.statics.Static.TheVariants.{UnknownAccount, SeqBehind, SeqBeyond, UnknownAsset}
 use Rattle.sx_ledger.specs.declared.statics.Static.TheVariants.{SamePair, UnknownPayee, AccountExists, NoSuchOffer}
-use Rattle.sx_ledger.specs.declared.statics.Static.TheVariants.{Dust}
+use Rattle.sx_ledger.specs.declared.statics.Static.TheVariants.{Dust, SeqUsed}
 use Rattle.sx_ledger.specs.Static.{number_of_static}
 
 -- ---- the number of a static refusal
@@ -33,8 +33,9 @@ numbers_name UnknownPayee = refl
 numbers_name AccountExists = refl
 numbers_name NoSuchOffer = refl
 numbers_name Dust = refl
+numbers_name SeqUsed = refl
 
-number_in_range : (why : Static) → (1 ≤ number_of_static why) × (number_of_static why ≤ 9)
+number_in_range : (why : Static) → (1 ≤ number_of_static why) × (number_of_static why ≤ 10)
 number_in_range UnknownAccount = (omega arith, omega arith)
 number_in_range SeqBehind = (omega arith, omega arith)
 number_in_range SeqBeyond = (omega arith, omega arith)
@@ -44,8 +45,9 @@ number_in_range UnknownPayee = (omega arith, omega arith)
 number_in_range AccountExists = (omega arith, omega arith)
 number_in_range NoSuchOffer = (omega arith, omega arith)
 number_in_range Dust = (omega arith, omega arith)
+number_in_range SeqUsed = (omega arith, omega arith)
 
-number_back : (n : ℕ) → 1 ≤ n → n ≤ 9 → number_of_static (static_numbered n) ≡ n
+number_back : (n : ℕ) → 1 ≤ n → n ≤ 10 → number_of_static (static_numbered n) ≡ n
 number_back zero some few = absurd (omega arith)
 number_back (suc zero) some few = refl
 number_back (suc (suc zero)) some few = refl
@@ -56,7 +58,8 @@ number_back (suc (suc (suc (suc (suc (suc zero)))))) some few = refl
 number_back (suc (suc (suc (suc (suc (suc (suc zero))))))) some few = refl
 number_back (suc (suc (suc (suc (suc (suc (suc (suc zero)))))))) some few = refl
 number_back (suc (suc (suc (suc (suc (suc (suc (suc (suc zero))))))))) some few = refl
-number_back (suc (suc (suc (suc (suc (suc (suc (suc (suc (suc n)))))))))) some few = absurd (omega arith)
+number_back (suc (suc (suc (suc (suc (suc (suc (suc (suc (suc zero)))))))))) some few = refl
+number_back (suc (suc (suc (suc (suc (suc (suc (suc (suc (suc (suc n))))))))))) some few = absurd (omega arith)
 
 -- ---- the fields after the number of an outcome
 
@@ -74,9 +77,9 @@ none_take n y c next x text is e =
 static_take : (c next : Cursor) (x : Outcome) → AreBytes c.bytes → static_at c ≡ Ok (x, next) → AreFields 1 c next x
 unfolding static_at
 static_take c next x bytes e =
-    let a = bind_ok (field_at 1 (between 1 9) form.Tag c) (λ n. Ok (outcome.Static (static_numbered n.0), n.1))
+    let a = bind_ok (field_at 1 (between 1 10) form.Tag c) (λ n. Ok (outcome.Static (static_numbered n.0), n.1))
     (x, next) e in
-    let t = range_takes 1 1 9 form.Tag c a.0.1 a.0.0 bytes a.1 in
+    let t = range_takes 1 1 10 form.Tag c a.0.1 a.0.0 bytes a.1 in
     let is = made_is (outcome.Static (static_numbered a.0.0)) x a.0.1 next a.2 in
     let text : big_bytes 1 1 ++ big_bytes 1 a.0.0 ≡ outcome_bytes (outcome.Static (static_numbered a.0.0)) =
     ap (λ (n : ℕ). big_bytes 1 1 ++ big_bytes 1 n) (sym (number_back a.0.0 t.1 t.2)) in
@@ -147,7 +150,7 @@ unfolding static_at
 static_again why mid after within e =
     let n = number_of_static why in
     let range = number_in_range why in
-    let a = range_again 1 1 9 form.Tag mid n after (omega arith) range.0 range.1 within e in
+    let a = range_again 1 1 10 form.Tag mid n after (omega arith) range.0 range.1 within e in
     let made : static_numbered n ≡ why = numbers_name why in
     record {
       next = a.next;

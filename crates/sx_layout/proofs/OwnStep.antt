@@ -14,9 +14,8 @@ use Rattle.sx_layout.specs.declared.stage.Stage.{Stage}
 use Rattle.sx_layout.specs.declared.stage.Stage.TheVariants as stage
 use Rattle.sx_layout.specs.Actors.{Actor}
 use Rattle.sx_layout.specs.Deciding.{next_event, what_follows}
-use Rattle.sx_layout.specs.Marks.{number_of}
+use Rattle.sx_layout.specs.Asked.{number_spot}
 use Rattle.sx_layout.specs.Plan.{Plan, words_of}
-use Rattle.sx_layout.specs.PlanLaws.{spot_of}
 use Rattle.sx_layout.specs.Running.{moved}
 use Rattle.sx_layout.proofs.ActorMarks.{ActorKeeps}
 use Rattle.sx_layout.proofs.StepFits.{next_on_word, own_after, own_view}
@@ -64,16 +63,14 @@ module _ (parts : Parts) (plan : Plan) (one : plan.shards ≡ 1) (state : State)
           (moved (at_stage tx txs done at)
           (what_follows parts plan tx at (answer state name (next_event parts plan tx at))))
       by_stage stage.Number keeps =
-          let spot = spot_of plan (number_of parts tx) in
-          number_step parts plan one state part (view_of state name) tx txs done spot.0.word spot.1
-          (has_bit (word_of state spot.0.word) spot.1)
-          refl refl passes (λ is. eqb-true _ 1 is) keeps
+          let spot = number_spot parts plan tx in
+          number_step parts plan one state part (view_of state name) tx txs done
+          (has_bit (word_of state spot.0.word) spot.1) passes (λ is. eqb-true _ 1 is) keeps
       by_stage (stage.Name word bit) keeps =
           let is = keeps.first in
           name_step parts plan one state part (view_of state name) tx txs done word bit
           (has_bit (word_of state word) bit) is
-          (λ set. subst (λ (w : ℕ). bit_at (slice_index state.bits w) (spot_of plan is.thing).1 ≡ 1) is.at
-          (subst (λ (b : ℕ). bit_at (slice_index state.bits word) b ≡ 1) is.place (eqb-true _ 1 set))) keeps
+          (λ set. subst (λ (w : ℕ). bit_at (slice_index state.bits w) bit ≡ 1) is.at (eqb-true _ 1 set)) keeps
       by_stage (stage.Look purse need) keeps =
           value_step parts plan one state part (view_of state name) tx txs done purse need (purse_of state purse)
           (stage.Look purse need)

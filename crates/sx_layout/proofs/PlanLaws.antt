@@ -141,7 +141,7 @@ module _ (parts : Parts) (candidates : List Tx) (shards : ℕ) (laid : IsLaidOut
       (clear spot.0.shard spot.0.word small (omega arith)) in
       record { shard = found.shard; word = found.word; bit = found.small; opening = found.opening }
 
-  widths : (accounts : List Account) → AllByRecursion (IsAccount (assets_of parts)) accounts
+  widths : (accounts : List Account) → AllByRecursion (IsAccount parts.version (assets_of parts)) accounts
       → AllByRecursion (λ account. length account.balances ≡ assets_of parts) accounts
   widths [] are = tt
   widths (account ∷ accounts) are = (are.0.balances, widths accounts are.1)
@@ -150,7 +150,7 @@ module _ (parts : Parts) (candidates : List Tx) (shards : ℕ) (laid : IsLaidOut
       → AllByRecursion (λ account. length account.balances ≡ assets_of parts) (dealt shards shard parts.accounts)
   wide shard =
       all_dealt (λ account. length account.balances ≡ assets_of parts) shards shard parts.accounts
-      (widths parts.accounts (recursion_from_All (IsAccount (assets_of parts)) parts.accounts laid.ledger.accounts))
+      (widths parts.accounts (recursion_from_All (IsAccount parts.version (assets_of parts)) parts.accounts laid.ledger.accounts))
 
   length-purses : (shard : ℕ) → shard < shards
       → length (purses_at parts shards shard) ≡ window_words plan shard * assets_of parts

@@ -9,6 +9,8 @@ use Rattle.sx_event.specs.declared.marks.Claim.TheVariants.{Debit}
 use Rattle.sx_event.specs.declared.marks.Note.TheVariants.{Low}
 use Rattle.sx_event.specs.State.{State}
 use Rattle.sx_event.specs.View.{View, with_claim, with_note}
+use Rattle.sx_layout.specs.declared.asked.Wanted.{Wanted}
+use Rattle.sx_layout.specs.declared.asked.Wanted.TheVariants as wanted
 use Rattle.sx_layout.specs.declared.outcome.Outcome.{Outcome}
 use Rattle.sx_layout.specs.declared.outcome.Outcome.TheVariants as outcome
 use Rattle.sx_layout.specs.declared.stage.Next.TheVariants.{On, Decided}
@@ -16,14 +18,12 @@ use Rattle.sx_layout.specs.declared.stage.Stage.{Stage}
 use Rattle.sx_layout.specs.declared.stage.Stage.TheVariants as stage
 use Rattle.sx_layout.specs.Actors.{Actor}
 use Rattle.sx_layout.specs.Deciding.{after_purse}
-use Rattle.sx_layout.specs.Marks.{IsShort, bit_mark, number_of}
-use Rattle.sx_layout.specs.Plan.{Plan, account_place, purse_spot, words_of}
+use Rattle.sx_layout.specs.Asked.{wanted_of}
+use Rattle.sx_layout.specs.Marks.{IsMissed, IsShort}
+use Rattle.sx_layout.specs.Plan.{Plan, words_of}
 use Rattle.sx_layout.specs.Running.{moved}
-use Rattle.sx_layout.proofs.ActorMarks.{ActorKeeps, IsDebited, decide}
-use Rattle.sx_layout.proofs.StageMarks.{debited_marks}
-use Rattle.sx_layout.proofs.ActorMarks.{go_on}
-use Rattle.sx_layout.proofs.ActorMarks.{pending_of}
-use Rattle.sx_layout.proofs.StageMarks.{purse_shard}
+use Rattle.sx_layout.proofs.ActorMarks.{ActorKeeps, IsDebited, decide, go_on, number_mark, pending_of}
+use Rattle.sx_layout.proofs.StageMarks.{debited_marks, wanted_shard}
 use Rattle.sx_ledger.specs.declared.parts.Parts.{Parts}
 use Rattle.sx_tx.specs.declared.tx.Tx.{Tx}
 
@@ -38,39 +38,35 @@ module _ (parts : Parts) (plan : Plan) (one : plan.shards ≡ 1) (state : State)
   purses_now shard = state.purses
 
   module _ (view : View) (tx : Tx) (txs : List Tx) (done : List Outcome) where
-    short : (purse need value : ℕ) → value < need → value ≡ slice_index state.purses purse
-        → value ≤ slice_index (words_of plan.purses 0) purse → (debited : IsDebited parts plan tx purse need)
-        → IsShort parts plan purses_now tx value need
-    short purse need value less now opening is =
-        let spot = purse_spot plan (account_place parts tx.account.0) is.asset in
-        let low : slice_index state.purses spot.word ≤ value =
+    missed : (purse need value : ℕ) → value < need → value ≡ slice_index state.purses purse
+        → value ≤ slice_index (words_of plan.purses 0) purse → IsDebited parts plan tx purse need
+        → IsMissed plan purses_now (wanted_of parts plan tx) value need
+    missed purse need value less now opening is =
+        let low : slice_index state.purses is.spot.word ≤ value =
         subst (λ (w : ℕ). slice_index state.purses w ≤ value) is.at (omega (arith, now)) in
-        let first : value ≤ slice_index (words_of plan.purses 0) spot.word =
+        let first : value ≤ slice_index (words_of plan.purses 0) is.spot.word =
         subst (λ (w : ℕ). value ≤ slice_index (words_of plan.purses 0) w) is.at opening in
-        record {
-          asset = is.asset;
-          debit = is.debits;
+        let shard : is.spot.shard ≡ 0 = wanted_shard parts plan one tx (wanted.Units is.spot need) is.wants in
+        let short : IsShort plan purses_now is.spot value need = record {
           short = less;
           low = low;
-          opening =
-              subst (λ (shard : ℕ). value ≤ slice_index (words_of plan.purses shard) spot.word)
-              (sym (purse_shard parts plan one (account_place parts tx.account.0) is.asset)) first;
-        }
+          opening = subst (λ (k : ℕ). value ≤ slice_index (words_of plan.purses k) is.spot.word) (sym shard) first;
+        } in
+        subst (λ (what : Wanted). IsMissed plan purses_now what value need) (sym is.wants) (refl, short)
 
     pub value_step : (purse need value : ℕ) (at : Stage) (less : Bool) → nat_lt value need ≡ less
         → value ≡ slice_index state.purses purse → value ≤ slice_index (words_of plan.purses 0) purse
-        → IsDebited parts plan tx purse need → pending_of parts plan tx at ≡ bit_mark plan 0 (number_of parts tx)
+        → IsDebited parts plan tx purse need → pending_of parts plan tx at ≡ number_mark parts plan tx
         → Keeps view.claims (at_stage tx txs done at)
         → Keeps view.claims (moved (at_stage tx txs done at)
         (if less then Decided (outcome.Overdraft value need) else On (stage.Take purse need)))
     value_step purse need value at true e now opening is has keeps =
-        let mark = bit_mark plan 0 (number_of parts tx) in
         decide parts plan state.purses state.bits part view.claims view.claims [] tx txs at done
         (outcome.Overdraft value need) keeps
-        (is.passes, short purse need value (ltb-true value need e) now opening is) (sym (append-nil view.claims))
-        (ap (λ (c : List Claim). c ++ []) has ∙ sym (append-nil (mark ++ [])))
+        (is.passes, missed purse need value (ltb-true value need e) now opening is) (sym (append-nil view.claims))
+        (ap (λ (c : List Claim). c ++ []) has)
     value_step purse need value at false e now opening is has keeps =
-        let mark = bit_mark plan 0 (number_of parts tx) in
+        let mark = number_mark parts plan tx in
         go_on parts plan state.purses state.bits part view.claims view.claims [] tx txs at (stage.Take purse need) done
         keeps is (sym (append-nil view.claims))
         (ap (λ (c : List Claim). c ++ []) has ∙ append-nil mark)

@@ -1,6 +1,6 @@
 -- A script closes at words that stand for its outcomes, and so its outcomes are outcomes of gathering.
 use Rattle.std.proofs.Common.{◌≡◌, ℕ, suc, ◌+◌, ◌*◌, ◌<◌, ◌≤◌, List, [], ◌++◌, length, drop}
-use Rattle.std.proofs.Common.{sum_by}
+use Rattle.std.proofs.Common.{Ok, sum_by}
 use Rattle.std.proofs.Common.{refl, sym, ap, subst, ◌∙◌, arith, append-nil}
 use Rattle.std.specs.Prelude.{slice_index}
 use Rattle.std.specs.List.{flat_map}
@@ -13,11 +13,12 @@ use Rattle.sx_event.specs.State.{State, view_of}
 use Rattle.sx_event.specs.View.{View, spent}
 use Rattle.sx_layout.specs.declared.outcome.Outcome.{Outcome}
 use Rattle.sx_layout.specs.Actors.{Actor, actor_of, beginning, part_begin, working}
-use Rattle.sx_layout.specs.Gathering.{decisions}
+use Rattle.sx_layout.specs.Gathering.{IsGathered, body_of, decisions}
 use Rattle.sx_layout.specs.Marks.{Closes, IsClosing, marks}
 use Rattle.sx_layout.specs.Plan.{plan_of, words_of}
-use Rattle.sx_layout.specs.RunGathers.{RunGathers}
-use Rattle.sx_layout.specs.RunKeeps.{IsSetting, Setting}
+use Rattle.sx_layout.specs.Room.{room_for}
+use Rattle.sx_layout.specs.RunKeeps.{IsOneShard}
+use Rattle.sx_layout.specs.Setting.{Setting}
 use Rattle.sx_layout.specs.Running.{Run, after_turns, closing_run, opening_run, outcomes_of_run}
 use Rattle.sx_layout.proofs.ClosingLaw.{closing_gathers}
 use Rattle.sx_layout.proofs.DecidedPairs.{AreDecided, decided_at, decided_length}
@@ -26,7 +27,11 @@ use Rattle.sx_layout.proofs.PartLists.{all_parts, joined, joined_flat, sum_of, s
 use Rattle.sx_layout.proofs.RunEnds.{all_empty, ends_many, turns_many}
 use Rattle.sx_layout.proofs.RunHolds.{RunHolds, ends_hold, turns_hold}
 use Rattle.sx_layout.proofs.RunOpens.{opening_holds, part_of}
+use Rattle.sx_layout.specs.Scripts.{most_actors}
+use Rattle.sx_ledger.specs.declared.parts.Parts.{Parts}
+use Rattle.sx_ledger.specs.Ledger.{IsLedger}
 use Rattle.sx_tx.specs.declared.tx.Tx.{Tx}
+use Rattle.sx_tx.specs.Transactions.{IsTxList}
 use Rattle.sx_layout.proofs.RunDone.{IsDone, all_decided, all_marks, is_done}
 
 -- ---- the parts of the candidates
@@ -47,7 +52,7 @@ parts_join candidates n some =
 
 -- ---- the words at the end
 
-module _ (s : Setting) (is : IsSetting s) (n : ℕ) (some : 1 ≤ n) (run : Run) (many : length run.actors ≡ n)
+module _ (s : Setting) (is : IsOneShard s) (n : ℕ) (some : 1 ≤ n) (run : Run) (many : length run.actors ≡ n)
     (holds : RunHolds s (part_of s.candidates n) run)
     (empty : (k : ℕ) → k < n → (actor_of run.actors k).left ≡ []) where
   abbrev state : State
@@ -111,10 +116,14 @@ module _ (s : Setting) (is : IsSetting s) (n : ℕ) (some : 1 ≤ n) (run : Run)
 
 -- ---- the law
 
-pub run_gathers : RunGathers
+-- whatever the actors and the order of their turns
+pub run_gathers : (parts : Parts) (candidates : List Tx) (actors : ℕ) (turns : List ℕ) → IsLedger parts
+    → IsTxList candidates → room_for parts candidates ≡ Ok tt → actors ≤ most_actors
+    → IsGathered parts candidates (outcomes_of_run parts candidates actors turns)
+    (body_of (decisions candidates (outcomes_of_run parts candidates actors turns)))
 run_gathers parts candidates actors turns ledger form room few =
     let s : Setting = record { parts = parts; candidates = candidates; plan = plan_of parts candidates 1 } in
-    let is : IsSetting s = record {
+    let is : IsOneShard s = record {
       laid_out = record {
         ledger = ledger;
         few_candidates = form.few;

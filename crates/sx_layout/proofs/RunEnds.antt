@@ -8,7 +8,8 @@ use Rattle.sx_event.specs.State.{view_of}
 use Rattle.sx_layout.specs.Actors.{Actor, actor_of, beginning}
 use Rattle.sx_layout.specs.Plan.{Plan}
 use Rattle.sx_layout.specs.Running.{Run, acted, after_own, after_turns, all_to_end, own_turn, to_end, turn}
-use Rattle.sx_layout.specs.RunKeeps.{IsSetting, Setting}
+use Rattle.sx_layout.specs.RunKeeps.{IsOneShard}
+use Rattle.sx_layout.specs.Setting.{Setting}
 use Rattle.sx_layout.proofs.RunHolds.{RunHolds, ends_hold, own_turns_hold}
 use Rattle.sx_layout.proofs.TurnsLeft.{acted_less, none_left, three_each, turns_left}
 use Rattle.sx_ledger.specs.declared.parts.Parts.{Parts}
@@ -73,7 +74,7 @@ module _ (parts : Parts) (plan : Plan) where
   ends_many zero run = refl
   ends_many (suc n) run = own_many n _ (all_to_end parts plan n run) ∙ ends_many n run
 
-module _ (s : Setting) (is : IsSetting s) (form : All IsTx s.candidates) (part : ℕ → List Tx) where
+module _ (s : Setting) (is : IsOneShard s) (form : All IsTx s.candidates) (part : ℕ → List Tx) where
   less_each : (name n : ℕ) (run : Run) → name < length run.actors → RunHolds s part run
       → left_of (after_own s.parts s.plan name n run) name ≤ left_of run name - n
   less_each name zero run within holds = omega arith

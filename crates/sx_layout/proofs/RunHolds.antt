@@ -10,7 +10,8 @@ use Rattle.sx_event.specs.State.{view_of}
 use Rattle.sx_event.specs.View.{View}
 use Rattle.sx_layout.specs.Actors.{Actor, actor_of, beginning}
 use Rattle.sx_layout.specs.Running.{Run, acted, after_own, after_turns, all_to_end, own_turn, turn}
-use Rattle.sx_layout.specs.RunKeeps.{IsSetting, RunFits, Setting}
+use Rattle.sx_layout.specs.RunKeeps.{IsOneShard, RunFits}
+use Rattle.sx_layout.specs.Setting.{Setting}
 use Rattle.sx_layout.proofs.ActorMarks.{ActorKeeps}
 use Rattle.sx_layout.proofs.ActorTurn.{turned}
 use Rattle.sx_layout.proofs.LaterWords.{keeps_later}
@@ -29,7 +30,7 @@ pub record RunHolds (s : Setting) (part : ℕ → List Tx) (run : Run) : Type 0 
       → ActorKeeps s.parts s.plan run.state.purses run.state.bits (view_of run.state k).claims (part k)
       (actor_of run.actors k)
 
-module _ (s : Setting) (is : IsSetting s) (form : All IsTx s.candidates) (part : ℕ → List Tx) where
+module _ (s : Setting) (is : IsOneShard s) (form : All IsTx s.candidates) (part : ℕ → List Tx) where
   own_holds : (name : ℕ) (run : Run) → name < length run.actors → RunHolds s part run
       → RunHolds s part (own_turn s.parts s.plan name run)
   own_holds name run within holds =

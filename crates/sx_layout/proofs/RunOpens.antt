@@ -16,7 +16,7 @@ use Rattle.sx_event.proofs.Runs.{begun_keeps}
 use Rattle.sx_layout.specs.Actors.{Actor, after_splits, all_starting, part_begin, starting}
 use Rattle.sx_layout.specs.Plan.{Plan, words_of}
 use Rattle.sx_layout.specs.Running.{opening_run}
-use Rattle.sx_layout.specs.RunKeeps.{Setting}
+use Rattle.sx_layout.specs.Setting.{Setting}
 use Rattle.sx_layout.proofs.ActorMarks.{ActorKeeps, number_first, number_pending}
 use Rattle.sx_layout.proofs.Openings.{how_many, opening_fits, split_allowed, splits_fit, starting_at}
 use Rattle.sx_layout.proofs.OwnStep.{OpensAs}

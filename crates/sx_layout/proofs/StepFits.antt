@@ -33,7 +33,8 @@ use Rattle.sx_layout.specs.Deciding.{after_claim, after_purse, after_value, foll
 use Rattle.sx_layout.specs.Deciding.{what_follows}
 use Rattle.sx_layout.specs.Plan.{Plan, words_of}
 use Rattle.sx_layout.specs.Running.{acted_at, moved, passed, ready, ready_at}
-use Rattle.sx_layout.specs.RunKeeps.{ActorFits, IsClaim, IsNeed, IsSecond, Setting, StageFits, WordsStay}
+use Rattle.sx_layout.specs.RunKeeps.{ActorFits, IsClaim, IsNeed, IsSecond, StageFits, WordsStay}
+use Rattle.sx_layout.specs.Setting.{Setting}
 use Rattle.sx_ledger.specs.declared.parts.Parts.{Parts}
 use Rattle.sx_ledger.specs.declared.places.Places.{Places}
 use Rattle.sx_ledger.specs.declared.statics.Static.{Static}

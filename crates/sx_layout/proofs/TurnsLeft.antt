@@ -19,7 +19,8 @@ use Rattle.sx_layout.specs.declared.stage.Next.TheVariants.{On, Decided}
 use Rattle.sx_layout.specs.declared.stage.Stage.{Stage}
 use Rattle.sx_layout.specs.declared.stage.Stage.TheVariants as stage
 use Rattle.sx_layout.specs.Actors.{Actor}
-use Rattle.sx_layout.specs.Deciding.{after_claim, after_purse, next_event, second, second_of, too_late, what_follows}
+use Rattle.sx_layout.specs.Asked.{wanted_by}
+use Rattle.sx_layout.specs.Deciding.{after_claim, after_purse, next_event, second, stage_of, too_late, what_follows}
 use Rattle.sx_layout.specs.Plan.{Plan}
 use Rattle.sx_layout.specs.Running.{acted, acted_at, moved, passed, ready, ready_at}
 use Rattle.sx_layout.proofs.PassingOver.{by_test}
@@ -121,7 +122,7 @@ claim_less new name most clear taken false first second = first
 
 module _ (parts : Parts) (plan : Plan) (state : State) (name : ℕ) (live : (view_of state name).live ≡ true) where
   second_less : (new : State) (account : ℕ) (of : Kind) →
-      suc (stage_turns new name (second_of parts plan account of)) ≤ 3
+      suc (stage_turns new name (stage_of (wanted_by parts plan account of))) ≤ 3
   second_less new account (kind.Pay to asset amount) = omega arith
   second_less new account (kind.Create id) = omega arith
   second_less new account (kind.Offer sell buy limit amount) = omega arith

@@ -7,7 +7,8 @@ use Rattle.sx_layout.specs.declared.stage.Stage.{Stage}
 use Rattle.sx_layout.specs.declared.stage.Stage.TheVariants as stage
 use Rattle.sx_layout.specs.Deciding.{follows, next_event, second, what_follows}
 use Rattle.sx_layout.specs.Plan.{words_of}
-use Rattle.sx_layout.specs.RunKeeps.{IsClaim, IsSecond, Setting}
+use Rattle.sx_layout.specs.RunKeeps.{IsClaim, IsSecond}
+use Rattle.sx_layout.specs.Setting.{Setting}
 use Rattle.sx_ledger.specs.declared.parts.Parts.{Parts}
 use Rattle.sx_ledger.specs.declared.places.Places.{Places}
 use Rattle.sx_ledger.specs.Places.{ArePlaces}

@@ -1,13 +1,14 @@
 -- What gathering makes of candidates: an outcome for each, and a body. Where candidates exclude each other, it is free
 -- which of them is accepted.
-use Rattle.std.specs.Prelude.{◌≡◌, ◌≢◌, ℕ, ◌-◌, ◌<◌, ◌≤◌, Bool, true, false, List, [], ◌∷◌, length, Some, Ok, Err}
+use Rattle.std.specs.Prelude.{◌≡◌, ◌≢◌, ◌↔◌, ℕ, ◌-◌, ◌<◌, ◌≤◌, Bool, true, false, List, [], ◌∷◌, length, Some, Ok, Err}
 use Rattle.std.specs.Prelude.{slice_get, Contains, if◌then◌else◌}
 use Rattle.sx_layout.specs.declared.outcome.Outcome.{Outcome}
 use Rattle.sx_layout.specs.declared.outcome.Outcome.TheVariants as outcome
 use Rattle.sx_ledger.specs.declared.key.Key.{Key}
 use Rattle.sx_ledger.specs.declared.parts.Parts.{Parts}
+use Rattle.sx_ledger.specs.declared.statics.Static.{Static}
 use Rattle.sx_ledger.specs.Body.{IsAdmissible, cancelled_by, created_by, holding_of, tx_before}
-use Rattle.sx_ledger.specs.Effects.{debit, debits}
+use Rattle.sx_ledger.specs.Effects.{Posting, debit, debits}
 use Rattle.sx_ledger.specs.Static.{static_of}
 use Rattle.sx_tx.specs.declared.tx.Tx.{Tx}
 
@@ -121,3 +122,40 @@ pub record IsGathered (parts : Parts) (candidates : List Tx) (outcomes : List Ou
   pub shows : (place : ℕ) (one : Decision) → slice_get (decisions candidates outcomes) place ≡ Some one
       → Shows parts (decisions candidates outcomes) body place one.tx one.outcome
   pub once : NumbersOnce (decisions candidates outcomes)
+
+-- ---- laws
+
+-- a body is no longer than the list of the candidates
+abbrev pub BodyIsNoLonger : Type 0
+BodyIsNoLonger =
+    (candidates : List Tx) (outcomes : List Outcome)
+    → length (body_of (decisions candidates outcomes)) ≤ length candidates
+
+-- nothing stands in the way of the candidate at this place: the ledger passes it, no other candidate has its account and
+-- number, the body leaves as much as it debits, and no other transaction of the body cancels its offer or creates its id
+pub record IsFree (parts : Parts) (list : List Decision) (body : List Tx) (place : ℕ) (tx : Tx) : Type 0 where
+  pub passes : static_of parts tx ≡ Ok tt
+  pub number : (other : ℕ) (one : Decision) → slice_get list other ≡ Some one → other ≢ place
+      → one.tx.account.0 ≡ tx.account.0 → one.tx.seq ≢ tx.seq
+  pub covered : (posting : Posting) → debit tx ≡ Some posting
+      → posting.units
+      ≤ holding_of parts.accounts posting.account posting.asset - debits body posting.account posting.asset
+  pub offer : (key : Key) (other : Tx) → cancelled_by tx tx.kind ≡ Some key → Contains body other
+      → cancelled_by other other.kind ≡ Some key → other ≡ tx
+  pub id : (id : ℕ) (other : Tx) → created_by tx.kind ≡ Some id → Contains body other
+      → created_by other.kind ≡ Some id → other ≡ tx
+
+-- such a candidate is accepted
+abbrev pub FreeIsAccepted : Type 0
+FreeIsAccepted =
+    (parts : Parts) (candidates : List Tx) (outcomes : List Outcome) (body : List Tx) (place : ℕ) (one : Decision)
+    → IsGathered parts candidates outcomes body → slice_get (decisions candidates outcomes) place ≡ Some one
+    → IsFree parts (decisions candidates outcomes) body place one.tx → one.outcome ≡ outcome.Accepted
+
+-- a candidate has a static refusal exactly where the ledger gives it this one
+abbrev pub StaticIsExact : Type 0
+StaticIsExact =
+    (parts : Parts) (candidates : List Tx) (outcomes : List Outcome) (body : List Tx) (place : ℕ) (one : Decision)
+    (why : Static)
+    → IsGathered parts candidates outcomes body → slice_get (decisions candidates outcomes) place ≡ Some one
+    → (one.outcome ≡ outcome.Static why) ↔ (static_of parts one.tx ≡ Err why)

@@ -8,13 +8,15 @@ pub mod Dealing
 pub mod NewIds
 pub mod Plan
 pub mod PlanLaws
+pub mod Asked
+pub mod AskedLaws
 pub mod Actors
 pub mod Deciding
 pub mod Running
+pub mod Setting
 pub mod RunKeeps
 pub mod Ahead
 pub mod RunOf
 pub mod RunForm
 pub mod Gathering
 pub mod Marks
-pub mod RunGathers

@@ -11,9 +11,9 @@ use Rattle.sx_layout.specs.Outcomes.{most_outcomes}
 use Rattle.sx_ledger.specs.declared.statics.Static.{Static}
 use Rattle.sx_ledger.specs.declared.statics.Static.TheVariants.{UnknownAccount, SeqBehind, SeqBeyond, UnknownAsset}
 use Rattle.sx_ledger.specs.declared.statics.Static.TheVariants.{SamePair, UnknownPayee, AccountExists, NoSuchOffer}
-use Rattle.sx_ledger.specs.declared.statics.Static.TheVariants.{Dust}
+use Rattle.sx_ledger.specs.declared.statics.Static.TheVariants.{Dust, SeqUsed}
 
--- the static refusal of a number from 1 to 9
+-- the static refusal of a number from 1 to 10
 abbrev pub static_numbered : ℕ → Static
 static_numbered n =
     if n == 1 then UnknownAccount else
@@ -23,11 +23,12 @@ static_numbered n =
     (if n == 5 then SamePair else
     (if n == 6 then UnknownPayee else
     (if n == 7 then AccountExists else
-    (if n == 8 then NoSuchOffer else Dust)))))))
+    (if n == 8 then NoSuchOffer else
+    (if n == 9 then Dust else SeqUsed))))))))
 
 unfoldable pub static_at : Cursor → Result (Outcome × Cursor) FormFault
 static_at c = do
-  number ← field_at 1 (between 1 9) form.Tag c
+  number ← field_at 1 (between 1 10) form.Tag c
   Ok (outcome.Static (static_numbered number.0), number.1)
 
 -- what was seen, and an amount above it that was needed

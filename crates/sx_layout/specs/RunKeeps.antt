@@ -11,16 +11,11 @@ use Rattle.sx_layout.specs.Actors.{Actor, actor_of}
 use Rattle.sx_layout.specs.Plan.{Plan, plan_of, words_of}
 use Rattle.sx_layout.specs.PlanLaws.{IsLaidOut}
 use Rattle.sx_layout.specs.Running.{Run}
-use Rattle.sx_ledger.specs.declared.parts.Parts.{Parts}
+use Rattle.sx_layout.specs.Setting.{Setting}
 use Rattle.sx_tx.specs.declared.tx.Tx.{Tx}
 
--- a ledger, the candidates, and where all their words are, in one shard
-pub record Setting : Type 0 where
-  pub parts : Parts
-  pub candidates : List Tx
-  pub plan : Plan
-
-pub record IsSetting (setting : Setting) : Type 0 where
+-- all words are in one shard, as a script wants them
+pub record IsOneShard (setting : Setting) : Type 0 where
   pub laid_out : IsLaidOut setting.parts setting.candidates 1
   pub plan : setting.plan ≡ plan_of setting.parts setting.candidates 1
 

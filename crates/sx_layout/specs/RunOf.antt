@@ -2,7 +2,8 @@
 use Rattle.std.specs.Prelude.{List}
 use Rattle.sx_event.specs.State.{State}
 use Rattle.sx_layout.specs.Actors.{Actor}
-use Rattle.sx_layout.specs.RunKeeps.{RunFits, Setting}
+use Rattle.sx_layout.specs.RunKeeps.{RunFits}
+use Rattle.sx_layout.specs.Setting.{Setting}
 use Rattle.sx_layout.specs.Running.{Run}
 
 abbrev pub run_of : State → List Actor → Run

@@ -9,7 +9,7 @@ ghost use Rattle.sx_layout.specs.RunOf.{Fit, run_of};
 
 use crate::deciding::follows;
 use crate::hand::Hand;
-use crate::setting::Setting;
+use crate::one_shard::OneShard;
 use sx_bytes::NoMemory;
 use sx_event::{Core, Event, Step};
 
@@ -29,7 +29,7 @@ pub fn step(core: &mut Core, name: u32, event: Event) -> Result<Step, NoMemory>
 }
 
 /// A turn of the actor whose view has this name. It may answer `NoMemory`.
-pub fn act(setting: &Setting, core: &mut Core, name: u32, hand: &mut Hand) -> Result<(), NoMemory>
+pub fn act(setting: &OneShard, core: &mut Core, name: u32, hand: &mut Hand) -> Result<(), NoMemory>
     requires words { WordsStay setting.now.plan core.old.state }
     requires fits { ActorFits setting.now.candidates core.old.state name hand.old }
     ensures exact { OnOk result ((core.new.state, hand.new) ≡ acted setting.now.parts setting.now.plan core.old.state name hand.old) }
@@ -48,7 +48,7 @@ pub fn act(setting: &Setting, core: &mut Core, name: u32, hand: &mut Hand) -> Re
 }
 
 // A turn of this name, which need not be an actor's.
-fn turn(setting: &Setting, core: &mut Core, hands: &mut [Hand], name: u32) -> Result<(), NoMemory>
+fn turn(setting: &OneShard, core: &mut Core, hands: &mut [Hand], name: u32) -> Result<(), NoMemory>
     requires { Fit setting.now core.old.state hands.old }
     ensures exact { OnOk result (run_of core.new.state hands.new ≡ the_turn setting.now.parts setting.now.plan name (run_of core.old.state hands.old)) }
     ensures fit { OnOk result (Fit setting.now core.new.state hands.new) }
@@ -61,7 +61,7 @@ fn turn(setting: &Setting, core: &mut Core, hands: &mut [Hand], name: u32) -> Re
 
 /// All turns of a script. It may answer `NoMemory`.
 pub fn all_turns(
-    setting: &Setting,
+    setting: &OneShard,
     core: &mut Core,
     hands: &mut [Hand],
     turns: &[u8],
@@ -78,7 +78,7 @@ pub fn all_turns(
 
 // So many turns of one actor.
 fn own_turns(
-    setting: &Setting,
+    setting: &OneShard,
     core: &mut Core,
     hands: &mut [Hand],
     name: u32,
@@ -95,7 +95,12 @@ fn own_turns(
 }
 
 // An actor runs to its end.
-fn to_end(setting: &Setting, core: &mut Core, hands: &mut [Hand], name: u32) -> Result<(), NoMemory>
+fn to_end(
+    setting: &OneShard,
+    core: &mut Core,
+    hands: &mut [Hand],
+    name: u32,
+) -> Result<(), NoMemory>
     requires name { name < length hands.old }
     requires fit { Fit setting.now core.old.state hands.old }
     ensures exact { OnOk result (run_of core.new.state hands.new ≡ at_end setting.now.parts setting.now.plan name (run_of core.old.state hands.old)) }
@@ -106,7 +111,7 @@ fn to_end(setting: &Setting, core: &mut Core, hands: &mut [Hand], name: u32) -> 
 }
 
 /// All actors run to their ends, one after the other. It may answer `NoMemory`.
-pub fn all_to_end(setting: &Setting, core: &mut Core, hands: &mut [Hand]) -> Result<(), NoMemory>
+pub fn all_to_end(setting: &OneShard, core: &mut Core, hands: &mut [Hand]) -> Result<(), NoMemory>
     requires few { length hands.old ≤ 8 }
     requires fit { Fit setting.now core.old.state hands.old }
     ensures exact { OnOk result (run_of core.new.state hands.new ≡ all_at_end setting.now.parts setting.now.plan (length hands.old) (run_of core.old.state hands.old)) }

@@ -8,8 +8,8 @@ ghost use Rattle.sx_layout.specs.Running.{moved, passed, ready};
 ghost use Rattle.sx_ledger.specs.Places.{ArePlaces};
 ghost use Rattle.sx_ledger.specs.Static.{static_of};
 
+use crate::one_shard::OneShard;
 use crate::outcome::Outcome;
-use crate::setting::Setting;
 use crate::stage::{Ahead, Next, Stage};
 use std::alloc::Global;
 use std::marker::Model;
@@ -40,7 +40,7 @@ impl<'a> Model for Hand<'a> {
 // Passes over the first candidates that the ledger refuses. It answers those that are left, and where
 // the first of them has its places.
 fn pass_over<'a>(
-    setting: &Setting,
+    setting: &OneShard,
     near: u32,
     left: &'a [Tx],
     done: &mut Vec<Outcome>,
@@ -50,7 +50,7 @@ fn pass_over<'a>(
     ensures own { IfOk result (λ found. All (Contains setting.now.candidates) left.now → All (Contains setting.now.candidates) found.0.now) }
 {
     for (at, tx) in left.iter().enumerate() {
-        match setting.places_of(near, tx) {
+        match setting.setting.places_of(near, tx) {
             Ok(places) => return Ok((&left[at..], Some(places))),
             Err(why) => done.push(Outcome::Static(why))?,
         }
@@ -58,28 +58,15 @@ fn pass_over<'a>(
     Ok((&left[left.len()..], None))
 }
 
-// What comes for a candidate that passes the static test, from its number on.
-fn number_ahead(setting: &Setting, tx: &Tx, places: &Places) -> Ahead
-    requires own { Contains setting.now.candidates tx.now }
-    requires passes { static_of setting.now.parts tx.now ≡ Ok tt }
-    requires places { ArePlaces setting.now.parts tx.now places.now }
-    ensures { IsAhead setting.now Stage.Number tx.now result }
-{
-    Ahead {
-        of: tx.kind,
-        event: setting.number_claim(tx, places.account),
-        second: setting.second(tx, places),
-    }
-}
-
-// The same for the first of these candidates, of which these are the places.
-fn first_ahead(setting: &Setting, left: &[Tx], places: &Places) -> Option<Ahead>
+// What comes for the first of these candidates, which passes the static test and of which these are the
+// places, from its number on.
+fn first_ahead(setting: &OneShard, left: &[Tx], places: &Places) -> Option<Ahead>
     requires own { All (Contains setting.now.candidates) left.now }
     requires passes { FirstPasses setting.now.parts left.now places.now }
     ensures { MatchOption result (left.now ≡ []) (IsNext setting.now Stage.Number left.now) }
 {
     let tx = left.first()?;
-    Some(number_ahead(setting, tx, places))
+    Some(setting.ahead(tx, places))
 }
 
 impl<'a> Hand<'a> {
@@ -130,7 +117,7 @@ impl<'a> Hand<'a> {
     }
 
     // The same at a candidate's number, once the actor has passed over what the ledger refuses.
-    fn ahead_at_number(&mut self, setting: &Setting) -> Result<Option<Ahead>, NoMemory>
+    fn ahead_at_number(&mut self, setting: &OneShard) -> Result<Option<Ahead>, NoMemory>
         requires stage { self.old.stage ≡ Stage.Number }
         requires own { All (Contains setting.now.candidates) self.old.left }
         ensures actor { OnOk result (self.new ≡ ready setting.now.parts self.old) }
@@ -150,7 +137,7 @@ impl<'a> Hand<'a> {
 
     /// Makes the actor ready for its turn, and answers what it is about to do, or `None` where no candidate
     /// is left. It may answer `NoMemory`.
-    pub fn ahead(&mut self, setting: &Setting) -> Result<Option<Ahead>, NoMemory>
+    pub fn ahead(&mut self, setting: &OneShard) -> Result<Option<Ahead>, NoMemory>
         requires { All (Contains setting.now.candidates) self.old.left }
         ensures actor { OnOk result (self.new ≡ ready setting.now.parts self.old) }
         ensures ahead { IfOk result (λ found. MatchOption found (self.new.left ≡ []) (IsNext setting.now self.new.stage self.new.left)) }

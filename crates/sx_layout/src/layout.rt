@@ -2,6 +2,7 @@
 
 ghost use Rattle.std.specs.Prelude.{◌≡◌, ◌≤◌, ◌<◌, length, IfOk};
 ghost use Rattle.sx_layout.specs.Plan.{plan_of, purse_spot, window_spot, window_words, offer_words, bit_spot, offer_spot, name_spot, name_found, words_of};
+ghost use Rattle.sx_layout.specs.PlanLaws.{IsLaidOut};
 ghost use Rattle.sx_ledger.specs.Ledger.{assets_of};
 ghost use Rattle.sx_tx.specs.Transactions.{most_transactions};
 
@@ -71,7 +72,8 @@ impl Layout {
         requires candidates { length candidates.now ≤ most_transactions }
         requires some_shard { 1 ≤ shards }
         requires few_shards { shards ≤ 64 }
-        ensures { IfOk result (λ layout. layout ≡ plan_of ledger.now candidates.now shards) }
+        ensures plan { IfOk result (λ layout. layout ≡ plan_of ledger.now candidates.now shards) }
+        ensures laid_out { IfOk result (λ layout. IsLaidOut ledger.now candidates.now shards) }
     {
         let names = new_ids(alloc, candidates)?;
         let purses = all_purses(alloc, ledger, shards)?;
@@ -85,6 +87,13 @@ impl Layout {
             purses,
             bits,
         })
+    }
+
+    /// The number of shards.
+    pub fn shards(&self) -> u32
+        ensures { result ≡ self.now.shards }
+    {
+        self.shards
     }
 
     /// The purse of the balance that the account at a place has of an asset. Its `word` counts among the

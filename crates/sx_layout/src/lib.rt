@@ -16,27 +16,35 @@
 //! number, each offer and each new id is a bit, at a [`Spot`]. [`layout_laws`] says that no two of them
 //! share a purse or a bit, that each has a word, and what the words are at the opening.
 //!
+//! A [`Setting`] is a layout with its ledger and its candidates: [`Setting::asked`] tells the words that a
+//! candidate asks for, its number's bit and then a bit or an amount out of a purse, on any number of
+//! shards. [`asked_laws`] says that they are there and that the bits are clear at the opening.
+//!
 //! `specs/Gathering` says which outcomes and which body are those of a gathering, and `specs/Marks`
 //! which claims decided candidates leave in a shard. [`closing_law`] ties the two: where the closing
 //! words, these claims and the opening words add up, and each refusal is one that the closing words
 //! show, the outcomes are those of a gathering. It speaks of lists alone, whoever made the steps.
+//! [`marks_laws`] says how the claims grow, and [`gathering_laws`] which candidates have to be accepted
+//! and that a body is no longer than the candidates.
 //!
 //! [`run_script`] gathers candidates by 1 to 8 actors that take turns as a script says, on one thread.
 //! `specs/Running` says what each turn does and what is left to do after the last one, and the outcomes
-//! are exactly those. [`gathering_law`] says that they are those of a gathering, whatever the actors and
-//! the order of their turns, and [`run_laws`] that they can be encoded.
+//! are exactly those. They can be encoded, and they are those of a gathering, whatever the actors and the
+//! order of their turns: its own contract says so.
 //!
 //! Not here: actors that run at the same time. Nothing says which of two candidates that exclude each
 //! other is accepted.
 #![tactic(auto)]
 
 mod acting;
+mod asked;
 mod deciding;
 mod fault;
 mod hand;
 mod laws;
 mod layout;
 mod new_ids;
+mod one_shard;
 mod opening;
 mod outcome;
 mod outcome_reading;
@@ -51,15 +59,20 @@ mod space;
 mod spot;
 mod stage;
 
-pub use laws::{closing_law, layout_laws, outcome_laws, outcome_list_laws, script_laws};
+pub use asked::{Asked, Wanted};
+pub use laws::{
+    asked_laws, closing_law, gathering_laws, layout_laws, marks_laws, outcome_laws,
+    outcome_list_laws, script_laws,
+};
 pub use layout::Layout;
 pub use outcome::{MOST_OUTCOMES, Outcome, Outcomes};
 pub use outcome_reading::read_outcomes;
 pub use outcome_writing::write_outcomes;
-pub use run_form::{gathering_law, run_laws};
+pub use run_form::run_laws;
 pub use running::run_script;
 pub use script::{MOST_ACTORS, MOST_TURNS, Script};
 pub use script_reading::read_script;
 pub use script_writing::write_script;
+pub use setting::Setting;
 pub use space::{NoRoom, room};
 pub use spot::Spot;

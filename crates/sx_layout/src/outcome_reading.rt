@@ -13,7 +13,7 @@ use sx_base::Amount;
 use sx_bytes::{Form, FormFault, ReadError, Reader};
 use sx_ledger::Static;
 
-// The static refusal of a number from 1 to 9.
+// The static refusal of a number from 1 to 10.
 #[inline]
 fn refusal(number: u8) -> Static
     ensures { result ≡ static_numbered number }
@@ -27,7 +27,8 @@ fn refusal(number: u8) -> Static
         6 => Static::UnknownPayee,
         7 => Static::AccountExists,
         8 => Static::NoSuchOffer,
-        _ => Static::Dust,
+        9 => Static::Dust,
+        _ => Static::SeqUsed,
     }
 }
 
@@ -38,7 +39,7 @@ fn refused(from: &mut Reader) -> Result<Outcome, FormFault>
     ensures same { from.new.bytes ≡ from.old.bytes }
     ensures onward { from.old.place ≤ from.new.place }
 {
-    let number = from.field_u8(1, 9, Form::Tag)?;
+    let number = from.field_u8(1, 10, Form::Tag)?;
     Ok(Outcome::Static(refusal(number)))
 }
 
@@ -109,7 +110,7 @@ fn whole(alloc: Global, payload: &[u8]) -> Result<Outcomes, ReadError>
 /// `NoMemory`, which may come in place of any other answer.
 ///
 /// The faults are `TooMany` of a count above `MOST_OUTCOMES`, `Tag` at a byte that is no outcome's
-/// number, 0 to 5, or no static refusal's, 1 to 9, `AmountRange` of what an overdraft saw, where it is
+/// number, 0 to 5, or no static refusal's, 1 to 10, `AmountRange` of what an overdraft saw, where it is
 /// above `2^62`, or of what it needed, where that is not above what it saw or is above `2^62`, `Short`
 /// where a field passes the end, and `Rest` at the first byte after the last outcome.
 pub fn read_outcomes(alloc: Global, payload: &[u8]) -> Result<Outcomes, ReadError>

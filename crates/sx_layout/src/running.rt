@@ -1,17 +1,20 @@
 //! Running a script.
 
-ghost use Rattle.std.specs.Prelude.{◌≡◌, ◌<◌, ◌≤◌, length, max, IfOk, OnOk};
+ghost use Rattle.std.specs.Prelude.{◌≡◌, ◌<◌, ◌≤◌, length, max, IfOk, OnOk, Ok};
 ghost use Rattle.std.specs.List.{flat_map};
 ghost use Rattle.sx_layout.specs.Actors.{working as at_work, part_begin as the_begin, starting, all_starting};
+ghost use Rattle.sx_layout.specs.Gathering.{IsGathered, body_of, decisions};
+ghost use Rattle.sx_layout.specs.Outcomes.{AreOutcomes};
+ghost use Rattle.sx_layout.specs.Room.{room_for};
 ghost use Rattle.sx_layout.specs.Running.{after_turns, all_to_end as all_at_end, opening_run, outcomes_of_run};
 ghost use Rattle.sx_layout.specs.RunOf.{Fit, run_of};
 ghost use Rattle.sx_layout.specs.Scripts.{most_actors};
-ghost use Rattle.sx_tx.specs.Transactions.{most_transactions};
+ghost use Rattle.sx_tx.specs.Transactions.{IsTxList, most_transactions};
 
 use crate::acting::{all_to_end, all_turns, step};
 use crate::hand::Hand;
+use crate::one_shard::OneShard;
 use crate::outcome::Outcomes;
-use crate::setting::Setting;
 use std::alloc::Global;
 use sx_bytes::NoMemory;
 use sx_event::{Core, Event};
@@ -38,7 +41,7 @@ fn part_begin(count: u32, n: u32, k: u32) -> u32
 }
 
 // The core before the first turn, with a view for each of the actors.
-fn opening_core(alloc: Global, setting: &Setting, count: u32, n: u32) -> Result<Core, NoMemory>
+fn opening_core(alloc: Global, setting: &OneShard, count: u32, n: u32) -> Result<Core, NoMemory>
     requires count { count ≡ length setting.now.candidates }
     requires few_candidates { count ≤ most_transactions }
     requires some { 1 ≤ n }
@@ -82,7 +85,12 @@ fn all_hands<'a>(alloc: Global, candidates: &'a [Tx], n: u32) -> Result<Vec<Hand
 }
 
 // All turns, and then what is left to do.
-fn run(setting: &Setting, core: &mut Core, hands: &mut [Hand], turns: &[u8]) -> Result<(), NoMemory>
+fn run(
+    setting: &OneShard,
+    core: &mut Core,
+    hands: &mut [Hand],
+    turns: &[u8],
+) -> Result<(), NoMemory>
     requires few { length hands.old ≤ 8 }
     requires fit { Fit setting.now core.old.state hands.old }
     ensures { OnOk result (run_of core.new.state hands.new ≡ all_at_end setting.now.parts setting.now.plan (length hands.old) (after_turns setting.now.parts setting.now.plan turns.now (run_of core.old.state hands.old))) }
@@ -120,9 +128,15 @@ pub fn run_script(
     requires few_candidates { length candidates.now ≤ most_transactions }
     requires some_actor { 1 ≤ actors }
     requires few_actors { actors ≤ most_actors }
+    // They are those that the turns lead to.
     ensures exact { IfOk result (λ outcomes. outcomes ≡ outcomes_of_run ledger.now candidates.now actors turns.now) }
+    // They can be encoded.
+    ensures form { IsTxList candidates.now → IfOk result AreOutcomes }
+    // Where the ledger has room for the candidates, they and the body of the accepted ones are those of a gathering.
+    ensures gathers { IsTxList candidates.now → room_for ledger.now candidates.now ≡ Ok tt →
+        IfOk result (λ outcomes. IsGathered ledger.now candidates.now outcomes (body_of (decisions candidates.now outcomes))) }
 {
-    let setting = Setting::new(alloc, ledger, candidates)?;
+    let setting = OneShard::new(alloc, ledger, candidates)?;
     let count = candidates.len() as u32;
     let n = working(actors, count);
     let mut core = opening_core(alloc, &setting, count, n)?;

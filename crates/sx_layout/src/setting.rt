@@ -1,28 +1,32 @@
-//! What stays the same while a script runs: the ledger, the candidates, and where their words are.
+//! A ledger, the candidates, and where all their words are.
 
 ghost use Rattle.std.specs.Prelude.{◌≡◌, ◌-◌, ◌≤◌, ◌<◌, length, slice_get, Contains, IfOk, OnOk, IfErr, Ok, Err, Some};
-ghost use Rattle.sx_event.specs.State.{begun};
-ghost use Rattle.sx_layout.specs.Deciding.{number_claim as the_claim, second as the_second, look_at, name_at, offer_place};
-ghost use Rattle.sx_layout.specs.Plan.{plan_of, place_in, offer_spot, name_spot, words_of};
-ghost use Rattle.sx_layout.specs.RunKeeps.{IsClaim, IsSecond};
+ghost use Rattle.sx_layout.specs.Asked.{number_spot, wanted_of, purse_wanted, bit_wanted, IsBitSpot, IsWanted, IsSomeUnits};
+ghost use Rattle.sx_layout.specs.AskedLaws.{AreThere};
+ghost use Rattle.sx_layout.specs.Plan.{plan_of, place_in, offer_place, offer_spot, name_spot, words_of};
+ghost use Rattle.sx_layout.specs.PlanLaws.{IsLaidOut};
 ghost use Rattle.sx_ledger.specs.Body.{created_by};
 ghost use Rattle.sx_ledger.specs.Ledger.{assets_of, ids};
 ghost use Rattle.sx_ledger.specs.Places.{ArePlaces, IsNamedOffer};
-ghost use Rattle.sx_ledger.specs.Static.{last_of, static_of};
+ghost use Rattle.sx_ledger.specs.Static.{static_of, window_of};
 ghost use Rattle.sx_tx.specs.Transactions.{most_transactions};
 
+use crate::asked::{Asked, Wanted};
 use crate::layout::Layout;
-use crate::stage::Stage;
+use crate::spot::Spot;
 use std::alloc::Global;
 use std::marker::Model;
 use sx_base::{AccountId, Amount, AssetId};
 use sx_bytes::NoMemory;
-use sx_event::{Core, Event};
 use sx_ledger::{AccountIndex, Key, Ledger, Places, Static, Target};
 use sx_tx::{Kind, Tx};
 
-/// What stays the same while a script runs. All words are in one shard. Contracts see the ledger, the
-/// candidates and the plan of the words.
+/// The candidates of a ledger, and which word of which shard each of them asks for. Contracts see the
+/// ledger's parts, the candidates and the plan of the words.
+///
+/// [`Setting::places_of`] tests a candidate and looks up what it names, and [`Setting::asked`] tells its
+/// words: the bit of its sequence number, and then a bit or an amount out of a purse. All of these words
+/// are there, whatever the number of shards.
 #[derive(Debug, Drop)]
 pub struct Setting<'a> {
     ledger: &'a Ledger,
@@ -33,7 +37,7 @@ pub struct Setting<'a> {
 
 impl<'a> Model for Setting<'a> {
     ghost use Rattle.std.specs.Prelude.{◌≡◌};
-    ghost use Rattle.sx_layout.specs.RunKeeps.{Setting, IsSetting};
+    ghost use Rattle.sx_layout.specs.Setting.{Setting, IsSetting};
     ghost use Rattle.sx_ledger.specs.Ledger.{ids};
 
     ghost Value = { Setting };
@@ -45,30 +49,62 @@ impl<'a> Model for Setting<'a> {
 }
 
 impl<'a> Setting<'a> {
-    /// The setting of these candidates of a ledger, at most 1,000,000. It may answer `NoMemory`, and no
-    /// other call takes memory.
+    /// The setting of these candidates of a ledger, at most 1,000,000, on 1 to 64 shards. It may answer
+    /// `NoMemory`, and no other call takes memory.
     pub fn new(
         alloc: Global,
         ledger: &'a Ledger,
         candidates: &'a [Tx],
+        shards: u32,
     ) -> Result<Setting<'a>, NoMemory>
-        requires { length candidates.now ≤ most_transactions }
-        ensures { IfOk result (λ setting. setting ≡ record {
+        requires candidates { length candidates.now ≤ most_transactions }
+        requires some_shard { 1 ≤ shards }
+        requires few_shards { shards ≤ 64 }
+        ensures setting { IfOk result (λ setting. setting ≡ record {
           parts = ledger.now;
           candidates = candidates.now;
-          plan = plan_of ledger.now candidates.now 1;
+          plan = plan_of ledger.now candidates.now shards;
         }) }
+        ensures laid_out { IfOk result (λ setting. IsLaidOut ledger.now candidates.now shards) }
     {
-        // A ledger keeps its rules.
-        let _height = ledger.height();
         let index = ledger.index()?;
-        let layout = Layout::new(alloc, ledger, candidates, 1)?;
+        let layout = Layout::new(alloc, ledger, candidates, shards)?;
         Ok(Setting {
             ledger,
             candidates,
             index,
             layout,
         })
+    }
+
+    /// The candidates.
+    pub fn candidates(&self) -> &'a [Tx]
+        ensures { result.now ≡ self.now.candidates }
+    {
+        self.candidates
+    }
+
+    /// The number of shards.
+    pub fn shards(&self) -> u32
+        ensures { result ≡ self.now.plan.shards }
+    {
+        self.layout.shards()
+    }
+
+    /// The purses of a shard at the opening.
+    pub fn opening_purses(&self, shard: u32) -> &[u64]
+        requires { shard < self.now.plan.shards }
+        ensures { result.now ≡ words_of self.now.plan.purses shard }
+    {
+        self.layout.opening_purses(shard)
+    }
+
+    /// The bit words of a shard at the opening.
+    pub fn opening_bits(&self, shard: u32) -> &[u64]
+        requires { shard < self.now.plan.shards }
+        ensures { result.now ≡ words_of self.now.plan.bits shard }
+    {
+        self.layout.opening_bits(shard)
     }
 
     /// The static test of a candidate, and the places of what it names. The account is looked for near
@@ -81,97 +117,92 @@ impl<'a> Setting<'a> {
         self.ledger.places_of(&self.index, near, tx)
     }
 
-    /// The claim of the sequence number of a candidate.
-    pub fn number_claim(&self, tx: &Tx, account: u32) -> Event
+    // The bit of a candidate's sequence number in the window of its account.
+    fn bit_of(&self, tx: &Tx, account: u32) -> u32
         requires place { slice_get (ids self.now.parts.accounts) account ≡ Some tx.now.account.0 }
         requires passes { static_of self.now.parts tx.now ≡ Ok tt }
-        ensures claim { result ≡ the_claim self.now.parts self.now.plan tx.now }
-        ensures fits { IsClaim (length (words_of self.now.plan.bits 0)) result }
-    {
-        let bit = self.number_of(tx, account);
-        Event::Claim {
-            word: self.layout.window_of(account).word,
-            bit,
-        }
-    }
-
-    // The place of a candidate's sequence number in the window of its account.
-    fn number_of(&self, tx: &Tx, account: u32) -> u32
-        requires place { slice_get (ids self.now.parts.accounts) account ≡ Some tx.now.account.0 }
-        requires passes { static_of self.now.parts tx.now ≡ Ok tt }
-        ensures number { result ≡ tx.now.seq - last_of self.now.parts.accounts tx.now.account.0 - 1 }
-        ensures below { result < 64 }
+        ensures { result ≡ tx.now.seq - (window_of self.now.parts.accounts tx.now.account.0).last - 1 }
     {
         let window = self.ledger.account(account).window;
         match window.place(tx.seq) {
-            Ok(place) => place,
+            Ok(bit) => bit,
             // It passes the static test, so it is in the window.
-            Err(_) => 0,
+            Err(_) => unreachable!(),
         }
     }
 
-    // The purse of the account at a place, to look at.
-    fn look_at(&self, account: u32, asset: AssetId, need: Amount, id: AccountId) -> Stage
+    // The bit word of a candidate's sequence number, and the bit. All words that it asks for are there.
+    fn number_of(&self, tx: &Tx, account: u32) -> (Spot, u32)
+        requires own { Contains self.now.candidates tx.now }
+        requires place { slice_get (ids self.now.parts.accounts) account ≡ Some tx.now.account.0 }
+        requires passes { static_of self.now.parts tx.now ≡ Ok tt }
+        ensures number { result ≡ number_spot self.now.parts self.now.plan tx.now }
+        ensures there { AreThere self.now.parts self.now.plan tx.now }
+    {
+        let bit = self.bit_of(tx, account);
+        (self.layout.window_of(account), bit)
+    }
+
+    // So many units out of the purse of the account at a place.
+    fn units_of(&self, account: u32, asset: AssetId, need: Amount, id: AccountId) -> Wanted
         requires place { slice_get (ids self.now.parts.accounts) account ≡ Some id.0 }
         requires asset { asset < assets_of self.now.parts }
-        ensures stage { result ≡ look_at self.now.parts self.now.plan id.0 asset need }
-        ensures fits { IsSecond (length (words_of self.now.plan.purses 0)) (length (words_of self.now.plan.bits 0)) result }
+        ensures wanted { result ≡ purse_wanted self.now.parts self.now.plan id.0 asset need }
+        ensures some { IsSomeUnits result }
     {
-        Stage::Look {
-            purse: self.layout.purse_of(account, asset).word,
+        Wanted::Units {
+            purse: self.layout.purse_of(account, asset),
             need: need.get(),
         }
     }
 
     // The bit of the id that a candidate creates.
-    fn name_of(&self, tx: &Tx, id: AccountId) -> Stage
+    fn name_of(&self, tx: &Tx, id: AccountId) -> Wanted
         requires own { Contains self.now.candidates tx.now }
         requires creates { created_by tx.now.kind ≡ Some id.0 }
-        ensures stage { result ≡ name_at (name_spot self.now.plan (place_in self.now.plan.names id.0)) }
-        ensures fits { IsSecond (length (words_of self.now.plan.purses 0)) (length (words_of self.now.plan.bits 0)) result }
+        ensures wanted { result ≡ bit_wanted (name_spot self.now.plan (place_in self.now.plan.names id.0)) }
+        ensures some { IsSomeUnits result }
     {
         match self.layout.name_of(id) {
-            Some((spot, bit)) => Stage::Name {
-                word: spot.word,
-                bit,
-            },
+            Some((at, bit)) => Wanted::Bit { at, bit },
             // It is a new id.
-            None => Stage::Number,
+            None => unreachable!(),
         }
     }
 
     // The bit of an offer, which is this target.
-    fn offer_of(&self, key: &Key, target: Target) -> Stage
+    fn offer_of(&self, key: &Key, target: Target) -> Wanted
         requires { IsNamedOffer self.now.parts key.now target }
-        ensures stage { result ≡ name_at (offer_spot self.now.plan (offer_place self.now.parts key.now)) }
-        ensures fits { IsSecond (length (words_of self.now.plan.purses 0)) (length (words_of self.now.plan.bits 0)) result }
+        ensures wanted { result ≡ bit_wanted (offer_spot self.now.plan (offer_place self.now.parts key.now)) }
+        ensures some { IsSomeUnits result }
     {
         match target {
             Target::Offer(place) => {
-                let (spot, bit) = self.layout.offer_of(place);
-                Stage::Name {
-                    word: spot.word,
-                    bit,
-                }
+                let (at, bit) = self.layout.offer_of(place);
+                Wanted::Bit { at, bit }
             }
             // It is an offer.
-            Target::Nothing | Target::Payee(_) => Stage::Number,
+            Target::Nothing | Target::Payee(_) => unreachable!(),
         }
     }
 
-    /// What comes once the number of a candidate is claimed.
-    pub fn second(&self, tx: &Tx, places: &Places) -> Stage
+    // What a candidate asks for once its number is claimed.
+    fn wanted(&self, tx: &Tx, places: &Places) -> Wanted
         requires own { Contains self.now.candidates tx.now }
         requires passes { static_of self.now.parts tx.now ≡ Ok tt }
         requires places { ArePlaces self.now.parts tx.now places.now }
-        ensures stage { result ≡ the_second self.now.parts self.now.plan tx.now }
-        ensures fits { IsSecond (length (words_of self.now.plan.purses 0)) (length (words_of self.now.plan.bits 0)) result }
+        ensures wanted { result ≡ wanted_of self.now.parts self.now.plan tx.now }
+        ensures some { IsSomeUnits result }
     {
         let account = tx.account;
         match tx.kind {
-            Kind::Pay { asset, amount, .. } => self.look_at(places.account, asset, amount, account),
+            Kind::Pay { asset, amount, .. } => {
+                self.units_of(places.account, asset, amount, account)
+            }
             Kind::Create { id } => self.name_of(tx, id),
-            Kind::Offer { sell, amount, .. } => self.look_at(places.account, sell, amount, account),
+            Kind::Offer { sell, amount, .. } => {
+                self.units_of(places.account, sell, amount, account)
+            }
             Kind::Cancel {
                 sell,
                 buy,
@@ -190,12 +221,24 @@ impl<'a> Setting<'a> {
         }
     }
 
-    /// The core before the first step, with one view, which has all of so many candidates, and memory for
-    /// a step for each of them. It may answer `NoMemory`.
-    pub fn start(&self, alloc: Global, count: u32) -> Result<Core, NoMemory>
-        ensures { IfOk result (λ core. core.state ≡ begun (words_of self.now.plan.purses 0) (words_of self.now.plan.bits 0) count) }
+    /// All that a candidate asks for. Its words are there, and where it asks for units it asks for at
+    /// least one.
+    pub fn asked(&self, tx: &Tx, places: &Places) -> Asked
+        requires own { Contains self.now.candidates tx.now }
+        requires passes { static_of self.now.parts tx.now ≡ Ok tt }
+        requires places { ArePlaces self.now.parts tx.now places.now }
+        ensures number { (result.number, result.bit) ≡ number_spot self.now.parts self.now.plan tx.now }
+        ensures wanted { result.wanted ≡ wanted_of self.now.parts self.now.plan tx.now }
+        ensures number_there { IsBitSpot self.now.plan result.number result.bit }
+        ensures wanted_there { IsWanted self.now.plan result.wanted }
+        ensures some { IsSomeUnits result.wanted }
     {
-        let purses = self.layout.opening_purses(0);
-        Core::start(alloc, purses, self.layout.opening_bits(0), count, count)
+        let (number, bit) = self.number_of(tx, places.account);
+        let wanted = self.wanted(tx, places);
+        Asked {
+            number,
+            bit,
+            wanted,
+        }
     }
 }

@@ -1,5 +1,6 @@
--- Bodies that are admissible, and bodies of which one part alone is not.
-use Rattle.std.proofs.Common.{◌≡◌, ◌≢◌, ℕ, ◌+◌, ◌^◌, ◌<◌, ◌≤◌, true, false, ◌==◌, List, [], ◌∷◌, length, Ok, All, inl}
+-- Bodies that are admissible, and bodies of which one part alone is not, by the rule of version 1. Those of version 2
+-- stand in WideCases.
+use Rattle.std.proofs.Common.{◌≡◌, ℕ, ◌^◌, ◌≤◌, ◌==◌, [], ◌∷◌, length, Ok, All, inl}
 use Rattle.std.proofs.Common.{inr, refl, subst, arith}
 use Rattle.std.specs.List.{IsDistinct}
 use Rattle.std.proofs.lemmas.Bool.{cases_Bool, eqb-true}
@@ -7,12 +8,12 @@ use Rattle.std.proofs.lemmas.List.Elements.{All-from_recursion}
 use Rattle.std.proofs.lemmas.Map.Keys.{IsDistinct-head}
 use Rattle.std.specs.Prelude.{nat_eq}
 use Rattle.sx_ledger.specs.declared.parts.Parts.{Parts}
-use Rattle.sx_ledger.specs.Body.{IsAdmissible, cancelled, created}
+use Rattle.sx_ledger.specs.Body.{IsAdmissible}
 use Rattle.sx_ledger.specs.Effects.{debits}
 use Rattle.sx_ledger.specs.Body.{holding_of}
 use Rattle.sx_ledger.specs.Order.{same_key}
 use Rattle.sx_ledger.specs.Static.{static_of}
-use Rattle.sx_ledger.proofs.CaseWords.{cancel, create, offer, one, opening, pay, sell_for, state, tx, with_offer}
+use Rattle.sx_ledger.proofs.CaseWords.{cancel, create, one, opening, pay, sell_for, tx, with_offer}
 use Rattle.sx_tx.specs.declared.tx.Tx.{Tx}
 
 -- ---- admissible

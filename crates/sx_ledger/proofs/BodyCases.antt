@@ -1,7 +1,6 @@
--- What bodies leave, computed at small cases that were worked out by hand.
+-- What bodies leave, computed at small cases that were worked out by hand. Those of version 2 stand in GapCases.
 use Rattle.std.proofs.Common.{◌≡◌, ◌^◌, true, false, List, [], ◌∷◌, refl}
-use Rattle.sx_ledger.specs.declared.key.Key.{Key}
-use Rattle.sx_ledger.specs.Body.{body_after, cancelled, holding_of, made}
+use Rattle.sx_ledger.specs.Body.{body_after, holding_of}
 use Rattle.sx_ledger.specs.EffectLaws.{greatest_number, names}
 use Rattle.sx_ledger.specs.Effects.{credits, debits}
 use Rattle.sx_ledger.specs.Ledger.{total_of}
@@ -31,6 +30,17 @@ cancellation : body_after with_offer (tx 1 4 (cancel 0 1 (2 ^ 25) 3) ∷ [])
     ≡ state (one ∷ one ∷ []) (account 1 4 (40 ∷ 0 ∷ []) ∷ account 2 0 (7 ∷ 9 ∷ []) ∷ []) []
 unfolding bit_length
 cancellation = refl
+
+-- what is credited is there to be debited, and only the sums count
+paid_both_ways : body_after opening (tx 1 1 (pay 2 0 30) ∷ tx 2 1 (pay 1 0 20) ∷ [])
+    ≡ state (one ∷ []) (account 1 1 (90 ∷ []) ∷ account 2 1 (15 ∷ []) ∷ []) []
+unfolding bit_length
+paid_both_ways = refl
+
+spent_in_full : body_after opening (tx 1 1 (pay 2 0 30) ∷ tx 2 1 (pay 1 0 35) ∷ [])
+    ≡ state (one ∷ []) (account 1 1 (105 ∷ []) ∷ account 2 1 (0 ∷ []) ∷ []) []
+unfolding bit_length
+spent_in_full = refl
 
 -- the new offers stand by what is sold, what is bought, limit, account and sequence number
 new_offers : body_after with_offer (tx 2 1 (sell_for 1 0 one 4) ∷ tx 2 2 (sell_for 0 1 one 5) ∷ [])

@@ -1,6 +1,6 @@
 -- The body of a block makes and loses nothing.
-use Rattle.std.proofs.Common.{◌≡◌, ℕ, zero, suc, ◌+◌, ◌-◌, ◌<◌, ◌≤◌, false, List, [], ◌∷◌, length, get_or, map}
-use Rattle.std.proofs.Common.{replicate, All, sum_by, inl, inr, refl, sym, ◌∙◌, arith}
+use Rattle.std.proofs.Common.{◌≡◌, ℕ, zero, suc, ◌+◌, ◌-◌, ◌<◌, ◌≤◌, false, ◌==◌, List, [], ◌∷◌, length, get_or}
+use Rattle.std.proofs.Common.{map, replicate, All, sum_by, inl, inr, refl, sym, ◌∙◌, arith}
 use Rattle.std.specs.List.{AllByRecursion}
 use Rattle.std.proofs.lemmas.Bool.{cases_Bool}
 use Rattle.std.specs.Prelude.{nat_lt}
@@ -10,8 +10,9 @@ use Rattle.std.proofs.lemmas.List.Sums.{sum_by-cons}
 use Rattle.sx_ledger.specs.declared.account.Account.{Account}
 use Rattle.sx_ledger.specs.declared.offer.Offer.{Offer}
 use Rattle.sx_ledger.specs.declared.parts.Parts.{Parts}
-use Rattle.sx_ledger.specs.Body.{IsAdmissible, account_after, accounts_after, balances_after, cancelled, cancelled_by}
-use Rattle.sx_ledger.specs.Body.{created, kept_offers, made, made_by, new_account, put_account, put_accounts}
+use Rattle.sx_ledger.specs.Body.{IsAdmissibleIn, account_after, accounts_after, balances_after, cancelled}
+use Rattle.sx_ledger.specs.Body.{cancelled_by, created, holding_of, kept_offers, made, made_by, new_account}
+use Rattle.sx_ledger.specs.Body.{put_account, put_accounts, spendable}
 use Rattle.sx_ledger.specs.Effects.{credit, credit_of, credits, debit, debit_of, debits}
 use Rattle.sx_ledger.specs.EffectLaws.{BodyConserves}
 use Rattle.sx_ledger.specs.Ledger.{IsLedger, assets_of, balance_at, offered}
@@ -76,7 +77,7 @@ new_hold_nothing parts txs asset all (id ∷ new) absent =
 balances_after-at : (offers : List Offer) (txs : List Tx) (account start : ℕ) (balances : List ℕ) (asset : ℕ)
     → asset < length balances
     → get_or (balances_after offers txs account start balances) asset 0
-    ≡ (get_or balances asset 0 - debits txs account (start + asset)) + credits offers txs account (start + asset)
+    ≡ (get_or balances asset 0 + credits offers txs account (start + asset)) - debits txs account (start + asset)
 balances_after-at offers txs account start [] asset lt = absurd (omega arith)
 balances_after-at offers txs account start (balance ∷ balances) zero lt = let same : start + zero ≡ start =
     omega arith in rw same refl
@@ -85,8 +86,8 @@ balances_after-at offers txs account start (balance ∷ balances) (suc asset) lt
     rw same at (balances_after-at offers txs account (suc start) balances asset (omega arith))
 
 balance_after : (parts : Parts) (txs : List Tx) (account : Account) (asset : ℕ) → asset < length account.balances
-    → balance_at asset (account_after parts txs account) ≡ (balance_at asset account - debits txs account.id.0 asset)
-    + credits parts.offers txs account.id.0 asset
+    → balance_at asset (account_after parts txs account)
+    ≡ (balance_at asset account + credits parts.offers txs account.id.0 asset) - debits txs account.id.0 asset
 balance_after parts txs account asset lt =
     let same : 0 + asset ≡ asset = omega arith in
     rw same at (balances_after-at parts.offers txs account.id.0 0 account.balances asset lt)
@@ -102,12 +103,25 @@ sum_by-alike f g (x ∷ xs) alike =
       sum_by-alike f g xs (All-tail (λ x. f x ≡ g x) x xs alike),
     )
 
--- balances lose the debits and gain the credits
-accounts_sum : (parts : Parts) (txs : List Tx) (asset : ℕ) → IsLedger parts → IsAdmissible parts txs
-    → All (Passes parts) txs → asset < assets_of parts
+-- in each version what an account holds and its credits cover its debits
+pub covered_by_both : (version : ℕ) (parts : Parts) (txs : List Tx) → IsAdmissibleIn version parts txs
+    → (account asset : ℕ)
+    → debits txs account asset ≤ holding_of parts.accounts account asset + credits parts.offers txs account asset
+covered_by_both version parts txs body account asset =
+    let covered : debits txs account asset ≤ spendable version parts txs account asset = body.covered account asset in
+    elim (cases_Bool (version == 1)) [
+      | inl first ↦
+          let held : debits txs account asset ≤ holding_of parts.accounts account asset = rw first at covered in
+          omega arith
+      | inr later ↦ rw later at covered
+    ]
+
+-- balances gain the credits and lose the debits
+accounts_sum : (version : ℕ) (parts : Parts) (txs : List Tx) (asset : ℕ) → IsLedger parts
+    → IsAdmissibleIn version parts txs → All (Passes parts) txs → asset < assets_of parts
     → sum_by (balance_at asset) (accounts_after parts txs) + sum_by (λ tx. units_of (debit tx) asset) txs
     ≡ sum_by (balance_at asset) parts.accounts + sum_by (λ tx. units_of (credit parts.offers tx) asset) txs
-accounts_sum parts txs asset keeps body all lt =
+accounts_sum version parts txs asset keeps body all lt =
     let accounts = parts.accounts in
     let number = λ (account : Account). account.id.0 in
     let taken = λ (account : Account). debits txs account.id.0 asset in
@@ -118,15 +132,15 @@ accounts_sum parts txs asset keeps body all lt =
     let credited : sum_by given accounts ≡ sum_by (λ tx. units_of (credit parts.offers tx) asset) txs =
     sym (fold-map (λ s x. s + credits parts.offers txs x asset) number 0 accounts)
     ∙ credits_in_all accounts keeps.by_id parts.offers asset txs (credits_there parts txs all) in
-    let covers : All (λ account. taken account ≤ balance_at asset account) accounts =
-    λ k d below. let held = holding_at accounts keeps.by_id asset k d below in let cover =
-    body.covered (get_or accounts k d).id.0 asset in omega arith in
+    let covers : All (λ account. taken account ≤ balance_at asset account + given account) accounts =
+    λ k d below. let held = holding_at accounts keeps.by_id asset k d below in
+    let cover = covered_by_both version parts txs body (get_or accounts k d).id.0 asset in omega arith in
     let each : All (λ account. balance_at asset (account_after parts txs account)
-    ≡ (balance_at asset account - taken account) + given account) accounts =
+    ≡ (balance_at asset account + given account) - taken account) accounts =
     λ k d below. balance_after parts txs (get_or accounts k d) asset (let wide =
     (keeps.accounts k d below).balances in omega (arith, wide)) in
     let kept : sum_by (balance_at asset) (map (account_after parts txs) accounts)
-    ≡ sum_by (λ account. (balance_at asset account - taken account) + given account) accounts =
+    ≡ sum_by (λ account. (balance_at asset account + given account) - taken account) accounts =
     fold-map (λ s x. s + balance_at asset x) (account_after parts txs) 0 accounts ∙ sum_by-alike _ _ accounts each in
     let new : sum_by (balance_at asset) (map (new_account parts txs) (created txs)) ≡ 0 =
     new_hold_nothing parts txs asset all (created txs) (created_absent parts txs all) in
@@ -166,9 +180,9 @@ all_move offers asset txs =
     )
 
 pub body_conserves : BodyConserves
-body_conserves parts txs asset keeps body lt =
+body_conserves version parts txs asset keeps body lt =
     let all : All (Passes parts) txs = λ k d below. passes parts (get_or txs k d) (body.passes k d below) in
-    let accounts = accounts_sum parts txs asset keeps body all lt in
+    let accounts = accounts_sum version parts txs asset keeps body all lt in
     let moves = all_move parts.offers asset txs in
     let kept = kept_sum asset parts.offers txs keeps.by_key body.cancels_once in
     let offers = put_all (offered asset) (made txs) (kept_offers parts.offers txs) in

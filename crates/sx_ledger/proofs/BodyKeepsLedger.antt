@@ -1,24 +1,22 @@
 -- The ledger after the body of a block is a ledger.
-use Rattle.std.proofs.Common.{◌≡◌, ℕ, ◌+◌, ◌^◌, ◌<◌, ◌≤◌, true, not, List, [], ◌∷◌, length, get_or, map, All, Some}
-use Rattle.std.proofs.Common.{None, inl, inr, refl, sym, ap, ◌∙◌, subst, arith}
-use Rattle.std.specs.List.{AllByRecursion, filter, list_any, sum_by}
+use Rattle.std.proofs.Common.{◌≡◌, ℕ, ◌+◌, ◌^◌, ◌<◌, ◌≤◌, true, not, List, [], ◌∷◌, length, get_or, map, All}
+use Rattle.std.proofs.Common.{None, inl, inr, sym, ap, ◌∙◌, subst, arith}
+use Rattle.std.specs.List.{AllByRecursion, list_any}
 use Rattle.std.proofs.lemmas.Bool.{cases_Bool}
 use Rattle.std.proofs.lemmas.List.{length-map}
 use Rattle.std.proofs.lemmas.List.Elements.{All-filter, All-from_get_or, All-from_recursion, recursion_from_All}
 use Rattle.std.proofs.lemmas.List.Sums.{get_or-le-sum_by}
 use Rattle.sx_bytes.specs.Grammar.{in_order}
-use Rattle.sx_ledger.specs.declared.account.Account.{Account}
 use Rattle.sx_ledger.specs.declared.offer.Offer.{Offer}
 use Rattle.sx_ledger.specs.declared.parts.Parts.{Parts}
-use Rattle.sx_ledger.specs.Body.{IsAdmissible, account_after, accounts_after, body_after, cancelled, created}
-use Rattle.sx_ledger.specs.Body.{kept_offers, made, new_account, offers_after, tx_before}
-use Rattle.sx_ledger.specs.EffectLaws.{BodyKeepsLedger, greatest_number}
-use Rattle.sx_ledger.specs.Ledger.{IsAccount, IsLedger, IsOffer, assets_of, balance_at, has_owner, keys, total_of}
+use Rattle.sx_ledger.specs.Body.{IsAdmissibleIn, account_after, accounts_after, body_after, cancelled, created}
+use Rattle.sx_ledger.specs.Body.{kept_offers, made, new_account, offers_after, uses}
+use Rattle.sx_ledger.specs.EffectLaws.{BodyKeepsLedger}
+use Rattle.sx_ledger.specs.Ledger.{IsAccount, IsLedger, IsOffer, assets_of, balance_at, keys, total_of}
 use Rattle.sx_ledger.specs.Order.{key_before, key_of, same_key}
-use Rattle.sx_ledger.specs.Static.{has_account, last_of}
-use Rattle.sx_ledger.proofs.AccountsAfter.{HasShape, by_id_after, greatest_reaches, owner_after, shapes}
+use Rattle.sx_ledger.proofs.AccountsAfter.{HasShape, by_id_after, owner_after, shapes, uses_own}
 use Rattle.sx_ledger.proofs.BodyConserves.{body_conserves}
-use Rattle.sx_ledger.proofs.Insertion.{AreApart, all_put_all, filter_in_order, id_of, length-put_all}
+use Rattle.sx_ledger.proofs.Insertion.{all_put_all, filter_in_order, id_of, length-put_all}
 use Rattle.sx_ledger.proofs.Insertion.{put_accounts_are, put_all_in_order, put_all, put_offers_are}
 use Rattle.sx_ledger.proofs.KeyOrder.{before_both}
 use Rattle.sx_ledger.proofs.OffersAfter.{IsMade, all_made, made_apart, owner_there, owner_used}
@@ -35,7 +33,8 @@ kept_few (offer ∷ offers) txs =
       | inr kept ↦ rw kept (omega (arith, kept_few offers txs))
     ]
 
-module _ (parts : Parts) (txs : List Tx) (keeps : IsLedger parts) (body : IsAdmissible parts txs) where
+module _ (version : ℕ) (parts : Parts) (txs : List Tx) (keeps : IsLedger parts)
+    (body : IsAdmissibleIn version parts txs) where
   passing : All (Passes parts) txs
   passing = λ k d below. passes parts (get_or txs k d) (body.passes k d below)
 
@@ -55,13 +54,13 @@ module _ (parts : Parts) (txs : List Tx) (keeps : IsLedger parts) (body : IsAdmi
       ordered in
       rw offers_put whole
 
-module _ (parts : Parts) (txs : List Tx) (keeps : IsLedger parts) (in_range : All IsTx txs)
-    (body : IsAdmissible parts txs) where
+module _ (version : ℕ) (parts : Parts) (txs : List Tx) (keeps : IsLedger parts) (in_range : All IsTx txs)
+    (body : IsAdmissibleIn version parts txs) where
   all_pass : All (Passes parts) txs
-  all_pass = passing parts txs keeps body
+  all_pass = passing version parts txs keeps body
 
   totals : (asset : ℕ) → asset < assets_of parts → total_of (body_after parts txs) asset ≤ 2 ^ 62
-  totals asset lt = omega (arith, body_conserves parts txs asset keeps body lt, keeps.totals asset lt)
+  totals asset lt = omega (arith, body_conserves version parts txs asset keeps body lt, keeps.totals asset lt)
 
   -- ---- accounts
 
@@ -79,15 +78,14 @@ module _ (parts : Parts) (txs : List Tx) (keeps : IsLedger parts) (in_range : Al
         body.accounts_fit,
       )
 
-  accounts : All (IsAccount (assets_of parts)) (accounts_after parts txs)
+  accounts : All (IsAccount parts.version (assets_of parts)) (accounts_after parts txs)
   accounts k d lt =
       let after = accounts_after parts txs in
       let account = get_or after k d in
-      let shape : HasShape (assets_of parts) account = shapes parts txs keeps in_range all_pass k d lt in
+      let shape : HasShape parts.version (assets_of parts) account = shapes parts txs keeps in_range all_pass k d lt in
       record {
         id = shape.id;
-        last = shape.last;
-        used = shape.used;
+        window = shape.window;
         balances = shape.balances;
         in_range = All-from_get_or (λ balance. balance ≤ 2 ^ 62) account.balances 0
             (λ asset below. omega (
@@ -102,7 +100,7 @@ module _ (parts : Parts) (txs : List Tx) (keeps : IsLedger parts) (in_range : Al
   few_offers : length (offers_after parts txs) ≤ 262144
   few_offers =
       let is : length (offers_after parts txs) ≡ length (made txs) + length (kept_offers parts.offers txs) =
-      ap length (offers_put parts txs keeps body)
+      ap length (offers_put version parts txs keeps body)
       ∙ length-put_all key_of key_before (made txs) (kept_offers parts.offers txs) in
       omega (arith, is, kept_few parts.offers txs, body.offers_fit)
 
@@ -116,21 +114,19 @@ module _ (parts : Parts) (txs : List Tx) (keeps : IsLedger parts) (in_range : Al
     account = is.account;
     seq = is.seq;
     amount = is.amount;
-    owner = owner_after parts txs keeps in_range all_pass offer (owner_there parts.accounts offer is.owner) is.seq.0
+    owner = owner_after parts txs keeps in_range all_pass offer (owner_there parts.accounts offer is.owner)
         (inl (owner_used parts.accounts keeps.by_id offer is.owner));
   }
 
-  all_used : AllByRecursion (λ tx. tx.seq ≤ greatest_number txs tx.account.0) txs
-  all_used =
-      recursion_from_All (λ tx. tx.seq ≤ greatest_number txs tx.account.0) txs
-      (λ k d lt. greatest_reaches txs (get_or txs k d).account.0 k d lt refl)
+  all_used : AllByRecursion (λ tx. uses txs tx.account.0 tx.seq ≡ true) txs
+  all_used = recursion_from_All (λ tx. uses txs tx.account.0 tx.seq ≡ true) txs (uses_own txs)
 
   made_offers : (offers : List Offer) → AllByRecursion (IsMade parts txs) offers
       → AllByRecursion (IsOffer (assets_of parts) (accounts_after parts txs)) offers
   made_offers [] all = tt
   made_offers (offer ∷ offers) all = (
     all.0.fields (accounts_after parts txs)
-        (owner_after parts txs keeps in_range all_pass offer all.0.there all.0.some (inr all.0.used)),
+        (owner_after parts txs keeps in_range all_pass offer all.0.there (inr all.0.used)),
     made_offers offers all.1,
   )
 
@@ -138,16 +134,18 @@ module _ (parts : Parts) (txs : List Tx) (keeps : IsLedger parts) (in_range : Al
   offers =
       All-from_recursion (IsOffer (assets_of parts) (accounts_after parts txs)) (offers_after parts txs)
       (subst (AllByRecursion (IsOffer (assets_of parts) (accounts_after parts txs)))
-      (sym (offers_put parts txs keeps body))
+      (sym (offers_put version parts txs keeps body))
       (all_put_all key_of key_before (IsOffer (assets_of parts) (accounts_after parts txs)) (made txs)
       (kept_offers parts.offers txs)
       (made_offers (made txs) (all_made parts txs txs in_range all_pass all_used))
       (recursion_from_All (IsOffer (assets_of parts) (accounts_after parts txs)) (kept_offers parts.offers txs)
-      (λ k d lt. kept_offer (get_or (kept_offers parts.offers txs) k d) (kept_are parts txs keeps body k d lt)))))
+      (λ k d lt. kept_offer (get_or (kept_offers parts.offers txs) k d)
+      (kept_are version parts txs keeps body k d lt)))))
 
   ledger_after : IsLedger (body_after parts txs)
   ledger_after = record {
-    version = keeps.version;
+    some_version = keeps.some_version;
+    few_versions = keeps.few_versions;
     height = keeps.height;
     some_asset = keeps.some_asset;
     few_assets = keeps.few_assets;
@@ -159,9 +157,9 @@ module _ (parts : Parts) (txs : List Tx) (keeps : IsLedger parts) (in_range : Al
     by_id = by_id_after parts txs keeps in_range all_pass body.creates_once;
     few_offers = few_offers;
     offers = offers;
-    by_key = keys_in_order parts txs keeps body;
+    by_key = keys_in_order version parts txs keeps body;
     totals = totals;
   }
 
 pub body_keeps_ledger : BodyKeepsLedger
-body_keeps_ledger parts txs keeps in_range body = ledger_after parts txs keeps in_range body
+body_keeps_ledger version parts txs keeps in_range body = ledger_after version parts txs keeps in_range body

@@ -17,6 +17,11 @@ account id last balances = record {
   balances = balances;
 }
 
+-- the same, with numbers above the last one that are used
+abbrev pub gapped : ℕ → ℕ → ℕ → List ℕ → Account
+gapped id last used balances =
+    record { id = record { 0 = id }; window = record { last = last; used = used }; balances = balances }
+
 abbrev pub offer : ℕ → ℕ → ℕ → ℕ → ℕ → ℕ → Offer
 offer sell buy limit id seq amount =
     record { sell = sell; buy = buy; limit = limit; account = record { 0 = id }; seq = seq; amount = amount }
@@ -45,9 +50,18 @@ abbrev pub state : List ℕ → List Account → List Offer → Parts
 state prices accounts offers =
     record { version = 1; height = 0; prices = prices; rounding = zeros prices; accounts = accounts; offers = offers }
 
+-- the same in version 2
+abbrev pub newer : List ℕ → List Account → List Offer → Parts
+newer prices accounts offers =
+    record { version = 2; height = 0; prices = prices; rounding = zeros prices; accounts = accounts; offers = offers }
+
 -- one asset; account 1 has 100, account 2 has 5
 abbrev pub opening : Parts
 opening = state (one ∷ []) (account 1 0 (100 ∷ []) ∷ account 2 0 (5 ∷ []) ∷ []) []
+
+-- version 2, one asset; account 1 used 9 and 10 and not 8
+abbrev pub with_gap : Parts
+with_gap = newer (one ∷ []) (gapped 1 7 6 (100 ∷ []) ∷ account 2 0 (5 ∷ []) ∷ []) []
 
 -- two assets; account 1 has 40 of the first on offer
 abbrev pub with_offer : Parts

@@ -82,7 +82,7 @@ pub assets_known : (c next : Cursor) (head : Head) → head_at c ≡ Ok (head, n
     × (length head.2 ≤ 32)
 unfolding head_at
 assets_known c next head e =
-    let v = bind_ok (field_at 1 (between 1 1) form.Version c) (λ version. from_height version.0 version.1)
+    let v = bind_ok (field_at 1 (between 1 2) form.Version c) (λ version. from_height version.0 version.1)
     (head, next) e in
     let h = bind_ok (field_at 8 (between 0 (2 ^ 63 - 1)) form.HeightRange v.0.1)
     (λ height. from_assets v.0.0 height.0 height.1) (head, next) v.2 in
@@ -103,30 +103,30 @@ assets_known c next head e =
 abbrev id_of : Account → ℕ
 id_of account = account.id.0
 
-account_follows : (assets : ℕ) (before : Option ℕ) (c next : Cursor) (account : Account)
-    → next_account_at assets before c ≡ Ok (account, next) → may_follow nat_lt before (id_of account) ≡ true
+account_follows : (version assets : ℕ) (before : Option ℕ) (c next : Cursor) (account : Account)
+    → next_account_at version assets before c ≡ Ok (account, next) → may_follow nat_lt before (id_of account) ≡ true
 unfolding next_account_at
-account_follows assets before c next account e =
-    (guard_takes (account_at assets c) (λ a. may_follow nat_lt before (id_of a))
+account_follows version assets before c next account e =
+    (guard_takes (account_at version assets c) (λ a. may_follow nat_lt before (id_of a))
     (record { at = c.place; fault = form.Order }) (account, next) e).1
 
 -- there are not too many accounts
-pub accounts_few : (assets : ℕ) (c next : Cursor) (accounts : List Account)
-    → account_list_at assets c ≡ Ok (accounts, next) → length accounts ≤ 65536
+pub accounts_few : (version assets : ℕ) (c next : Cursor) (accounts : List Account)
+    → account_list_at version assets c ≡ Ok (accounts, next) → length accounts ≤ 65536
 unfolding account_list_at
-accounts_few assets c next accounts e =
-    let n = bind_ok (field_at 4 (between 0 65536) form.TooMany c) (λ count. accounts_at assets count.0 None count.1)
-    (accounts, next) e in
+accounts_few version assets c next accounts e =
+    let n = bind_ok (field_at 4 (between 0 65536) form.TooMany c)
+    (λ count. accounts_at version assets count.0 None count.1) (accounts, next) e in
     let range = between_is 0 65536 n.0.0 (field_passes 4 (between 0 65536) form.TooMany c n.0.1 n.0.0 n.1) in
-    omega (arith, each_length (next_account_at assets) id_of n.0.0 None n.0.1 next accounts n.2, range.1)
+    omega (arith, each_length (next_account_at version assets) id_of n.0.0 None n.0.1 next accounts n.2, range.1)
 
 -- the accounts stand by id
-pub accounts_by_id : (assets : ℕ) (c next : Cursor) (accounts : List Account)
-    → account_list_at assets c ≡ Ok (accounts, next) → IsStrictlyIncreasing (ids accounts)
+pub accounts_by_id : (version assets : ℕ) (c next : Cursor) (accounts : List Account)
+    → account_list_at version assets c ≡ Ok (accounts, next) → IsStrictlyIncreasing (ids accounts)
 unfolding account_list_at
-accounts_by_id assets c next accounts e =
-    let n = bind_ok (field_at 4 (between 0 65536) form.TooMany c) (λ count. accounts_at assets count.0 None count.1)
-    (accounts, next) e in
+accounts_by_id version assets c next accounts e =
+    let n = bind_ok (field_at 4 (between 0 65536) form.TooMany c)
+    (λ count. accounts_at version assets count.0 None count.1) (accounts, next) e in
     increasing_from_order None (ids accounts)
-    (each_ordered (next_account_at assets) id_of nat_lt (account_follows assets)
+    (each_ordered (next_account_at version assets) id_of nat_lt (account_follows version assets)
     n.0.0 None n.0.1 next accounts n.2)

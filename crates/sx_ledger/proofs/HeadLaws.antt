@@ -1,5 +1,5 @@
 -- The fields before the accounts of a state: decoding inverts encoding, and back.
-use Rattle.std.proofs.Common.{◌≡◌, ℕ, ◌-◌, ◌^◌, ◌<◌, ◌≤◌, List, ◌++◌, length, refl, sym, subst, arith}
+use Rattle.std.proofs.Common.{◌≡◌, ℕ, ◌-◌, ◌^◌, ◌≤◌, List, ◌++◌, length, refl, sym, subst, arith}
 use Rattle.std.specs.List.{flat_map}
 use Rattle.byteorder.specs.Endian.{big_bytes}
 use Rattle.sx_bytes.specs.declared.fault.Form.TheVariants as form
@@ -49,7 +49,7 @@ pub record IsFrom (version height n : ℕ) (head : Head) : Type 0 where
   pub rounding : AreNumbers InRange n head.3
 
 abbrev IsVersion : ℕ → Type 0
-IsVersion version = version ≡ 1
+IsVersion version = (1 ≤ version) × (version ≤ 2)
 
 abbrev IsHeight : ℕ → Type 0
 IsHeight height = height ≤ 2 ^ 63 - 1
@@ -66,13 +66,12 @@ FromHeight version head = IsHeight head.1 × FromAssets version head.1 head
 abbrev pub IsHead : Head → Type 0
 IsHead head = IsVersion head.0 × FromHeight head.0 head
 
-version_takes : TakesAll (field_at 1 (between 1 1) form.Version) (big_bytes 1) IsVersion
-version_takes c next x bytes e = let t = range_takes 1 1 1 form.Version c next x bytes e in
-    (t.0, omega (arith, t.1, t.2))
+version_takes : TakesAll (field_at 1 (between 1 2) form.Version) (big_bytes 1) IsVersion
+version_takes c next x bytes e = let t = range_takes 1 1 2 form.Version c next x bytes e in (t.0, (t.1, t.2))
 
-version_again : ReadsAgain (field_at 1 (between 1 1) form.Version) (big_bytes 1) IsVersion
+version_again : ReadsAgain (field_at 1 (between 1 2) form.Version) (big_bytes 1) IsVersion
 version_again c x after is within e =
-    range_again 1 1 1 form.Version c x after (omega arith) (omega (arith, is)) (omega (arith, is)) within e
+    range_again 1 1 2 form.Version c x after (omega arith) is.0 is.1 within e
 
 height_takes : TakesAll (field_at 8 (between 0 (2 ^ 63 - 1)) form.HeightRange) (big_bytes 8) IsHeight
 height_takes c next x bytes e = let t = range_takes 8 0 (2 ^ 63 - 1) form.HeightRange c next x bytes e in (t.0, t.2)
@@ -134,13 +133,13 @@ height_again_on version =
 pub head_takes : TakesAll head_at head_bytes IsHead
 unfolding head_at
 head_takes =
-    chained_takes (field_at 1 (between 1 1) form.Version) from_height (big_bytes 1) height_text IsVersion FromHeight
+    chained_takes (field_at 1 (between 1 2) form.Version) from_height (big_bytes 1) height_text IsVersion FromHeight
     (λ head. head.0)
     version_takes (λ version is. height_takes_on version) (λ version head is. is.1.1.version_is)
 
 pub head_again : ReadsAgain head_at head_bytes IsHead
 unfolding head_at
 head_again =
-    chained_again (field_at 1 (between 1 1) form.Version) from_height (big_bytes 1) height_text IsVersion FromHeight
+    chained_again (field_at 1 (between 1 2) form.Version) from_height (big_bytes 1) height_text IsVersion FromHeight
     (λ head. head.0)
     version_again (λ version is. height_again_on version)

@@ -1,28 +1,26 @@
 -- The last sequence number of a window is the greatest one that its account used.
-use Rattle.std.proofs.Common.{◌≡◌, ◌≢◌, ℕ, zero, suc, ◌+◌, ◌-◌, ◌*◌, ◌%◌, ◌^◌, ◌<◌, ◌≤◌, Bool, true, false, cond}
-use Rattle.std.proofs.Common.{◌==◌, ◌&&◌, List, [], ◌∷◌, refl, sym, ap, ◌∙◌, inl, inr, arith}
+use Rattle.std.proofs.Common.{◌≡◌, ◌≢◌, ℕ, zero, suc, ◌+◌, ◌-◌, ◌*◌, ◌%◌, ◌^◌, ◌<◌, ◌≤◌, true, false, cond}
+use Rattle.std.proofs.Common.{◌==◌, List, [], ◌∷◌, refl, sym, ap, ◌∙◌, inl, inr, arith}
+use Rattle.std.specs.Prelude.{nat_le}
 use Rattle.std.specs.Int.{bit_at, IsBitSet}
 use Rattle.std.proofs.lemmas.Bool.{cases_Bool, cases_lt, cases_eq, eq-eqb, eqb-true, ne_eqb, or_left, or_right}
-use Rattle.std.proofs.lemmas.Bool.{or_from, or_cases, and_parts, and_right, and_left}
-use Rattle.std.proofs.lemmas.List.Elements.{All-head, All-tail}
+use Rattle.std.proofs.lemmas.Bool.{and_left, and_right, both_ways, le-leb, or_from}
 use Rattle.std.proofs.lemmas.Nat.{pow_pos}
 use Rattle.std.proofs.lemmas.Nat.Bits.{bit_at_above, and_pow}
 use Rattle.std.proofs.Math.Nat.{div-eq_of_lt-le, pow-suc, zero-mul}
 use Rattle.sx_tx.specs.declared.tx.Tx.{Tx}
 use Rattle.sx_tx.specs.declared.window.Window.{Window}
-use Rattle.sx_tx.specs.Window.{Next}
+use Rattle.sx_tx.specs.Window.{IsWindow, Next, is_used}
 use Rattle.sx_tx.proofs.WindowLaws.{next_is}
 use Rattle.sx_ledger.specs.Body.{uses, used_below, used_numbers}
 use Rattle.sx_ledger.specs.EffectLaws.{greatest_number, InWindow, LastIsGreatest}
+use Rattle.sx_ledger.proofs.UsedBits.{is_use, used_below-lt, used_by_both, used_within}
 
 -- ---- the greatest number
 
 -- what one transaction adds to the greatest number
 abbrev own : ℕ → Tx → ℕ
 own account tx = cond (tx.account.0 == account) tx.seq 0
-
-abbrev is_use : ℕ → ℕ → Tx → Bool
-is_use account seq tx = (tx.account.0 == account) && (tx.seq == seq)
 
 own_is : (account : ℕ) (tx : Tx) → own account tx ≢ 0 → is_use account (own account tx) tx ≡ true
 own_is account tx some =
@@ -59,38 +57,13 @@ greatest_used (tx ∷ txs) account some =
     ]
 
 -- no greater one is used
-above_unused : (txs : List Tx) (account seq : ℕ) → greatest_number txs account < seq → uses txs account seq ≡ false
+pub above_unused : (txs : List Tx) (account seq : ℕ) → greatest_number txs account < seq → uses txs account seq ≡ false
 above_unused [] account seq lt = refl
 above_unused (tx ∷ txs) account seq lt =
     or_from (is_use account seq tx) (uses txs account seq) (own_above account seq tx (omega arith))
     (above_unused txs account seq (omega arith))
 
--- a number that is used is in the window
-used_within : (txs : List Tx) (account last seq : ℕ) → InWindow txs account last → uses txs account seq ≡ true
-    → (last < seq) × (seq ≤ last + 64)
-used_within [] account last seq inside used = absurd cc
-used_within (tx ∷ txs) account last seq inside used =
-    let Inside = λ (tx : Tx). tx.account.0 ≡ account → (last < tx.seq) × (tx.seq ≤ last + 64) in
-    elim (or_cases (is_use account seq tx) (uses txs account seq) used) [
-      | inl here ↦
-          let both = and_parts (tx.account.0 == account) (tx.seq == seq) here in
-          let is : tx.seq ≡ seq = eqb-true tx.seq seq both.1 in
-          let within : (last < tx.seq) × (tx.seq ≤ last + 64) =
-          All-head Inside tx txs inside (eqb-true tx.account.0 account both.0) in
-          (omega arith, omega arith)
-      | inr there ↦ used_within txs account last seq (All-tail Inside tx txs inside) there
-    ]
-
 -- ---- the map of the used numbers
-
-used_below-lt : (txs : List Tx) (account last n : ℕ) → used_below txs account last n < 2 ^ n
-used_below-lt txs account last zero = omega arith
-used_below-lt txs account last (suc n) =
-    let rest : used_below txs account last n < 2 ^ n = used_below-lt txs account last n in
-    elim (cases_Bool (uses txs account (last + 1 + n))) [
-      | inl is ↦ rw is (omega (arith, pow-suc 2 n))
-      | inr isnt ↦ rw isnt (omega (arith, pow-suc 2 n))
-    ]
 
 -- where none is used from a place on, the map ends there
 used_below-ends : (txs : List Tx) (account last i n : ℕ) → ((k : ℕ) → i ≤ k → uses txs account (last + 1 + k) ≡ false)
@@ -163,3 +136,36 @@ last_is_greatest txs account window unused inside =
       | inl none ↦ none_used txs account window unused none ∙ rw (eq-eqb (greatest_number txs account) 0 none) refl
       | inr some ↦ some_used txs account window inside some ∙ rw (ne_eqb (greatest_number txs account) 0 some) refl
     ]
+
+-- ---- what is used afterwards
+
+-- a number that is used is at most the greatest
+used_reached : (txs : List Tx) (account seq : ℕ) → uses txs account seq ≡ true → seq ≤ greatest_number txs account
+used_reached txs account seq used =
+    elim (cases_lt (greatest_number txs account) seq) [
+      | inl above ↦ absurd (both_ways (uses txs account seq) (above_unused txs account seq above) used)
+      | inr le ↦ le
+    ]
+
+gapless_used : (txs : List Tx) (account : ℕ) (window : Window) (seq : ℕ) → window.used ≡ 0
+    → InWindow txs account window.last → uses txs account seq ≡ true
+    → is_used (Next 1 window (used_numbers txs account window.last)) seq ≡ true
+gapless_used txs account window seq unused inside used =
+    let g = greatest_number txs account in
+    let above = (used_within txs account window.last seq inside used).0 in
+    let reached = used_reached txs account seq used in
+    let some : (g == 0) ≡ false = ne_eqb g 0 (λ e. absurd (omega arith)) in
+    let after : Next 1 window (used_numbers txs account window.last) ≡ record { last = g; used = 0 } =
+    last_is_greatest txs account window unused inside ∙ rw some refl in
+    ap (λ (w : Window). is_used w seq) after ∙ or_left (nat_le seq g) _ (le-leb seq g reached)
+
+-- in each version a number that a transaction uses is used afterwards
+pub used_after : (version : ℕ) → 1 ≤ version → version ≤ 2 → (txs : List Tx) (account : ℕ) (window : Window) (seq : ℕ)
+    → IsWindow version window → InWindow txs account window.last → uses txs account seq ≡ true
+    → is_used (Next version window (used_numbers txs account window.last)) seq ≡ true
+used_after zero some few txs account window seq is inside used = absurd (omega arith)
+used_after (suc zero) some few txs account window seq is inside used =
+    gapless_used txs account window seq (eqb-true window.used 0 is.map) inside used
+used_after (suc (suc zero)) some few txs account window seq is inside used =
+    used_by_both txs account window seq is inside ∙ or_right (is_used window seq) (uses txs account seq) used
+used_after (suc (suc (suc n))) some few txs account window seq is inside used = absurd (omega arith)

@@ -1,8 +1,12 @@
 pub mod CaseWords
 pub mod BodyCases
+pub mod GapCases
 pub mod AdmissibleCases
+pub mod WideCases
 pub mod StaticCases
+mod FormatCases
 pub mod TradeCases
+pub mod UsedBits
 pub mod LastNumbers
 pub mod Postings
 pub mod MustWithinMay
@@ -16,6 +20,7 @@ pub mod Insertion
 pub mod AccountsAfter
 pub mod OffersAfter
 pub mod BodyKeepsLedger
+pub mod LaterBodies
 pub mod SearchNumbers
 pub mod SearchById
 pub mod KeyOrder
@@ -27,6 +32,7 @@ pub mod RunningTotals
 pub mod TotalsInRange
 pub mod EntriesInOrder
 pub mod DependentParts
+pub mod WindowFields
 pub mod AccountLaws
 pub mod OfferLaws
 pub mod HeadLaws
@@ -35,3 +41,5 @@ pub mod Payload
 pub mod Lengths
 pub mod DecodedRanges
 pub mod BucketLaws
+pub mod Migrating
+pub mod FaultPlaces

@@ -36,19 +36,22 @@ sum_by-one f (head ∷ xs) (suc place) x here others =
     sum_by-one f xs place x here (λ q y e other. others (suc q) y e (λ same. other (omega arith))) in
     omega (arith, sum_by-cons f head xs)
 
--- balances that all cover what is taken: what is taken and what is left make up what was and what is given
-pub sum_by-moved : {X : Type 0} (balance taken given : X → ℕ) (xs : List X) → All (λ x. taken x ≤ balance x) xs
-    → sum_by (λ x. (balance x - taken x) + given x) xs + sum_by taken xs ≡ sum_by balance xs + sum_by given xs
+-- balances that all cover what is taken, with what is given: what is taken and what is left make up what was and what
+-- is given
+pub sum_by-moved : {X : Type 0} (balance taken given : X → ℕ) (xs : List X)
+    → All (λ x. taken x ≤ balance x + given x) xs
+    → sum_by (λ x. (balance x + given x) - taken x) xs + sum_by taken xs ≡ sum_by balance xs + sum_by given xs
 sum_by-moved balance taken given [] covers = refl
-sum_by-moved balance taken given (x ∷ xs) covers =
-    let here : taken x ≤ balance x = All-head (λ x. taken x ≤ balance x) x xs covers in
+sum_by-moved {X} balance taken given (x ∷ xs) covers =
+    let Covers = λ (x : X). taken x ≤ balance x + given x in
+    let here : taken x ≤ balance x + given x = All-head Covers x xs covers in
     omega (
       arith,
-      sum_by-cons (λ x. (balance x - taken x) + given x) x xs,
+      sum_by-cons (λ x. (balance x + given x) - taken x) x xs,
       sum_by-cons taken x xs,
       sum_by-cons balance x xs,
       sum_by-cons given x xs,
-      sum_by-moved balance taken given xs (All-tail (λ x. taken x ≤ balance x) x xs covers),
+      sum_by-moved balance taken given xs (All-tail Covers x xs covers),
     )
 
 -- what is kept and what passes the test make up all

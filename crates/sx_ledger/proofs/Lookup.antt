@@ -1,7 +1,7 @@
 -- What is known of an account or an offer once a search has found it, or has found that it is not there.
 use Rattle.std.proofs.Common.{◌≡◌, ◌≢◌, ℕ, zero, suc, ◌+◌, ◌<◌, Bool, true, false, ◌&&◌, ◌||◌, List, [], ◌∷◌, map}
 use Rattle.std.proofs.Common.{length, get_or, Option, Some, None, refl, sym, ap, subst, ◌∙◌, arith}
-use Rattle.std.specs.Prelude.{slice_get, Contains, IfSome, IfNone, nat_le, nat_eq}
+use Rattle.std.specs.Prelude.{slice_get, Contains, IfSome, IfNone, nat_eq}
 use Rattle.std.specs.List.{list_any}
 use Rattle.std.specs.Option.{option_map, is_some}
 use Rattle.std.specs.List.Sorted.{IsStrictlyIncreasing}
@@ -13,8 +13,9 @@ use Rattle.sx_ledger.specs.declared.key.Key.{Key}
 use Rattle.sx_ledger.specs.declared.offer.Offer.{Offer}
 use Rattle.sx_ledger.specs.Ledger.{has_owner, ids, keys}
 use Rattle.sx_ledger.specs.Order.{key_of, same_key}
-use Rattle.sx_ledger.specs.Static.{has_account, has_offer, last_of}
+use Rattle.sx_ledger.specs.Static.{has_account, has_offer, window_of}
 use Rattle.sx_ledger.proofs.KeyOrder.{same_key_is, same_key_from}
+use Rattle.sx_tx.specs.Window.{is_used}
 
 -- ---- tests of a list
 
@@ -93,17 +94,17 @@ any_at test (account ∷ accounts) (suc place) entry up at others =
     let not_here : test account ≡ false = others account (λ equal. absurd (omega arith)) in
     rw not_here (any_at test accounts place entry (ascends_after account.id.0 accounts up) at others)
 
-last_at : (accounts : List Account) (place : ℕ) (entry : Account) → Ascends accounts
-    → slice_get accounts place ≡ Some entry → last_of accounts entry.id.0 ≡ entry.window.last
-last_at [] place entry up at = absurd cc
-last_at (account ∷ accounts) zero entry up at =
+window_at : (accounts : List Account) (place : ℕ) (entry : Account) → Ascends accounts
+    → slice_get accounts place ≡ Some entry → window_of accounts entry.id.0 ≡ entry.window
+window_at [] place entry up at = absurd cc
+window_at (account ∷ accounts) zero entry up at =
     let same : account ≡ entry = same_Some account entry at in
     cond-true _ _ _ (eq-eqb account.id.0 entry.id.0 (ap (λ (x : Account). x.id.0) same))
-    ∙ ap (λ (x : Account). x.window.last) same
-last_at (account ∷ accounts) (suc place) entry up at =
+    ∙ ap (λ (x : Account). x.window) same
+window_at (account ∷ accounts) (suc place) entry up at =
     let later : account.id.0 < entry.id.0 = above_at account.id.0 accounts place entry up at in
     cond-false _ _ _ (ne_eqb account.id.0 entry.id.0 (λ equal. absurd (omega arith)))
-    ∙ last_at accounts place entry (ascends_after account.id.0 accounts up) at
+    ∙ window_at accounts place entry (ascends_after account.id.0 accounts up) at
 
 -- an account of this id, where accounts stand by id
 module _ (accounts : List Account) (place : ℕ) (entry : Account) (at : slice_get accounts place ≡ Some entry) where
@@ -112,13 +113,13 @@ module _ (accounts : List Account) (place : ℕ) (entry : Account) (at : slice_g
       (eq-eqb entry.id.0 entry.id.0 refl)
 
   module _ (up : IsStrictlyIncreasing (ids accounts)) where
-    pub last_is : last_of accounts entry.id.0 ≡ entry.window.last
-    last_is = last_at accounts place entry (ascends_from accounts up) at
+    pub window_is : window_of accounts entry.id.0 ≡ entry.window
+    window_is = window_at accounts place entry (ascends_from accounts up) at
 
     pub owner_is : (offer : Offer) → offer.account.0 ≡ entry.id.0
-        → has_owner accounts offer ≡ nat_le offer.seq entry.window.last
+        → has_owner accounts offer ≡ is_used entry.window offer.seq
     owner_is offer same =
-        any_at (λ account. nat_eq account.id.0 offer.account.0 && nat_le offer.seq account.window.last)
+        any_at (λ account. nat_eq account.id.0 offer.account.0 && is_used account.window offer.seq)
         accounts place entry (ascends_from accounts up) at
         (λ other differs. rw (ne_eqb other.id.0 offer.account.0 (λ equal. differs (equal ∙ same))) refl)
         ∙ rw (eq-eqb entry.id.0 offer.account.0 (sym same)) refl
@@ -176,7 +177,7 @@ is_unknown accounts id absent =
 pub no_owner : (accounts : List Account) (offer : Offer) → (Contains (ids accounts) offer.account.0 → ⊥)
     → has_owner accounts offer ≡ false
 no_owner accounts offer absent =
-    any_false (λ account. nat_eq account.id.0 offer.account.0 && nat_le offer.seq account.window.last) accounts
+    any_false (λ account. nat_eq account.id.0 offer.account.0 && is_used account.window offer.seq) accounts
     (λ place entry at. rw
     (ne_eqb entry.id.0 offer.account.0
     (no_mark (λ (account : Account). account.id.0) accounts offer.account.0 absent place entry at)) refl)

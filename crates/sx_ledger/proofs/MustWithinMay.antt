@@ -5,7 +5,6 @@ use Rattle.std.proofs.lemmas.Bool.{cases_Bool}
 use Rattle.std.proofs.lemmas.List.Sums.{sum_by-cons}
 use Rattle.std.proofs.Math.Nat.{mul-le-mul_left}
 use Rattle.sx_price.proofs.Decided.{must_is_may}
-use Rattle.sx_ledger.specs.declared.offer.Offer.{Offer}
 use Rattle.sx_ledger.specs.Bounds.{may_trade_at, must_trade_at, pair_of, price_of}
 use Rattle.sx_ledger.specs.EffectLaws.{LowWithinHigh, MustWithinMay}
 

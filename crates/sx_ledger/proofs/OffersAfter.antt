@@ -1,11 +1,11 @@
 -- The offers after the body of a block: their order, and their fields.
-use Rattle.std.proofs.Common.{◌≡◌, ◌≢◌, ℕ, ◌+◌, ◌<◌, ◌≤◌, true, false, ◌==◌, ◌&&◌, ◌||◌, List, [], ◌∷◌, length, All}
-use Rattle.std.proofs.Common.{Option, Some, None, inl, inr, refl, sym, ap, ◌∙◌, subst, arith}
+use Rattle.std.proofs.Common.{◌≡◌, ◌≢◌, ℕ, ◌<◌, ◌≤◌, true, false, ◌==◌, ◌&&◌, List, [], ◌∷◌, All}
+use Rattle.std.proofs.Common.{Option, Some, inl, inr, sym, ap, ◌∙◌, arith}
 use Rattle.std.specs.Prelude.{nat_le, nat_lt}
 use Rattle.std.specs.List.{AllByRecursion, cons_option}
 use Rattle.std.specs.List.Sorted.{IsStrictlyIncreasing}
-use Rattle.std.proofs.lemmas.Bool.{eqb-false, eqb-true, leb-false, leb-true, ltb-true, or_cases, or_left, or_right}
-use Rattle.std.proofs.lemmas.Bool.{or_parts}
+use Rattle.std.proofs.lemmas.Bool.{both_ways, eqb-false, eqb-true, leb-false, ltb-true, or_cases, or_from}
+use Rattle.std.proofs.lemmas.Bool.{or_left, or_parts, or_right}
 use Rattle.std.proofs.lemmas.List.Elements.{All-head, All-tail}
 use Rattle.sx_bytes.specs.Grammar.{in_order, may_follow}
 use Rattle.sx_bytes.proofs.Ordered.{and_parts}
@@ -13,20 +13,21 @@ use Rattle.sx_ledger.specs.declared.account.Account.{Account}
 use Rattle.sx_ledger.specs.declared.key.Key.{Key}
 use Rattle.sx_ledger.specs.declared.offer.Offer.{Offer}
 use Rattle.sx_ledger.specs.declared.parts.Parts.{Parts}
-use Rattle.sx_ledger.specs.Body.{made, made_by, tx_before}
-use Rattle.sx_ledger.specs.EffectLaws.{greatest_number}
+use Rattle.sx_ledger.specs.Body.{made, made_by, tx_before, uses}
 use Rattle.sx_ledger.specs.Ledger.{IsOffer, assets_of, has_owner, ids}
 use Rattle.sx_ledger.specs.Order.{key_before, key_of}
-use Rattle.sx_ledger.specs.Static.{has_account, is_same_pair, last_of, names_beyond}
+use Rattle.sx_ledger.specs.Static.{has_account, is_same_pair, names_beyond, window_of}
 use Rattle.sx_ledger.proofs.Insertion.{Apart, AreApart, id_of}
 use Rattle.sx_ledger.proofs.KeyOrder.{before_or_after}
-use Rattle.sx_ledger.proofs.Lookup.{entry_at, last_is, owner_is}
+use Rattle.sx_ledger.proofs.Lookup.{entry_at, owner_is, window_is}
 use Rattle.sx_ledger.proofs.PlacesOfIds.{stands}
 use Rattle.sx_ledger.proofs.PostingTotals.{Passes}
 use Rattle.sx_tx.specs.declared.kind.Kind.{Kind}
 use Rattle.sx_tx.specs.declared.kind.Kind.TheVariants as kind
 use Rattle.sx_tx.specs.declared.tx.Tx.{Tx}
+use Rattle.sx_tx.specs.declared.window.Window.{Window}
 use Rattle.sx_tx.specs.Transactions.{IsKind, IsTx}
+use Rattle.sx_tx.specs.Window.{is_marked, is_used}
 
 -- ---- transactions in order
 
@@ -109,43 +110,48 @@ pub owner_there : (accounts : List Account) (offer : Offer) → has_owner accoun
     → has_account accounts offer.account.0 ≡ true
 owner_there [] offer owned = absurd cc
 owner_there (account ∷ accounts) offer owned =
-    elim (or_cases ((account.id.0 == offer.account.0) && nat_le offer.seq account.window.last)
+    elim (or_cases ((account.id.0 == offer.account.0) && is_used account.window offer.seq)
     (has_owner accounts offer) owned) [
       | inl here ↦ or_left (account.id.0 == offer.account.0) (has_account accounts offer.account.0)
-          (and_parts (account.id.0 == offer.account.0) (nat_le offer.seq account.window.last) here).0
+          (and_parts (account.id.0 == offer.account.0) (is_used account.window offer.seq) here).0
       | inr there ↦ or_right (account.id.0 == offer.account.0) (has_account accounts offer.account.0)
           (owner_there accounts offer there)
     ]
 
 -- the sequence number of an offer is one that its account has used
 pub owner_used : (accounts : List Account) → IsStrictlyIncreasing (ids accounts) → (offer : Offer)
-    → has_owner accounts offer ≡ true → offer.seq ≤ last_of accounts offer.account.0
+    → has_owner accounts offer ≡ true → is_used (window_of accounts offer.account.0) offer.seq ≡ true
 owner_used accounts up offer owned =
     let at = stands accounts offer.account.0 (owner_there accounts offer owned) in
     let found = entry_at id_of accounts at.place offer.account.0 at.there in
-    let last : last_of accounts offer.account.0 ≡ found.0.window.last = ap (last_of accounts) found.2
-    ∙ last_is accounts at.place found.0 found.1 up in
-    let used : offer.seq ≤ found.0.window.last =
-    leb-true _ _ (sym (owner_is accounts at.place found.0 found.1 up offer found.2) ∙ owned) in
-    omega arith
+    let window : window_of accounts offer.account.0 ≡ found.0.window = ap (window_of accounts) found.2
+    ∙ window_is accounts at.place found.0 found.1 up in
+    ap (λ (window : Window). is_used window offer.seq) window
+    ∙ sym (owner_is accounts at.place found.0 found.1 up offer found.2) ∙ owned
 
 module _ (parts : Parts) (up : IsStrictlyIncreasing (ids parts.accounts)) where
   -- an offer that was there is of a sequence number that its account has used
-  kept_fresh : (account seq : ℕ) → last_of parts.accounts account < seq → (offers : List Offer)
+  kept_fresh : (account seq : ℕ) → is_used (window_of parts.accounts account) seq ≡ false → (offers : List Offer)
       → All (IsOffer (assets_of parts) parts.accounts) offers
       → AllByRecursion (Fresh account seq) offers
-  kept_fresh account seq above [] are = tt
-  kept_fresh account seq above (offer ∷ offers) are =
+  kept_fresh account seq unused [] are = tt
+  kept_fresh account seq unused (offer ∷ offers) are =
       let here = All-head (IsOffer (assets_of parts) parts.accounts) offer offers are in
       let used = owner_used parts.accounts up offer here.owner in
       let fresh : Fresh account seq offer = λ same e.
-      let at : offer.seq ≤ last_of parts.accounts account =
-      subst (λ (id : ℕ). offer.seq ≤ last_of parts.accounts id) same used in
-      absurd (omega arith) in (
+      both_ways (is_used (window_of parts.accounts account) seq) unused
+      (ap (λ (number : ℕ). is_used (window_of parts.accounts account) number) (sym e)
+      ∙ ap (λ (id : ℕ). is_used (window_of parts.accounts id) offer.seq) (sym same) ∙ used) in (
         fresh,
-        kept_fresh account seq above offers
+        kept_fresh account seq unused offers
             (All-tail (IsOffer (assets_of parts) parts.accounts) offer offers are),
       )
+
+  -- a number of a transaction that passes is not used before
+  passes_unused : (tx : Tx) → Passes parts tx → is_used (window_of parts.accounts tx.account.0) tx.seq ≡ false
+  passes_unused tx passes =
+      or_from (nat_le tx.seq (window_of parts.accounts tx.account.0).last)
+      (is_marked (window_of parts.accounts tx.account.0) tx.seq) passes.above passes.unmarked
 
   pub made_apart : (kept : List Offer) → All (IsOffer (assets_of parts) parts.accounts) kept
       → (previous : Option Tx) (txs : List Tx) → in_order tx_before previous txs ≡ true
@@ -172,7 +178,7 @@ module _ (parts : Parts) (up : IsStrictlyIncreasing (ids parts.accounts)) where
           } in
           let here = All-head (Passes parts) tx txs passing in (
             all_apart new rest fresh,
-            all_apart new kept (kept_fresh tx.account.0 tx.seq (leb-false _ _ here.above) kept are),
+            all_apart new kept (kept_fresh tx.account.0 tx.seq (passes_unused tx here) kept are),
             apart,
           )
       one (kind.Cancel sell buy limit seq) rest ordered fresh apart = apart
@@ -182,12 +188,11 @@ module _ (parts : Parts) (up : IsStrictlyIncreasing (ids parts.accounts)) where
 -- an offer of two different assets out of `assets`, by an account that is there, under a number that it uses
 pub record IsMade (parts : Parts) (all : List Tx) (offer : Offer) : Type 0 where
   pub there : has_account parts.accounts offer.account.0 ≡ true
-  pub some : 1 ≤ offer.seq
-  pub used : offer.seq ≤ greatest_number all offer.account.0
+  pub used : uses all offer.account.0 offer.seq ≡ true
   pub fields : (accounts : List Account) → has_owner accounts offer ≡ true → IsOffer (assets_of parts) accounts offer
 
 pub all_made : (parts : Parts) (all txs : List Tx) → All IsTx txs → All (Passes parts) txs
-    → AllByRecursion (λ tx. tx.seq ≤ greatest_number all tx.account.0) txs
+    → AllByRecursion (λ tx. uses all tx.account.0 tx.seq ≡ true) txs
     → AllByRecursion (IsMade parts all) (made txs)
 all_made parts all [] in_range passing used = tt
 all_made parts all (tx ∷ txs) in_range passing used =
@@ -206,7 +211,6 @@ all_made parts all (tx ∷ txs) in_range passing used =
         let tx_is = All-head IsTx tx txs in_range in (
           record {
             there = (All-head (Passes parts) tx txs passing).own;
-            some = tx_is.seq.0;
             used = used.0;
             fields = λ accounts owner. record {
               sell = leb-false _ _ both.0;

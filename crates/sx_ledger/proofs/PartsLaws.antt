@@ -35,13 +35,13 @@ from_accounts head accounts c =
     offer_list_at accounts (length head.2) c >>= λ offers. Ok (made head accounts offers.0, offers.1)
 
 abbrev from_head : Head → Reading Parts
-from_head head c = account_list_at (length head.2) c >>= λ accounts. from_accounts head accounts.0 accounts.1
+from_head head c = account_list_at head.0 (length head.2) c >>= λ accounts. from_accounts head accounts.0 accounts.1
 
 abbrev offers_text : Parts → List ℕ
 offers_text parts = offer_list_bytes parts.offers
 
 abbrev accounts_text : Parts → List ℕ
-accounts_text parts = account_list_bytes parts.accounts ++ offers_text parts
+accounts_text parts = account_list_bytes parts.version parts.accounts ++ offers_text parts
 
 -- parts of this head and these accounts
 record FromAccounts (head : Head) (accounts : List Account) (parts : Parts) : Type 0 where
@@ -50,7 +50,7 @@ record FromAccounts (head : Head) (accounts : List Account) (parts : Parts) : Ty
   offers_are : AreOffers (length head.2) accounts parts.offers
 
 abbrev FromHead : Head → Parts → Type 0
-FromHead head parts = AreAccounts (length head.2) parts.accounts × FromAccounts head parts.accounts parts
+FromHead head parts = AreAccounts head.0 (length head.2) parts.accounts × FromAccounts head parts.accounts parts
 
 offers_take : (head : Head) (accounts : List Account) → IsHead head
     → TakesAll (from_accounts head accounts) offers_text (FromAccounts head accounts)
@@ -81,24 +81,31 @@ offers_again head accounts is c parts after from within e =
     subst (λ (p : Parts). Again (from_accounts head accounts c) c p after) same again
 
 accounts_take : (head : Head) → IsHead head → TakesAll (from_head head) accounts_text (FromHead head)
-accounts_take head is =
-    chained_takes (account_list_at (length head.2)) (from_accounts head) account_list_bytes offers_text
-    (AreAccounts (length head.2)) (FromAccounts head) (λ parts. parts.accounts)
-    (account_list_takes (length head.2)) (λ accounts are. offers_take head accounts is)
-    (λ accounts parts from. from.accounts_are)
+accounts_take head is c next parts bytes e =
+    let t = chained_takes (account_list_at head.0 (length head.2)) (from_accounts head) (account_list_bytes head.0)
+    offers_text (AreAccounts head.0 (length head.2)) (FromAccounts head) (λ parts. parts.accounts)
+    (account_list_takes head.0 (length head.2)) (λ accounts are. offers_take head accounts is)
+    (λ accounts parts from. from.accounts_are) c next parts bytes e in
+    let text : Takes c (accounts_text parts) next =
+    subst (λ (h : Head). Takes c (account_list_bytes h.0 parts.accounts ++ offers_text parts) next) t.1.1.head_is t.0 in
+    (text, t.1)
 
 accounts_again : (head : Head) → IsHead head → ReadsAgain (from_head head) accounts_text (FromHead head)
-accounts_again head is =
-    chained_again (account_list_at (length head.2)) (from_accounts head) account_list_bytes offers_text
-    (AreAccounts (length head.2)) (FromAccounts head) (λ parts. parts.accounts)
-    (account_list_again (length head.2)) (λ accounts are. offers_again head accounts is)
+accounts_again head is c parts after from within e =
+    let text : rest c ≡ (account_list_bytes head.0 parts.accounts ++ offers_text parts) ++ after =
+    subst (λ (h : Head). rest c ≡ (account_list_bytes h.0 parts.accounts ++ offers_text parts) ++ after)
+    (sym from.1.head_is) e in
+    chained_again (account_list_at head.0 (length head.2)) (from_accounts head) (account_list_bytes head.0)
+    offers_text (AreAccounts head.0 (length head.2)) (FromAccounts head) (λ parts. parts.accounts)
+    (account_list_again head.0 (length head.2)) (λ accounts are. offers_again head accounts is)
+    c parts after from within text
 
 -- ---- all of them
 
 -- all that a ledger keeps but its totals
 pub record IsRead (parts : Parts) : Type 0 where
   pub head_is : IsHead (head_of parts)
-  pub accounts_are : AreAccounts (assets_of parts) parts.accounts
+  pub accounts_are : AreAccounts parts.version (assets_of parts) parts.accounts
   pub offers_are : AreOffers (assets_of parts) parts.accounts parts.offers
 
 text_is : (parts : Parts) → head_bytes (head_of parts) ++ accounts_text parts ≡ state_bytes parts
@@ -132,7 +139,8 @@ pub ledger_from_read : (parts : Parts) → IsRead parts
 ledger_from_read parts is totals =
     let head = is.head_is.1.1.1 in
     record {
-      version = is.head_is.0;
+      some_version = is.head_is.0.0;
+      few_versions = is.head_is.0.1;
       height = is.head_is.1.0;
       some_asset = is.head_is.1.1.0.0;
       few_assets = is.head_is.1.1.0.1;
@@ -157,7 +165,7 @@ read_from_ledger parts is =
       rounding = record { number = is.one_rounding; are = is.rounding };
     } in
     record {
-      head_is = (is.version, (is.height, ((is.some_asset, is.few_assets), numbers)));
+      head_is = ((is.some_version, is.few_versions), (is.height, ((is.some_asset, is.few_assets), numbers)));
       accounts_are = record { few = is.few_accounts; are = is.accounts; by_id = is.by_id };
       offers_are = record { few = is.few_offers; are = is.offers; by_key = is.by_key };
     }

@@ -1,21 +1,18 @@
 -- A whole payload: its totals and its end.
-use Rattle.std.proofs.Common.{◌≡◌, ℕ, zero, suc, ◌^◌, ◌<◌, ◌≤◌, true, cond, eqb, List, [], ◌++◌, length, Result, Ok}
-use Rattle.std.proofs.Common.{Err, refl, sym, ap, subst, ◌∙◌, arith, inl, inr}
-use Rattle.std.specs.Prelude.{IfOk}
-use Rattle.std.proofs.lemmas.Bool.{and_from, leb-true, le-leb, eqb-true, eq-eqb, cases_lt}
+use Rattle.std.proofs.Common.{◌≡◌, ℕ, true, cond, eqb, List, [], ◌++◌, length, Result, Ok}
+use Rattle.std.proofs.Common.{Err, refl, sym, ap, subst, ◌∙◌, arith}
+use Rattle.std.proofs.lemmas.Bool.{eqb-true, eq-eqb}
 use Rattle.std.proofs.lemmas.List.{append-nil, nil_from_length}
 use Rattle.sx_bytes.specs.declared.fault.Form.TheVariants as form
 use Rattle.sx_bytes.specs.declared.fault.FormFault.{FormFault}
-use Rattle.sx_bytes.specs.declared.fault.ReadError.{ReadError}
 use Rattle.sx_bytes.specs.Field.{AreBytes}
 use Rattle.sx_bytes.specs.Cursor.{Cursor, rest, left}
-use Rattle.sx_bytes.specs.Grammar.{◌>>=◌, Gives}
+use Rattle.sx_bytes.specs.Grammar.{◌>>=◌}
 use Rattle.sx_bytes.specs.Laws.{IsInjective, IsPrefixFree}
 use Rattle.sx_bytes.proofs.Grammar.{bind_ok, guard_ok, length-rest}
-use Rattle.sx_bytes.proofs.Ordered.{and_parts}
 use Rattle.sx_bytes.proofs.Parts.{ReadsAgain, is_injective, is_prefix_free}
 use Rattle.sx_ledger.specs.declared.parts.Parts.{Parts}
-use Rattle.sx_ledger.specs.Ledger.{assets_of, total_of, IsLedger}
+use Rattle.sx_ledger.specs.Ledger.{assets_of, IsLedger}
 use Rattle.sx_ledger.specs.Encoding.{state_bytes}
 use Rattle.sx_ledger.specs.Decoding.{guarded, totals_fit, parts_at, state_at}
 use Rattle.sx_ledger.proofs.TotalsInRange.{totals_in_range, totals_fit_from}

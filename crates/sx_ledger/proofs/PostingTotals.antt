@@ -14,14 +14,15 @@ use Rattle.sx_ledger.specs.declared.statics.Static.{Static}
 use Rattle.sx_ledger.specs.Body.{created, created_by}
 use Rattle.sx_ledger.specs.Effects.{Posting, credit, credit_of, credits, debit, debit_of, debits, posted}
 use Rattle.sx_ledger.specs.Ledger.{assets_of, ids}
-use Rattle.sx_ledger.specs.Static.{creates_known, first_holding, has_account, is_same_pair, last_of, names_beyond}
-use Rattle.sx_ledger.specs.Static.{pays_unknown, static_list, static_of}
+use Rattle.sx_ledger.specs.Static.{creates_known, first_holding, has_account, is_same_pair, names_beyond}
+use Rattle.sx_ledger.specs.Static.{pays_unknown, static_list, static_of, window_of}
 use Rattle.sx_ledger.proofs.ListSums.{sum_by-add, sum_by-none, sum_by-one, sum_by-same}
 use Rattle.sx_ledger.proofs.Postings.{credits_sum, debits_sum}
 use Rattle.sx_ledger.proofs.PlacesOfIds.{Stands, same_place, stands}
 use Rattle.sx_tx.specs.declared.kind.Kind.{Kind}
 use Rattle.sx_tx.specs.declared.kind.Kind.TheVariants as kind
 use Rattle.sx_tx.specs.declared.tx.Tx.{Tx}
+use Rattle.sx_tx.specs.Window.{is_marked, open_numbers}
 
 -- ---- postings at accounts that are there
 
@@ -126,8 +127,9 @@ none_holds (reason ∷ reasons) passes =
 
 pub record Passes (parts : Parts) (tx : Tx) : Type 0 where
   pub own : has_account parts.accounts tx.account.0 ≡ true
-  pub above : nat_le tx.seq (last_of parts.accounts tx.account.0) ≡ false
-  pub within : nat_lt (last_of parts.accounts tx.account.0 + 64) tx.seq ≡ false
+  pub above : nat_le tx.seq (window_of parts.accounts tx.account.0).last ≡ false
+  pub within : nat_lt ((window_of parts.accounts tx.account.0).last + open_numbers) tx.seq ≡ false
+  pub unmarked : is_marked (window_of parts.accounts tx.account.0) tx.seq ≡ false
   pub assets : names_beyond (assets_of parts) tx.kind ≡ false
   pub differ : is_same_pair tx.kind ≡ false
   pub payee : pays_unknown parts.accounts tx.kind ≡ false
@@ -140,10 +142,11 @@ passes parts tx e =
       own = not-false (has_account parts.accounts tx.account.0) none.0;
       above = none.1.0;
       within = none.1.1.0;
-      assets = none.1.1.1.0;
-      differ = none.1.1.1.1.0;
-      payee = none.1.1.1.1.1.0;
-      new = none.1.1.1.1.1.1.0;
+      unmarked = none.1.1.1.0;
+      assets = none.1.1.1.1.0;
+      differ = none.1.1.1.1.1.0;
+      payee = none.1.1.1.1.1.1.0;
+      new = none.1.1.1.1.1.1.1.0;
     }
 
 debit_there : (accounts : List Account) (by : ℕ) (k : Kind) → has_account accounts by ≡ true

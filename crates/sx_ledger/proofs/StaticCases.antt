@@ -7,7 +7,7 @@ use Rattle.sx_ledger.specs.declared.places.Target.{Target}
 use Rattle.sx_ledger.specs.declared.places.Target.TheVariants as target
 use Rattle.sx_ledger.specs.Places.{ArePlaces}
 use Rattle.sx_ledger.specs.Static.{static_of}
-use Rattle.sx_ledger.proofs.CaseWords.{account, cancel, create, offer, one, pay, sell_for, state, tx}
+use Rattle.sx_ledger.proofs.CaseWords.{account, cancel, create, offer, one, pay, sell_for, state, tx, with_gap}
 
 -- two assets; account 1 has used the sequence number 7, and sells 5 of the first asset under it
 abbrev ledger : Parts
@@ -19,6 +19,16 @@ window_ends : (static_of ledger (tx 1 71 (pay 2 0 1)) ≡ Ok tt)
     × (static_of ledger (tx 1 8 (pay 2 0 1)) ≡ Ok tt)
     × (static_of ledger (tx 1 7 (pay 2 0 1)) ≡ Err static.SeqBehind)
 window_ends = (refl, refl, refl, refl)
+
+-- version 2; account 1 used 9 and 10 and not 8
+used_number : (static_of with_gap (tx 1 9 (pay 2 0 1)) ≡ Err static.SeqUsed)
+    × (static_of with_gap (tx 1 10 (pay 2 0 1)) ≡ Err static.SeqUsed)
+    × (static_of with_gap (tx 1 8 (pay 2 0 1)) ≡ Ok tt)
+    × (static_of with_gap (tx 1 11 (pay 2 0 1)) ≡ Ok tt)
+    × (static_of with_gap (tx 2 9 (pay 1 0 1)) ≡ Ok tt)
+    × (static_of with_gap (tx 1 9 (pay 2 1 1)) ≡ Err static.SeqUsed)
+    × (static_of with_gap (tx 1 9 (create 2)) ≡ Err static.SeqUsed)
+used_number = (refl, refl, refl, refl, refl, refl, refl)
 
 dust : (static_of ledger (tx 1 8 (sell_for 0 1 (2 ^ 24 - 1) 1)) ≡ Err static.Dust)
     × (static_of ledger (tx 1 8 (sell_for 0 1 (2 ^ 24) 1)) ≡ Ok tt)
@@ -50,13 +60,17 @@ cancellations = (refl, refl, refl, refl, refl)
 
 -- of two reasons the first counts
 first_of_two : (static_of ledger (tx 3 0 (pay 2 0 1)) ≡ Err static.UnknownAccount)
+    × (static_of ledger (tx 3 72 (pay 2 0 1)) ≡ Err static.UnknownAccount)
+    × (static_of ledger (tx 1 7 (create 2)) ≡ Err static.SeqBehind)
+    × (static_of ledger (tx 1 72 (create 2)) ≡ Err static.SeqBeyond)
+    × (static_of ledger (tx 1 72 (pay 9 0 1)) ≡ Err static.SeqBeyond)
     × (static_of ledger (tx 1 7 (pay 2 2 1)) ≡ Err static.SeqBehind)
     × (static_of ledger (tx 1 72 (pay 2 2 1)) ≡ Err static.SeqBeyond)
     × (static_of ledger (tx 1 8 (pay 9 2 1)) ≡ Err static.UnknownAsset)
     × (static_of ledger (tx 1 8 (cancel 2 2 one 7)) ≡ Err static.UnknownAsset)
     × (static_of ledger (tx 1 8 (cancel 1 1 one 7)) ≡ Err static.SamePair)
     × (static_of ledger (tx 1 8 (sell_for 1 1 1 1)) ≡ Err static.SamePair)
-first_of_two = (refl, refl, refl, refl, refl, refl, refl)
+first_of_two = (refl, refl, refl, refl, refl, refl, refl, refl, refl, refl, refl)
 
 abbrev places : ℕ → Target → Places
 places account named = record { account = account; target = named }

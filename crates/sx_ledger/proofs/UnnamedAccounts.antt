@@ -1,5 +1,5 @@
 -- An account that no transaction names does not change.
-use Rattle.std.proofs.Common.{◌≡◌, ℕ, zero, suc, ◌+◌, ◌-◌, false, ◌==◌, List, [], ◌∷◌, All, ap, ap₂, refl, arith}
+use Rattle.std.proofs.Common.{◌≡◌, ℕ, zero, suc, ◌+◌, ◌-◌, false, ◌==◌, List, [], ◌∷◌, All, ap, ap₂, ◌∙◌, refl, arith}
 use Rattle.std.proofs.lemmas.Bool.{or_parts}
 use Rattle.std.proofs.lemmas.List.Elements.{All-head, All-tail}
 use Rattle.sx_ledger.specs.declared.offer.Offer.{Offer}
@@ -9,7 +9,8 @@ use Rattle.sx_ledger.specs.EffectLaws.{UnnamedStays, names, pays}
 use Rattle.sx_tx.specs.declared.kind.Kind.{Kind}
 use Rattle.sx_tx.specs.declared.kind.Kind.TheVariants as kind
 use Rattle.sx_tx.specs.declared.tx.Tx.{Tx}
-use Rattle.sx_tx.specs.Window.{Next}
+use Rattle.sx_tx.specs.Window.{Next, open_numbers}
+use Rattle.sx_tx.proofs.UsedNumbers.{none_used}
 
 no_debit : (by account asset : ℕ) (k : Kind) → (by == account) ≡ false → posted (debit_of by k) account asset ≡ 0
 no_debit by account asset (kind.Pay to paid amount) other = rw other refl
@@ -67,14 +68,15 @@ same_balances : (offers : List Offer) (txs : List Tx) (account asset : ℕ) (bal
     → balances_after offers txs account asset balances ≡ balances
 same_balances offers txs account asset [] unnamed = refl
 same_balances offers txs account asset (balance ∷ balances) unnamed =
-    let here : (balance - debits txs account asset) + credits offers txs account asset ≡ balance =
+    let here : (balance + credits offers txs account asset) - debits txs account asset ≡ balance =
     omega (arith, no_debits account asset txs unnamed, no_credits offers account asset txs unnamed) in
     ap₂ (λ (b : ℕ) (bs : List ℕ). b ∷ bs) here (same_balances offers txs account (suc asset) balances unnamed)
 
 pub unnamed_stays : UnnamedStays
-unnamed_stays parts txs account unnamed =
+unnamed_stays parts txs account is unnamed =
     let window : Next parts.version account.window (used_numbers txs account.id.0 account.window.last)
     ≡ account.window =
-    ap (Next parts.version account.window) (no_numbers account.id.0 account.window.last 64 txs unnamed) in
+    ap (Next parts.version account.window) (no_numbers account.id.0 account.window.last open_numbers txs unnamed)
+    ∙ none_used parts.version account.window is in
     let balances = same_balances parts.offers txs account.id.0 0 account.balances unnamed in
     rw (window, balances) refl

@@ -14,7 +14,7 @@ use Rattle.sx_ledger.specs.Static.{static_of}
 use Rattle.sx_tx.specs.declared.kind.Kind.{Kind}
 use Rattle.sx_tx.specs.declared.kind.Kind.TheVariants as kind
 use Rattle.sx_tx.specs.declared.tx.Tx.{Tx}
-use Rattle.sx_tx.specs.Window.{Next}
+use Rattle.sx_tx.specs.Window.{Next, open_numbers}
 
 -- a transaction stands before another: by account, then by sequence number
 abbrev pub tx_before : Tx → Tx → Bool
@@ -63,14 +63,26 @@ holding_of [] id asset = 0
 holding_of (account ∷ accounts) id asset =
     if account.id.0 == id then balance_at asset account else holding_of accounts id asset
 
-pub record IsAdmissible (parts : Parts) (txs : List Tx) : Type 0 where
+-- What an account may spend of an asset in a body of this version: what it holds before, and in version 2 also what
+-- the body credits to it.
+abbrev pub spendable : ℕ → Parts → List Tx → ℕ → ℕ → ℕ
+spendable version parts txs account asset =
+    if version == 1 then holding_of parts.accounts account asset
+    else holding_of parts.accounts account asset + credits parts.offers txs account asset
+
+-- a body by the rule of this version
+pub record IsAdmissibleIn (version : ℕ) (parts : Parts) (txs : List Tx) : Type 0 where
   pub ordered : IsTrue (in_order tx_before None txs)
   pub passes : All (λ tx. static_of parts tx ≡ Ok tt) txs
   pub cancels_once : IsDistinct same_key (cancelled txs)
   pub creates_once : IsDistinct nat_eq (created txs)
   pub accounts_fit : length parts.accounts + length (created txs) ≤ most_accounts
   pub offers_fit : length parts.offers + length (made txs) ≤ most_offers
-  pub covered : (account asset : ℕ) → debits txs account asset ≤ holding_of parts.accounts account asset
+  pub covered : (account asset : ℕ) → debits txs account asset ≤ spendable version parts txs account asset
+
+-- a body by the rule of version 1: nothing that it credits is spent in it
+abbrev pub IsAdmissible : Parts → List Tx → Type 0
+IsAdmissible parts txs = IsAdmissibleIn 1 parts txs
 
 -- ---- what is left of an account
 
@@ -85,13 +97,13 @@ used_below txs account last (suc n) =
     (if uses txs account (last + 1 + n) then 2 ^ n else 0) + used_below txs account last n
 
 abbrev pub used_numbers : List Tx → ℕ → ℕ → ℕ
-used_numbers txs account last = used_below txs account last 64
+used_numbers txs account last = used_below txs account last open_numbers
 
--- the balances from an asset on: what was there, less the debits, plus the credits
+-- the balances from an asset on: what was there and the credits, less the debits
 abbrev pub balances_after : List Offer → List Tx → ℕ → ℕ → List ℕ → List ℕ
 balances_after offers txs account asset [] = []
 balances_after offers txs account asset (balance ∷ balances) =
-    ((balance - debits txs account asset) + credits offers txs account asset)
+    ((balance + credits offers txs account asset) - debits txs account asset)
     ∷ balances_after offers txs account (suc asset) balances
 
 abbrev pub account_after : Parts → List Tx → Account → Account

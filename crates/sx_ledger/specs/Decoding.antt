@@ -10,10 +10,13 @@ use Rattle.sx_ledger.specs.declared.account.Account.{Account}
 use Rattle.sx_ledger.specs.declared.key.Key.{Key}
 use Rattle.sx_ledger.specs.declared.offer.Offer.{Offer}
 use Rattle.sx_ledger.specs.declared.parts.Parts.{Parts}
-use Rattle.sx_ledger.specs.Ledger.{assets_of, has_owner, most_accounts, most_height, most_offers, total_of}
+use Rattle.sx_ledger.specs.Ledger.{assets_of, has_owner, most_accounts, most_height, most_offers, most_version}
+use Rattle.sx_ledger.specs.Ledger.{total_of}
 use Rattle.sx_ledger.specs.Order.{key_of, key_before}
 use Rattle.sx_price.specs.Limits.{least_price, most_price}
 use Rattle.sx_tx.specs.TransactionDecoding.{id_at, seq_at, amount_at, limit_at}
+use Rattle.sx_tx.specs.declared.window.Window.{Window}
+use Rattle.sx_tx.specs.Window.{is_map}
 
 abbrev pub price_at : Cursor → Result (ℕ × Cursor) FormFault
 price_at = field_at 8 (between least_price most_price) form.PriceRange
@@ -21,10 +24,6 @@ price_at = field_at 8 (between least_price most_price) form.PriceRange
 -- a balance, or the rounding of an asset
 abbrev pub units_field_at : Cursor → Result (ℕ × Cursor) FormFault
 units_field_at = field_at 8 (between 0 most_amount) form.AmountRange
-
--- the greatest sequence number that an account used, 0 where it used none
-abbrev pub last_at : Cursor → Result (ℕ × Cursor) FormFault
-last_at = field_at 8 (between 0 most_seq) form.SeqRange
 
 -- an entry that passes a test, which is made once the whole entry is read
 abbrev pub guarded : {X : Type 0} → Bool → X × Cursor → FormFault → Result (X × Cursor) FormFault
@@ -41,24 +40,36 @@ each_at entry mark (suc n) before c = do
 
 -- ---- accounts
 
-unfoldable pub account_at : ℕ → Cursor → Result (Account × Cursor) FormFault
-account_at assets c = do
+-- the greatest sequence number up to which an account used all, 0 where it used none
+abbrev pub last_at : Cursor → Result (ℕ × Cursor) FormFault
+last_at = field_at 8 (between 0 most_seq) form.SeqRange
+
+-- the map of the sequence numbers that were used above the last one, which version 1 does not have
+abbrev pub map_at : ℕ → ℕ → Cursor → Result (ℕ × Cursor) FormFault
+map_at version last c =
+    if version == 1 then Ok (0, c) else field_at 8 (is_map version last) form.UsedRange c
+
+abbrev pub window_at : ℕ → Cursor → Result (Window × Cursor) FormFault
+window_at version c = do
+  last ← last_at c
+  used ← map_at version last.0 last.1
+  Ok (record { last = last.0; used = used.0 }, used.1)
+
+unfoldable pub account_at : ℕ → ℕ → Cursor → Result (Account × Cursor) FormFault
+account_at version assets c = do
   id ← id_at c
-  last ← last_at id.1
-  balances ← many_at units_field_at assets last.1
-  Ok (
-    record { id = record { 0 = id.0 }; window = record { last = last.0; used = 0 }; balances = balances.0 },
-    balances.1,
-  )
+  window ← window_at version id.1
+  balances ← many_at units_field_at assets window.1
+  Ok (record { id = record { 0 = id.0 }; window = window.0; balances = balances.0 }, balances.1)
 
 -- an account that comes after the one before it, of which the id is known
-unfoldable pub next_account_at : ℕ → Option ℕ → Cursor → Result (Account × Cursor) FormFault
-next_account_at assets before c = do
-  account ← account_at assets c
+unfoldable pub next_account_at : ℕ → ℕ → Option ℕ → Cursor → Result (Account × Cursor) FormFault
+next_account_at version assets before c = do
+  account ← account_at version assets c
   guarded (may_follow nat_lt before account.0.id.0) account (record { at = c.place; fault = form.Order })
 
-abbrev pub accounts_at : ℕ → ℕ → Option ℕ → Cursor → Result (List Account × Cursor) FormFault
-accounts_at assets = each_at (next_account_at assets) (λ account. account.id.0)
+abbrev pub accounts_at : ℕ → ℕ → ℕ → Option ℕ → Cursor → Result (List Account × Cursor) FormFault
+accounts_at version assets = each_at (next_account_at version assets) (λ account. account.id.0)
 
 -- ---- offers
 
@@ -107,7 +118,7 @@ offers_at accounts assets = each_at (next_offer_at accounts assets) key_of
 -- what stands before the accounts: the version, the height, the prices and the rounding
 unfoldable pub head_at : Cursor → Result ((ℕ × ℕ × List ℕ × List ℕ) × Cursor) FormFault
 head_at c = do
-  version ← field_at 1 (between 1 1) form.Version c
+  version ← field_at 1 (between 1 most_version) form.Version c
   height ← field_at 8 (between 0 most_height) form.HeightRange version.1
   assets ← field_at 1 (between 1 most_assets) form.AssetCount height.1
   prices ← many_at price_at assets.0 assets.1
@@ -115,10 +126,10 @@ head_at c = do
   Ok ((version.0, height.0, prices.0, rounding.0), rounding.1)
 
 -- the number of accounts, and the accounts
-unfoldable pub account_list_at : ℕ → Cursor → Result (List Account × Cursor) FormFault
-account_list_at assets c = do
+unfoldable pub account_list_at : ℕ → ℕ → Cursor → Result (List Account × Cursor) FormFault
+account_list_at version assets c = do
   count ← field_at 4 (between 0 most_accounts) form.TooMany c
-  accounts_at assets count.0 None count.1
+  accounts_at version assets count.0 None count.1
 
 -- the number of offers, and the offers
 unfoldable pub offer_list_at : List Account → ℕ → Cursor → Result (List Offer × Cursor) FormFault
@@ -130,7 +141,7 @@ offer_list_at accounts assets c = do
 unfoldable pub parts_at : Cursor → Result (Parts × Cursor) FormFault
 parts_at c = do
   head ← head_at c
-  accounts ← account_list_at (length head.0.2) head.1
+  accounts ← account_list_at head.0.0 (length head.0.2) head.1
   offers ← offer_list_at accounts.0 (length head.0.2) accounts.1
   Ok (
     record {

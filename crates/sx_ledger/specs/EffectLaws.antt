@@ -6,7 +6,7 @@ use Rattle.std.specs.List.Sorted.{IsPermutation}
 use Rattle.sx_ledger.specs.declared.account.Account.{Account}
 use Rattle.sx_ledger.specs.declared.offer.Offer.{Offer}
 use Rattle.sx_ledger.specs.declared.parts.Parts.{Parts}
-use Rattle.sx_ledger.specs.Body.{IsAdmissible, account_after, body_after, used_numbers}
+use Rattle.sx_ledger.specs.Body.{IsAdmissible, IsAdmissibleIn, account_after, body_after, used_numbers, uses}
 use Rattle.sx_ledger.specs.Bounds.{amounts, high_of, low_of, may_trade_at, must_trade_at}
 use Rattle.sx_ledger.specs.Effects.{credits, debits}
 use Rattle.sx_ledger.specs.Ledger.{IsLedger, assets_of, total_of}
@@ -15,7 +15,7 @@ use Rattle.sx_tx.specs.declared.kind.Kind.TheVariants as kind
 use Rattle.sx_tx.specs.declared.tx.Tx.{Tx}
 use Rattle.sx_tx.specs.declared.window.Window.{Window}
 use Rattle.sx_tx.specs.Transactions.{IsTx}
-use Rattle.sx_tx.specs.Window.{Next}
+use Rattle.sx_tx.specs.Window.{IsWindow, Next, is_used, open_numbers}
 
 -- ---- debits and credits
 
@@ -71,7 +71,8 @@ names account tx = (tx.account.0 == account) || pays account tx.kind
 -- an account that no transaction names does not change
 abbrev pub UnnamedStays : Type 0
 UnnamedStays =
-    (parts : Parts) (txs : List Tx) (account : Account) → All (λ tx. names account.id.0 tx ≡ false) txs →
+    (parts : Parts) (txs : List Tx) (account : Account) → IsWindow parts.version account.window →
+    All (λ tx. names account.id.0 tx ≡ false) txs →
     account_after parts txs account ≡ account
 
 -- the greatest sequence number that an account uses, 0 where it uses none
@@ -81,7 +82,7 @@ greatest_number (tx ∷ txs) account = max (if tx.account.0 == account then tx.s
 
 -- each sequence number that the account uses is among the 64 above the last one
 abbrev pub InWindow : List Tx → ℕ → ℕ → Type 0
-InWindow txs account last = All (λ tx. tx.account.0 ≡ account → (last < tx.seq) × (tx.seq ≤ last + 64)) txs
+InWindow txs account last = All (λ tx. tx.account.0 ≡ account → (last < tx.seq) × (tx.seq ≤ last + open_numbers)) txs
 
 -- the last sequence number of a window is afterwards the greatest one that was used, or the old one where none was
 abbrev pub LastIsGreatest : Type 0
@@ -93,16 +94,30 @@ LastIsGreatest =
       used = 0;
     }
 
+-- in version 2 a number is used afterwards exactly where it was used before or a transaction uses it
+abbrev pub UsedByWindowOrBody : Type 0
+UsedByWindowOrBody =
+    (txs : List Tx) (account : ℕ) (window : Window) (seq : ℕ) → IsWindow 2 window → InWindow txs account window.last →
+    is_used (Next 2 window (used_numbers txs account window.last)) seq ≡ (is_used window seq || uses txs account seq)
+
+-- ---- the rules of the two versions
+
+-- what version 1 admits every version admits
+abbrev pub LaterAdmitsMore : Type 0
+LaterAdmitsMore =
+    (version : ℕ) (parts : Parts) (txs : List Tx) → IsAdmissible parts txs → IsAdmissibleIn version parts txs
+
 -- ---- the whole body
 
 -- the ledger after the body of a block is a ledger, where each number of the transactions is in its range
 abbrev pub BodyKeepsLedger : Type 0
 BodyKeepsLedger =
-    (parts : Parts) (txs : List Tx) → IsLedger parts → All IsTx txs → IsAdmissible parts txs
+    (version : ℕ) (parts : Parts) (txs : List Tx) → IsLedger parts → All IsTx txs → IsAdmissibleIn version parts txs
     → IsLedger (body_after parts txs)
 
 -- the body of a block makes and loses nothing of any asset
 abbrev pub BodyConserves : Type 0
 BodyConserves =
-    (parts : Parts) (txs : List Tx) (asset : ℕ) → IsLedger parts → IsAdmissible parts txs → asset < assets_of parts →
+    (version : ℕ) (parts : Parts) (txs : List Tx) (asset : ℕ) → IsLedger parts → IsAdmissibleIn version parts txs →
+    asset < assets_of parts →
     total_of (body_after parts txs) asset ≡ total_of parts asset

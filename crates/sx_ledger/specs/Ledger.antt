@@ -1,9 +1,9 @@
 -- What a ledger keeps, over its parts: lists and whole numbers.
 use Rattle.std.specs.Prelude.{◌≡◌, ◌≢◌, ℕ, ◌+◌, ◌-◌, ◌^◌, ◌<◌, ◌≤◌, Bool, IsTrue, List, length, map, slice_index}
-use Rattle.std.specs.Prelude.{None, nat_le, ◌==◌, ◌&&◌, if◌then◌else◌}
+use Rattle.std.specs.Prelude.{None, ◌==◌, ◌&&◌, if◌then◌else◌}
 use Rattle.std.specs.List.{All, Contains, list_any, sum_by}
 use Rattle.std.specs.List.Sorted.{IsStrictlyIncreasing}
-use Rattle.sx_base.specs.Ranges.{most_amount, most_assets, most_seq}
+use Rattle.sx_base.specs.Ranges.{most_amount, most_assets}
 use Rattle.sx_bytes.specs.Grammar.{in_order}
 use Rattle.sx_ledger.specs.declared.account.Account.{Account}
 use Rattle.sx_ledger.specs.declared.key.Key.{Key}
@@ -12,6 +12,7 @@ use Rattle.sx_ledger.specs.declared.parts.Parts.{Parts}
 use Rattle.sx_ledger.specs.Order.{key_of, key_before}
 use Rattle.sx_price.specs.Limits.{IsPrice, IsLimit}
 use Rattle.sx_tx.specs.Transactions.{IsId, IsSeq, IsAmount}
+use Rattle.sx_tx.specs.Window.{IsWindow, is_used}
 
 -- ---- the most that a ledger takes
 
@@ -26,7 +27,11 @@ most_height = 2 ^ 63 - 1
 
 -- the bytes of the longest state
 abbrev pub longest_state : ℕ
-longest_state = 26739218
+longest_state = 27263506
+
+-- the versions of a ledger are 1 and 2
+abbrev pub most_version : ℕ
+most_version = 2
 
 -- ---- accounts, offers and totals
 
@@ -64,18 +69,17 @@ total_of parts asset =
 
 -- ---- what a ledger keeps
 
--- an account with a balance of each of `assets` assets
-pub record IsAccount (assets : ℕ) (account : Account) : Type 0 where
+-- an account with a balance of each of `assets` assets, in a ledger of this version
+pub record IsAccount (version assets : ℕ) (account : Account) : Type 0 where
   pub id : IsId account.id.0
-  pub last : account.window.last ≤ most_seq
-  pub used : account.window.used ≡ 0
+  pub window : IsWindow version account.window
   pub balances : length account.balances ≡ assets
   pub in_range : All (λ balance. balance ≤ most_amount) account.balances
 
--- the account of an offer is there, and its last sequence number is that of the offer or a greater one
+-- the account of an offer is there, and used the sequence number of the offer
 abbrev pub has_owner : List Account → Offer → Bool
 has_owner accounts offer =
-    list_any (λ account. (account.id.0 == offer.account.0) && nat_le offer.seq account.window.last) accounts
+    list_any (λ account. (account.id.0 == offer.account.0) && is_used account.window offer.seq) accounts
 
 -- an offer of two different assets out of `assets`, by one of these accounts
 pub record IsOffer (assets : ℕ) (accounts : List Account) (offer : Offer) : Type 0 where
@@ -89,7 +93,8 @@ pub record IsOffer (assets : ℕ) (accounts : List Account) (offer : Offer) : Ty
   pub owner : IsTrue (has_owner accounts offer)
 
 pub record IsLedger (parts : Parts) : Type 0 where
-  pub version : parts.version ≡ 1
+  pub some_version : 1 ≤ parts.version
+  pub few_versions : parts.version ≤ most_version
   pub height : parts.height ≤ most_height
   pub some_asset : 1 ≤ assets_of parts
   pub few_assets : assets_of parts ≤ most_assets
@@ -97,9 +102,15 @@ pub record IsLedger (parts : Parts) : Type 0 where
   pub one_rounding : length parts.rounding ≡ assets_of parts
   pub rounding : All (λ units. units ≤ most_amount) parts.rounding
   pub few_accounts : length parts.accounts ≤ most_accounts
-  pub accounts : All (IsAccount (assets_of parts)) parts.accounts
+  pub accounts : All (IsAccount parts.version (assets_of parts)) parts.accounts
   pub by_id : IsStrictlyIncreasing (ids parts.accounts)
   pub few_offers : length parts.offers ≤ most_offers
   pub offers : All (IsOffer (assets_of parts) parts.accounts) parts.offers
   pub by_key : IsTrue (in_order key_before None (keys parts.offers))
   pub totals : (asset : ℕ) → asset < assets_of parts → total_of parts asset ≤ most_amount
+
+-- ---- the newer version
+
+-- the same ledger in version 2, in which no number above an account's last one is marked where none was before
+abbrev pub migrated : Parts → Parts
+migrated parts = record parts { version = most_version }

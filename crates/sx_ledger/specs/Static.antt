@@ -9,12 +9,14 @@ use Rattle.sx_ledger.specs.declared.parts.Parts.{Parts}
 use Rattle.sx_ledger.specs.declared.statics.Static.{Static}
 use Rattle.sx_ledger.specs.declared.statics.Static.TheVariants.{UnknownAccount, SeqBehind, SeqBeyond, UnknownAsset}
 use Rattle.sx_ledger.specs.declared.statics.Static.TheVariants.{SamePair, UnknownPayee, AccountExists, NoSuchOffer}
-use Rattle.sx_ledger.specs.declared.statics.Static.TheVariants.{Dust}
+use Rattle.sx_ledger.specs.declared.statics.Static.TheVariants.{Dust, SeqUsed}
 use Rattle.sx_ledger.specs.Ledger.{assets_of}
 use Rattle.sx_ledger.specs.Order.{key_of, same_key}
 use Rattle.sx_tx.specs.declared.kind.Kind.{Kind}
 use Rattle.sx_tx.specs.declared.kind.Kind.TheVariants as kind
 use Rattle.sx_tx.specs.declared.tx.Tx.{Tx}
+use Rattle.sx_tx.specs.declared.window.Window.{Window}
+use Rattle.sx_tx.specs.Window.{is_marked, open_numbers}
 
 abbrev pub number_of_static : Static → ℕ
 number_of_static UnknownAccount = 1
@@ -26,15 +28,16 @@ number_of_static UnknownPayee = 6
 number_of_static AccountExists = 7
 number_of_static NoSuchOffer = 8
 number_of_static Dust = 9
+number_of_static SeqUsed = 10
 
 -- an account of this id is there
 abbrev pub has_account : List Account → ℕ → Bool
 has_account accounts id = list_any (λ account. account.id.0 == id) accounts
 
--- the greatest sequence number that the account used, 0 where it is not there
-abbrev pub last_of : List Account → ℕ → ℕ
-last_of [] id = 0
-last_of (account ∷ accounts) id = if account.id.0 == id then account.window.last else last_of accounts id
+-- the window of the account, which is that of a new account where it is not there
+abbrev pub window_of : List Account → ℕ → Window
+window_of [] id = record { last = 0; used = 0 }
+window_of (account ∷ accounts) id = if account.id.0 == id then account.window else window_of accounts id
 
 -- an offer of this key is there
 abbrev pub has_offer : List Offer → Key → Bool
@@ -93,8 +96,9 @@ is_dust (kind.Cancel sell buy limit seq) = false
 abbrev pub static_list : Parts → Tx → List (Bool × Static)
 static_list parts tx =
     (not (has_account parts.accounts tx.account.0), UnknownAccount)
-    ∷ (nat_le tx.seq (last_of parts.accounts tx.account.0), SeqBehind)
-    ∷ (nat_lt (last_of parts.accounts tx.account.0 + 64) tx.seq, SeqBeyond)
+    ∷ (nat_le tx.seq (window_of parts.accounts tx.account.0).last, SeqBehind)
+    ∷ (nat_lt ((window_of parts.accounts tx.account.0).last + open_numbers) tx.seq, SeqBeyond)
+    ∷ (is_marked (window_of parts.accounts tx.account.0) tx.seq, SeqUsed)
     ∷ (names_beyond (assets_of parts) tx.kind, UnknownAsset)
     ∷ (is_same_pair tx.kind, SamePair)
     ∷ (pays_unknown parts.accounts tx.kind, UnknownPayee)

@@ -9,6 +9,8 @@ ghost use Rattle.sx_ledger.specs.EffectLaws.{
   LowWithinHigh,
   UnnamedStays,
   LastIsGreatest,
+  UsedByWindowOrBody,
+  LaterAdmitsMore,
   BodyKeepsLedger,
   BodyConserves,
 };
@@ -29,12 +31,16 @@ pub fn bound_laws()
     ensures low_within_high { LowWithinHigh }
 {}
 
-/// An account that no transaction names does not change, and the last sequence number of an account
-/// is the greatest one that it used. The ledger after the body of a block is a ledger, and there is
-/// as much of each asset as before.
+/// An account that no transaction names does not change. In version 1 the last sequence number of an
+/// account is afterwards the greatest one that it used, and in version 2 a number is used afterwards
+/// exactly where it was used before or a transaction uses it. A body that version 1 admits is
+/// admitted in every version. In each version the ledger after the body of a block is a ledger, and
+/// there is as much of each asset as before.
 pub fn body_laws()
     ensures unnamed_stays { UnnamedStays }
     ensures last_is_greatest { LastIsGreatest }
+    ensures used_by_both { UsedByWindowOrBody }
+    ensures later_admits_more { LaterAdmitsMore }
     ensures keeps_ledger { BodyKeepsLedger }
     ensures conserves { BodyConserves }
 {}

@@ -2,7 +2,8 @@
 
 ghost use Rattle.std.specs.Prelude.{◌≡◌, ◌<◌, ◌≤◌, ◌^◌, length, slice_index, slice_get, IfSome, Some};
 ghost use Rattle.sx_base.specs.Ranges.{most_amount, most_assets};
-ghost use Rattle.sx_ledger.specs.Ledger.{IsLedger, assets_of, balance_at, most_accounts, most_height, most_offers};
+ghost use Rattle.sx_ledger.specs.Ledger.{IsLedger, assets_of, balance_at, migrated};
+ghost use Rattle.sx_ledger.specs.Ledger.{most_accounts, most_height, most_offers, most_version};
 
 use crate::account::Account;
 use crate::offer::Offer;
@@ -38,8 +39,12 @@ impl Ledger {
     /// The greatest height.
     pub const MOST_HEIGHT: u64 = (1 << 63) - 1;
 
+    /// The newest version. In version 1 a sequence number that a block skipped is lost; in version 2 it
+    /// stays open.
+    pub const NEWEST: u8 = 2;
+
     /// How many bytes the longest state has.
-    pub const LONGEST: u32 = 26_739_218;
+    pub const LONGEST: u32 = 27_263_506;
 
     /// The ledger of these parts, which keep what a ledger keeps.
     pub fn of(parts: Parts) -> Ledger
@@ -65,12 +70,30 @@ impl Ledger {
         &self.parts
     }
 
-    /// The version of the state's encoding, which is 1.
+    /// The version, which is 1 or 2.
     pub fn version(&self) -> u8
         ensures version { result ≡ self.now.version }
+        ensures some { 1 ≤ result }
+        ensures few { result ≤ most_version }
         ensures kept { IsLedger self.now }
     {
         self.parts.version
+    }
+
+    /// The same ledger in the newest version, in which no number above an account's last one is marked
+    /// where none was before. It takes no memory.
+    pub fn migrate(self) -> Ledger
+        ensures { result ≡ migrated self }
+    {
+        let parts = self.into_parts();
+        Ledger::of(Parts {
+            version: Ledger::NEWEST,
+            height: parts.height,
+            prices: parts.prices,
+            rounding: parts.rounding,
+            accounts: parts.accounts,
+            offers: parts.offers,
+        })
     }
 
     /// How many blocks came before, at most `2^63 - 1`.

@@ -8,7 +8,10 @@
 //!
 //! [`read_state`] answers a ledger exactly where the bytes are the encoding of one, and else the
 //! first fault from left to right; [`Ledger::write_state`] writes the one encoding, and
-//! [`read_prices`] reads a price for each asset. [`Ledger::static_check`] answers the first reason,
+//! [`read_prices`] reads a price for each asset. [`read_account`] and [`write_account`] do the same for
+//! one account. A ledger is of version 1, in which the sequence numbers that a block skipped are lost,
+//! or of version 2, in which they stay open; [`Ledger::migrate`] makes a ledger one of version 2.
+//! [`Ledger::static_check`] answers the first reason,
 //! a [`Static`], why the ledger refuses a transaction by itself, and [`Ledger::places_of`] the same
 //! with the [`Places`] where its account and what it names stand. [`Ledger::find`] and
 //! [`Ledger::find_offer`] search for an account and for an offer, an [`AccountIndex`] finds many
@@ -20,13 +23,14 @@
 //!
 //! `specs/` holds the definitions that the crates above share: effects of transactions, the body of
 //! a block and what it leaves, bounds of trade, fills, rounding and what trading leaves.
-//! [`posting_laws`], [`bound_laws`] and [`body_laws`] carry their laws, and [`state_laws`] those of
-//! the encoding.
+//! [`posting_laws`], [`bound_laws`] and [`body_laws`] carry their laws, and [`account_laws`] and
+//! [`state_laws`] those of the encodings.
 //!
 //! Not here: computing what a block leaves, and whether a block is valid.
 #![tactic(auto)]
 
 mod account;
+mod account_reading;
 mod copying;
 mod effect_laws;
 mod fill;
@@ -46,17 +50,16 @@ mod totals;
 mod writing;
 
 pub use account::{Account, Accounts};
+pub use account_reading::read_account;
 pub use effect_laws::{body_laws, bound_laws, posting_laws};
 pub use fill::{Fill, Fills};
 pub use index::AccountIndex;
 pub use key::Key;
-pub use laws::state_laws;
+pub use laws::{account_laws, state_laws};
 pub use ledger::Ledger;
 pub use offer::{Offer, Offers};
 pub use parts::Parts;
 pub use places::{Places, Target};
 pub use reading::{read_prices, read_state};
 pub use statics::Static;
-
-#[cfg(test)]
-mod tests;
+pub use writing::write_account;

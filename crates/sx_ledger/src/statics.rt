@@ -15,7 +15,7 @@ use sx_tx::{Kind, Tx, WindowFault};
 use thiserror::Error;
 
 /// Why a ledger refuses a transaction, whatever stands beside it. Where several reasons hold, the
-/// first counts.
+/// first as they stand here counts.
 #[derive(Clone, Copy, Debug, PartialEq, Eq, Error)]
 pub enum Static {
     /// 1: its account is not in the ledger.
@@ -27,6 +27,9 @@ pub enum Static {
     /// 3: its sequence number is more than 64 above the account's last one.
     #[error("its sequence number is more than 64 above the account's last one")]
     SeqBeyond = 3,
+    /// 10: its sequence number is above the account's last one, and was used.
+    #[error("its sequence number was used")]
+    SeqUsed = 10,
     /// 4: it names an asset that the ledger does not have.
     #[error("it names an asset that the ledger does not have")]
     UnknownAsset = 4,
@@ -66,10 +69,10 @@ impl Ledger {
         self.assets() <= u32::from(asset.get())
     }
 
-    // The account is there, at the place that was found, and the sequence number is in its window.
+    // The account is there, at the place that was found, and the sequence number is open in its window.
     fn check_number(&self, tx: &Tx, account: Option<u32>) -> Result<u32, Static>
         requires { IsFound (ids self.now.accounts) tx.now.account.0 account }
-        ensures tells { verdict result ≡ first_holding (take 3 (static_list self.now tx.now)) }
+        ensures tells { verdict result ≡ first_holding (take 4 (static_list self.now tx.now)) }
         ensures place { IfOk result (λ place. slice_get (ids self.now.accounts) place ≡ Some tx.now.account.0) }
     {
         let Some(place) = account else {
@@ -79,6 +82,7 @@ impl Ledger {
             Ok(_) => Ok(place),
             Err(WindowFault::Behind) => Err(Static::SeqBehind),
             Err(WindowFault::Beyond) => Err(Static::SeqBeyond),
+            Err(WindowFault::Used) => Err(Static::SeqUsed),
         }
     }
 
@@ -142,7 +146,7 @@ impl Ledger {
     // was looked up.
     fn check_kind(&self, tx: &Tx, named: Option<u32>) -> Result<Target, Static>
         requires { IfSome (named_account tx.now.kind) (λ id. IsFound (ids self.now.accounts) id.0 named) }
-        ensures tells { verdict result ≡ first_holding (drop 3 (static_list self.now tx.now)) }
+        ensures tells { verdict result ≡ first_holding (drop 4 (static_list self.now tx.now)) }
         ensures target { IfOk result (IsTarget self.now tx.now.account.0 tx.now.kind) }
     {
         match tx.kind {

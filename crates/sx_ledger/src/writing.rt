@@ -5,15 +5,16 @@ ghost use Rattle.std.specs.List.{flat_map};
 ghost use Rattle.byteorder.specs.Endian.{big_bytes};
 ghost use Rattle.sx_bytes.specs.Written.{Begins};
 ghost use Rattle.sx_ledger.specs.Ledger.{IsLedger, longest_state};
-ghost use Rattle.sx_ledger.specs.Encoding.{account_bytes, offer_bytes, state_bytes};
+ghost use Rattle.sx_ledger.specs.Encoding.{window_bytes, account_bytes, offer_bytes, state_bytes};
 
 use crate::account::Account;
 use crate::ledger::Ledger;
 use crate::offer::Offer;
 use crate::parts::Parts;
-use crate::sizes::{ACCOUNT_BYTES, FRAME_BYTES, OFFER_BYTES};
+use crate::sizes::{ACCOUNT_BYTES, FRAME_BYTES, OFFER_BYTES, map_bytes};
 use sx_bytes::{NoMemory, Writer};
 use sx_price::Price;
+use sx_tx::Window;
 
 #[tactic(auto, using(sx_bytes::proofs::Written::begins, sx_bytes::proofs::Written::begins_then))]
 fn put_prices(to: &mut Writer, prices: &[Price]) -> Result<(), NoMemory>
@@ -39,22 +40,48 @@ fn put_units(to: &mut Writer, units: &[u64]) -> Result<(), NoMemory>
 }
 
 #[tactic(auto, using(sx_bytes::proofs::Written::begins, sx_bytes::proofs::Written::begins_then))]
-fn put_account(to: &mut Writer, account: &Account) -> Result<(), NoMemory>
-    ensures ok { OnOk result (to.new ≡ to.old ++ account_bytes account.now) }
+fn put_window(to: &mut Writer, version: u8, window: &Window) -> Result<(), NoMemory>
+    ensures ok { OnOk result (to.new ≡ to.old ++ window_bytes version window.now) }
     ensures err { OnErr result (Begins to.old to.new) }
 {
-    to.put_u64(account.id.0)?;
-    to.put_u64(account.window.last)?;
-    put_units(to, account.balances.items())
+    to.put_u64(window.last)?;
+    if version == 1 {
+        return Ok(());
+    }
+    to.put_u64(window.used)
 }
 
 #[tactic(auto, using(sx_bytes::proofs::Written::begins, sx_bytes::proofs::Written::begins_then))]
-fn put_accounts(to: &mut Writer, accounts: &[Account]) -> Result<(), NoMemory>
-    ensures ok { OnOk result (to.new ≡ to.old ++ flat_map account_bytes accounts.now) }
+fn put_account(to: &mut Writer, version: u8, account: &Account) -> Result<(), NoMemory>
+    ensures ok { OnOk result (to.new ≡ to.old ++ account_bytes version account.now) }
+    ensures err { OnErr result (Begins to.old to.new) }
+{
+    to.put_u64(account.id.0)?;
+    put_window(to, version, &account.window)?;
+    put_units(to, account.balances.items())
+}
+
+/// Appends the account as a state of this version has it, and nothing where memory runs out.
+#[tactic(auto, using(sx_bytes::proofs::Written::begins_cut))]
+pub fn write_account(to: &mut Writer, version: u8, account: &Account) -> Result<(), NoMemory>
+    ensures ok { OnOk result (to.new ≡ to.old ++ account_bytes version account.now) }
+    ensures err { OnErr result (to.new ≡ to.old) }
+{
+    let before = to.bytes().len();
+    let written = put_account(to, version, account);
+    if written.is_err() {
+        to.cut(before);
+    }
+    written
+}
+
+#[tactic(auto, using(sx_bytes::proofs::Written::begins, sx_bytes::proofs::Written::begins_then))]
+fn put_accounts(to: &mut Writer, version: u8, accounts: &[Account]) -> Result<(), NoMemory>
+    ensures ok { OnOk result (to.new ≡ to.old ++ flat_map (account_bytes version) accounts.now) }
     ensures err { OnErr result (Begins to.old to.new) }
 {
     for account in accounts {
-        put_account(to, account)?;
+        put_account(to, version, account)?;
     }
     Ok(())
 }
@@ -95,7 +122,7 @@ fn put_state(to: &mut Writer, parts: &Parts) -> Result<(), NoMemory>
     put_prices(to, parts.prices.items())?;
     put_units(to, parts.rounding.items())?;
     to.put_u32(parts.accounts.items().len() as u32)?;
-    put_accounts(to, parts.accounts.items())?;
+    put_accounts(to, parts.version, parts.accounts.items())?;
     to.put_u32(parts.offers.items().len() as u32)?;
     put_offers(to, parts.offers.items())
 }
@@ -122,7 +149,7 @@ impl Ledger {
         ensures bound { result ≤ longest_state }
     {
         let assets = self.assets();
-        let accounts = self.accounts() * (ACCOUNT_BYTES + 8 * assets);
-        FRAME_BYTES + 16 * assets + accounts + OFFER_BYTES * self.offers()
+        let account = ACCOUNT_BYTES + map_bytes(self.version()) + 8 * assets;
+        FRAME_BYTES + 16 * assets + self.accounts() * account + OFFER_BYTES * self.offers()
     }
 }

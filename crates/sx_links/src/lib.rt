@@ -20,6 +20,3 @@ mod links;
 mod pool;
 
 pub use links::Links;
-
-#[cfg(test)]
-mod tests;

@@ -41,6 +41,3 @@ mod tree;
 pub use laws::net_laws;
 pub use net::Net;
 pub use steps::Steps;
-
-#[cfg(test)]
-mod tests;

@@ -27,6 +27,3 @@ pub use price::{Price, PriceRange};
 pub use prices::Prices;
 pub use rounding::{units_down, units_up, value};
 pub use trading::{may_trade, must_trade};
-
-#[cfg(test)]
-mod tests;

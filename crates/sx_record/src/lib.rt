@@ -28,6 +28,3 @@ pub use frame::{FRAME_BYTES, MOST_BYTES, Record};
 pub use laws::record_laws;
 pub use reading::next_record;
 pub use writing::{write_frame, write_record};
-
-#[cfg(test)]
-mod tests;

@@ -1,155 +1,92 @@
--- What each command finds in its input, what it answers, and what it writes.
-use Rattle.std.specs.Prelude.{◌≡◌, ℕ, ◌<◌, ◌⊎◌, List, [], ◌++◌, length, Option, None, Some, Result, Ok, Err, String}
+-- What an answer says of the input, and of what is written.
+use Rattle.std.specs.Prelude.{◌≡◌, ◌⊎◌, ℕ, List, [], Option, None, Some, Result, Ok, Err, String}
+use Rattle.std.specs.Prelude.{if◌then◌else◌}
 use Rattle.std.specs.Global.{Global}
 use Rattle.sx_base.specs.Outside.{Appends, AppendsPrefix}
-use Rattle.sx_block.specs.declared.header.Block.{Block}
-use Rattle.sx_block.specs.Block.{IsBlock}
-use Rattle.sx_block.specs.Validity.{IsValid}
-use Rattle.sx_bytes.specs.declared.fault.FormFault.{FormFault}
-use Rattle.sx_check.specs.declared.invalid.Invalid.{Invalid}
-use Rattle.sx_check.specs.Checked.{checked_of}
-use Rattle.sx_check.specs.Refusals.{Refuses}
-use Rattle.sx_ledger.specs.declared.parts.Parts.{Parts}
-use Rattle.sx_ledger.specs.Ledger.{IsLedger}
 use Rattle.sx_run.specs.declared.status.Status.{Status}
 use Rattle.sx_run.specs.declared.status.Status.TheVariants.{Done, Usage, ReadFault, WriteFault, Malformed, Refused}
 use Rattle.sx_run.specs.declared.status.Status.TheVariants.{NoMemory}
 use Rattle.sx_run.specs.declared.stop.Stop.{Stop}
 use Rattle.sx_run.specs.declared.stop.Stop.TheVariants as stop
-use Rattle.sx_run.specs.Inputs.{block_record, check_at, opening_at, state_record}
-use Rattle.sx_run.specs.Replays.{BeginsWithFault, Item, MayComeAll, blocks_of, input_of, ledger_after_all}
-use Rattle.sx_run.specs.Replays.{most_blocks, standing_of, start}
-use Rattle.sx_run.specs.Texts.{checked_text}
-use Rattle.sx_run.specs.Words.{AreCommand}
+use Rattle.sx_run.specs.Findings.{Concludes, Finding, Finds, is_built, malformed, output, refused}
+use Rattle.sx_run.specs.Items.{Item}
+use Rattle.sx_words.specs.declared.command.Command.{Command}
+use Rattle.sx_words.specs.Commands.{command_of}
+use Rattle.sx_words.specs.Numbers.{texts}
 
--- at Usage the words are no command, and at every other answer they are one
-abbrev pub FitsWords : List (String Global) → Status → Type 0
-FitsWords words Usage = AreCommand words → ⊥
-FitsWords words _ = AreCommand words
+-- what is found of some input, whatever is left of it
+abbrev pub FindsInSome : Command → Finding → Type 0
+FindsInSome command finding = (bytes : List ℕ) × (left : List ℕ) × Finds command bytes finding left
 
--- ---- findings
+-- This is found of the bytes of a source, and what is left of them is left in it. Where the source does not tell its
+-- bytes, it is found of some, and a form fault may be any.
+abbrev pub FindsIn : Command → Option (List ℕ) → Option (List ℕ) → Finding → Type 0
+FindsIn command (Some bytes) after finding = (left : List ℕ) × Finds command bytes finding left × (after ≡ Some left)
+FindsIn command None after (malformed fault) = Unit {0}
+FindsIn command None after (output text) = FindsInSome command (output text)
+FindsIn command None after (refused number why) = FindsInSome command (refused number why)
 
--- what is found of an input: what is to be written, or the first fault
-pub data Finding : Type 0 where
-  output : (text : List ℕ) → Finding
-  malformed : (fault : FormFault) → Finding
-  refused : (block : ℕ) → (why : Invalid) → Finding
+-- the same of a command before it writes
+abbrev pub Found : Command → Option (List ℕ) → Option (List ℕ) → Result (List ℕ) Stop → Type 0
+Found command before after (Ok text) = FindsIn command before after (output text)
+Found command before after (Err (stop.Malformed fault)) = FindsIn command before after (malformed fault)
+Found command before after (Err (stop.Refused number why)) = FindsIn command before after (refused number why)
+Found command before after (Err stop.ReadFault) = Unit {0}
+Found command before after (Err stop.NoMemory) = Unit {0}
 
--- the bytes of a source, where it tells them
-abbrev pub IsInput : Option (List ℕ) → List ℕ → Type 0
-IsInput None bytes = Unit {0}
-IsInput (Some input) bytes = input ≡ bytes
-
--- a fact of the bytes of a source that tells them
-abbrev pub OfInput : Option (List ℕ) → (List ℕ → Type 0) → Type 0
-OfInput None Fact = Unit {0}
-OfInput (Some input) Fact = Fact input
-
--- a source that tells its bytes was read to its end
-abbrev pub IsRead : Option (List ℕ) → Option (List ℕ) → Type 0
-IsRead None after = Unit {0}
-IsRead (Some input) after = after ≡ Some []
+-- the same of a command whose input ended after these items
+abbrev pub ConcludesAs : Command → List Item → Result (List ℕ) Stop → Type 0
+ConcludesAs command items (Ok text) = Concludes command items (output text)
+ConcludesAs command items (Err (stop.Refused number why)) = Concludes command items (refused number why)
+ConcludesAs command items (Err (stop.Malformed fault)) = ⊥
+ConcludesAs command items (Err stop.ReadFault) = ⊥
+ConcludesAs command items (Err stop.NoMemory) = Unit {0}
 
 -- what is found, as an answer
 abbrev pub status_of : Finding → Status
 status_of (output text) = Done
 status_of (malformed fault) = Malformed fault
-status_of (refused block why) = Refused block why
+status_of (refused number why) = Refused number why
 
--- what an answer says of the input, and of what a sink that tells its bytes held before and after: all of the output
--- is written at Done, and a prefix of it at WriteFault
-abbrev pub Answers : (Finding → Type 0) → Option (List ℕ) → Option (List ℕ) → Status → Type 0
-Answers Finds before after Done = (text : List ℕ) × Finds (output text) × Appends before after text
-Answers Finds before after WriteFault = (text : List ℕ) × Finds (output text) × AppendsPrefix before after text
-Answers Finds before after (Malformed fault) = Finds (malformed fault)
-Answers Finds before after (Refused block why) = Finds (refused block why)
-Answers Finds before after Usage = ⊥
-Answers Finds before after ReadFault = Unit {0}
-Answers Finds before after NoMemory = Unit {0}
+-- What an answer says of the bytes of the source before and after, and of those that the sink held before and after:
+-- all of the output is written at Done, and a prefix of it at WriteFault.
+abbrev pub Answers : Command → Option (List ℕ) → Option (List ℕ) → Option (List ℕ) → Option (List ℕ) → Status → Type 0
+Answers command before after old new Done =
+    (text : List ℕ) × FindsIn command before after (output text) × Appends old new text
+Answers command before after old new WriteFault =
+    (text : List ℕ) × FindsIn command before after (output text) × AppendsPrefix old new text
+Answers command before after old new (Malformed fault) = FindsIn command before after (malformed fault)
+Answers command before after old new (Refused number why) = FindsIn command before after (refused number why)
+Answers command before after old new Usage = ⊥
+Answers command before after old new ReadFault = Unit {0}
+Answers command before after old new NoMemory = Unit {0}
 
 -- what is found of the bytes of a source that tells them is the answer, or memory ran out
-abbrev pub Completes : (Option (List ℕ) → Finding → Type 0) → Option (List ℕ) → Status → Type 0
-Completes Finds None result = Unit {0}
-Completes Finds (Some bytes) result =
-    (found : Finding) → Finds (Some bytes) found → (result ≡ status_of found) ⊎ (result ≡ NoMemory)
+abbrev pub Completes : Command → Option (List ℕ) → Status → Type 0
+Completes command None result = Unit {0}
+Completes command (Some bytes) result =
+    (found : Finding) (left : List ℕ) → Finds command bytes found left →
+    (result ≡ status_of found) ⊎ (result ≡ NoMemory)
 
--- the same of a command before it writes
-abbrev pub Found : (Finding → Type 0) → Result (List ℕ) Stop → Type 0
-Found Finds (Ok text) = Finds (output text)
-Found Finds (Err (stop.Malformed fault)) = Finds (malformed fault)
-Found Finds (Err (stop.Refused block why)) = Finds (refused block why)
-Found Finds (Err stop.ReadFault) = Unit {0}
-Found Finds (Err stop.NoMemory) = Unit {0}
+-- a source that tells its bytes was read to its end
+abbrev pub IsRead : Option (List ℕ) → Option (List ℕ) → Type 0
+IsRead None after = Unit {0}
+IsRead (Some bytes) after = after ≡ Some []
 
--- ---- check
+-- ---- words
 
--- the input is a ledger and a block that is valid for it, and this is the line that says so
-pub record IsChecked (input : Option (List ℕ)) (text : List ℕ) : Type 0 where
-  pub parts : Parts
-  pub block : Block
-  pub ledger : IsLedger parts
-  pub read : IsInput input (state_record parts ++ block_record block)
-  pub valid : IsValid parts block
-  pub written : text ≡ checked_text (checked_of block)
+-- the command that words spell, where it is one that is built
+abbrev pub if_built : Option Command → Option Command
+if_built None = None
+if_built (Some command) = if is_built command then Some command else None
 
--- the input is a ledger and a block that this reason refuses first
-pub record IsRefusedAlone (input : Option (List ℕ)) (why : Invalid) : Type 0 where
-  pub parts : Parts
-  pub block : Block
-  pub ledger : IsLedger parts
-  pub form : IsBlock block
-  pub read : IsInput input (state_record parts ++ block_record block)
-  pub refused : Refuses parts block why
+abbrev pub asked : List (String Global) → Option Command
+asked words = if_built (command_of (texts words))
 
--- this is the first form fault of an input of `check`
-abbrev pub IsFaultOfCheck : FormFault → List ℕ → Type 0
-IsFaultOfCheck fault bytes = (check_at bytes).0 ≡ Err fault
-
-abbrev pub FindsInCheck : Option (List ℕ) → Finding → Type 0
-FindsInCheck input (output text) = IsChecked input text
-FindsInCheck input (malformed fault) = OfInput input (IsFaultOfCheck fault)
-FindsInCheck input (refused block why) = (block ≡ 0) × IsRefusedAlone input why
-
--- ---- replay
-
--- the input is a ledger and valid blocks, and this is the record of the ledger after all of them
-pub record IsReplayed (input : Option (List ℕ)) (text : List ℕ) : Type 0 where
-  pub parts : Parts
-  pub items : List Item
-  pub ledger : IsLedger parts
-  pub each : MayComeAll (start parts) items
-  pub read : IsInput input (input_of parts items)
-  pub written : text ≡ state_record (ledger_after_all parts (blocks_of items))
-
--- after a ledger and valid blocks comes a block, of this number from 0, that this reason refuses first
-pub record IsRefusedAmong (input : Option (List ℕ)) (number : ℕ) (why : Invalid) : Type 0 where
-  pub parts : Parts
-  pub items : List Item
-  pub block : Block
-  pub rest : List ℕ
-  pub ledger : IsLedger parts
-  pub each : MayComeAll (start parts) items
-  pub form : IsBlock block
-  pub read : IsInput input (input_of parts items ++ (block_record block ++ rest))
-  pub is_number : number ≡ length (blocks_of items)
-  pub few : number < most_blocks
-  pub refused : Refuses (ledger_after_all parts (blocks_of items)) block why
-
--- after a ledger and valid blocks the bytes have this form fault
-pub record IsFaultAmong (fault : FormFault) (bytes : List ℕ) : Type 0 where
-  pub parts : Parts
-  pub items : List Item
-  pub rest : List ℕ
-  pub ledger : IsLedger parts
-  pub each : MayComeAll (start parts) items
-  pub read : bytes ≡ input_of parts items ++ rest
-  pub faulty : BeginsWithFault (standing_of parts items) (length (input_of parts items)) rest fault
-
--- this is the first form fault of an input of `replay`: of its state, or after it
-abbrev pub IsFaultOfReplay : FormFault → List ℕ → Type 0
-IsFaultOfReplay fault bytes = ((opening_at bytes).0 ≡ Err fault) ⊎ IsFaultAmong fault bytes
-
-abbrev pub FindsInReplay : Option (List ℕ) → Finding → Type 0
-FindsInReplay input (output text) = IsReplayed input text
-FindsInReplay input (malformed fault) = OfInput input (IsFaultOfReplay fault)
-FindsInReplay input (refused block why) = IsRefusedAmong input block why
+-- Usage comes exactly where the words are no command, but that memory may run out
+abbrev pub FitsWords : Option Command → Status → Type 0
+FitsWords None Usage = Unit {0}
+FitsWords None NoMemory = Unit {0}
+FitsWords None _ = ⊥
+FitsWords (Some command) Usage = ⊥
+FitsWords (Some command) _ = Unit {0}

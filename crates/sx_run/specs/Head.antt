@@ -2,7 +2,7 @@
 use Rattle.std.specs.Prelude.{◌≡◌, IfSome}
 use Rattle.sx_block.specs.Validity.{digest_of_ledger}
 use Rattle.sx_run.specs.declared.head.Head.{Head}
-use Rattle.sx_run.specs.Inputs.{state_record}
+use Rattle.sx_run.specs.Items.{state_record}
 
 -- a head has the digest of its ledger, and its record, where that was written
 pub record IsHead (head : Head) : Type 0 where

@@ -1,16 +1,19 @@
 -- What writing leaves.
-use Rattle.std.specs.Prelude.{ℕ, List, Option}
+use Rattle.std.specs.Prelude.{◌≡◌, ℕ, List, Option, Result, Ok, Err}
 use Rattle.sx_base.specs.Outside.{Appends, AppendsPrefix}
 use Rattle.sx_run.specs.declared.status.Status.{Status}
 use Rattle.sx_run.specs.declared.status.Status.TheVariants.{Done, Usage, ReadFault, WriteFault, Malformed, Refused}
 use Rattle.sx_run.specs.declared.status.Status.TheVariants.{NoMemory}
+use Rattle.sx_run.specs.declared.stop.Stop.{Stop}
+use Rattle.sx_run.specs.Status.{status_at}
 
 -- all of the output is written, or a prefix of it
 abbrev pub IsWritten : Option (List ℕ) → Option (List ℕ) → List ℕ → Status → Type 0
 IsWritten before after output Done = Appends before after output
 IsWritten before after output WriteFault = AppendsPrefix before after output
-IsWritten before after output Usage = ⊥
-IsWritten before after output ReadFault = ⊥
-IsWritten before after output (Malformed fault) = ⊥
-IsWritten before after output (Refused block why) = ⊥
-IsWritten before after output NoMemory = ⊥
+IsWritten before after output _ = ⊥
+
+-- what a command found is written, or why it stopped is the answer
+abbrev pub Tells : Result (List ℕ) Stop → Option (List ℕ) → Option (List ℕ) → Status → Type 0
+Tells (Ok output) before after result = IsWritten before after output result
+Tells (Err stopped) before after result = result ≡ status_at stopped

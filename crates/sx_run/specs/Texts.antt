@@ -9,7 +9,7 @@ use Rattle.sx_check.specs.declared.checked.Checked.{Checked}
 use Rattle.sx_check.specs.declared.invalid.Invalid.{Invalid}
 use Rattle.sx_check.specs.declared.invalid.Invalid.TheVariants.{Ended, WrongHeight, WrongParent, WrongBody}
 use Rattle.sx_check.specs.declared.invalid.Invalid.TheVariants.{WrongAssets, Tx, TwoCancels, TwoNames, Crowded}
-use Rattle.sx_check.specs.declared.invalid.Invalid.TheVariants.{Overdrawn, Outside, Unbalanced, Slack, NoCut}
+use Rattle.sx_check.specs.declared.invalid.Invalid.TheVariants.{Overdrawn, Overspent, Outside, Unbalanced, Slack, NoCut}
 use Rattle.sx_check.specs.declared.invalid.Invalid.TheVariants.{Rounding, WrongAfter}
 use Rattle.sx_ledger.specs.Static.{number_of_static}
 use Rattle.sx_run.specs.declared.status.Status.{Status}
@@ -49,6 +49,10 @@ reason_text (Crowded have more limit) =
 reason_text (Overdrawn account asset opening debits) =
     codes "10 Overdrawn account " ++ (decimal account.0 ++ (codes " asset " ++ (decimal asset
     ++ (codes " opening " ++ (decimal opening ++ (codes " debits " ++ decimal debits))))))
+reason_text (Overspent account asset opening credits debits) =
+    codes "17 Overspent account " ++ (decimal account.0 ++ (codes " asset " ++ (decimal asset
+    ++ (codes " opening " ++ (decimal opening ++ (codes " credits " ++ (decimal credits
+    ++ (codes " debits " ++ decimal debits))))))))
 reason_text (Outside sell buy low high y) =
     codes "11 Outside" ++ (pair_text sell buy ++ (codes " low " ++ (decimal low ++ (codes " high " ++ (decimal high
     ++ (codes " y " ++ decimal y))))))
@@ -75,7 +79,7 @@ refusal_text block why = codes "refused block " ++ (decimal block ++ (codes ": "
 
 abbrev pub status_text : Status → List ℕ
 status_text status.Done = []
-status_text status.Usage = line (codes "usage: speedex seal, replay, check, show, interleave or demo N")
+status_text status.Usage = line (codes "usage: speedex seal, replay, check, show, interleave, migrate or demo N")
 status_text status.ReadFault = line (codes "read fault")
 status_text status.WriteFault = line (codes "write fault")
 status_text (status.Malformed fault) = fault_text fault

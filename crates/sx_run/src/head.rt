@@ -7,15 +7,15 @@ ghost use Rattle.sx_block.specs.Validity.{IsValid, ledger_after};
 ghost use Rattle.sx_check.specs.Checked.{checked_of};
 ghost use Rattle.sx_check.specs.Refusals.{Explains};
 ghost use Rattle.sx_run.specs.Head.{IsHead};
-ghost use Rattle.sx_run.specs.Inputs.{state_record};
+ghost use Rattle.sx_run.specs.Items.{state_record};
 ghost use Rattle.sx_tx.specs.Transactions.{list_bytes};
 
 use crate::payloads::Incoming;
 use std::alloc::Global;
 use sx_apply::apply;
-use sx_block::{Digest, digest_of};
+use sx_block::{Digest, digest_of, validity_laws};
 use sx_bytes::{NoMemory, Writer};
-use sx_check::{CheckFault, Checked, Judged, close, judge};
+use sx_check::{CheckFault, Checked, Judged, check_laws, close, judge};
 use sx_ledger::Ledger;
 use sx_record::{tag, write_frame};
 
@@ -42,7 +42,7 @@ impl Head {
 }
 
 // The record of a ledger, written over that of an earlier one, if there is one.
-fn written(alloc: Global, ledger: &Ledger, earlier: Option<Writer>) -> Result<Writer, NoMemory>
+pub fn written(alloc: Global, ledger: &Ledger, earlier: Option<Writer>) -> Result<Writer, NoMemory>
     ensures { IfOk result (λ state. state ≡ state_record ledger.now) }
 {
     let mut state = earlier.unwrap_or(Writer::new(alloc));
@@ -70,6 +70,8 @@ pub fn advance(alloc: Global, head: Head, incoming: &Incoming) -> Result<Advance
     ensures checked { IfOk result (λ advanced. advanced.checked ≡ checked_of incoming.now.block) }
     ensures refused { IfErr result (Explains head.ledger incoming.now.block) }
 {
+    validity_laws();
+    check_laws();
     let Head {
         ledger,
         state,

@@ -10,22 +10,24 @@
 //! to the state after them. What a block leaves is `ledger_after`: plain sums over the list of
 //! transactions and the list of offers. `interleave` tells what becomes of candidates where a script says
 //! who makes the next step: `outcomes_of_run`, a function of the state, the candidates and the script.
-//! [`input_laws`] says that one thing is found of an input, and [`chain_laws`] that a chain of valid
-//! blocks makes and loses nothing of any asset.
+//! `migrate` writes a state in version 2.
+//! [`input_laws`] says that one thing is found of each input, and [`chain_laws`] that a chain of valid
+//! blocks makes and loses nothing of any asset, and what each of its blocks keeps.
 //!
 //! Not promised: how long a run takes, that the system runs a thread to its end, that two ledgers of
 //! one digest are the same, and what a source gave or a sink received that tells nothing of its bytes.
 //!
-//! The way of the data: `stream` (bytes to records in their places), `payloads` and `opening` (records
-//! to a state, a block, outcomes, candidates or a script), `head` (a block on a ledger), `checking`,
-//! `replaying` and `interleaving` (the commands), `running` (output to bytes and status), `text` (answers
-//! to lines).
+//! The way of the data: `payloads` (what a payload holds), `stream` (bytes to what records hold, each in
+//! its place), `opening` (a state with its digest), `head` (a block on a ledger), `checking`, `replaying`,
+//! `interleaving` and `migrating` (the commands), `running` (what a command found to what is written and
+//! to a status), `text` (answers to lines).
 #![tactic(auto)]
 
 mod checking;
 mod head;
 mod interleaving;
 mod laws;
+mod migrating;
 mod opening;
 mod payloads;
 mod replaying;
@@ -34,7 +36,6 @@ mod status;
 mod stop;
 mod stream;
 mod text;
-mod words;
 
 pub use laws::{chain_laws, input_laws};
 pub use running::run;

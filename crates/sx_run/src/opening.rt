@@ -1,22 +1,23 @@
-//! The state at the beginning of an input.
+//! The state at the beginning of an input, with its digest.
 
-ghost use Rattle.std.specs.Prelude.{◌≡◌, ◌+◌, ◌^◌, ◌<◌, ◌≤◌, length, IfOk, IsErrOf, IsTrue};
+ghost use Rattle.std.specs.Prelude.{◌≡◌, ◌+◌, ◌^◌, ◌<◌, ◌≤◌, length, IfErr, IfOk, IsErrOf, IsTrue};
 ghost use Rattle.sha2.specs.Sha256.{sha256};
 ghost use Rattle.sx_base.specs.Outside.{Rose};
-ghost use Rattle.sx_ledger.specs.Decoding.{state_at};
 ghost use Rattle.sx_ledger.specs.Encoding.{state_bytes};
 ghost use Rattle.sx_ledger.specs.Ledger.{IsLedger};
-ghost use Rattle.sx_record.specs.Frame.{most_bytes, record_bytes};
+ghost use Rattle.sx_record.specs.Frame.{frame_bytes, most_bytes, record_bytes};
 ghost use Rattle.sx_record.specs.Stream.{Took};
 ghost use Rattle.sx_record.specs.Tags.{state_tag};
+ghost use Rattle.sx_run.specs.Expected.{item_at, needed};
 ghost use Rattle.sx_run.specs.Head.{IsHead};
-ghost use Rattle.sx_run.specs.Inputs.{opening_at, state_record};
-ghost use Rattle.sx_run.specs.Stream.{Holds, Reads, UnlessReadFault};
+ghost use Rattle.sx_run.specs.Items.{item_record, payload_at};
+ghost use Rattle.sx_run.specs.Items as item;
+ghost use Rattle.sx_run.specs.Stream.{Holds, Stops, UnlessReadFault};
 
 use crate::head::Head;
-use crate::payloads::ledger_of;
+use crate::payloads::decoded;
 use crate::stop::Stop;
-use crate::stream::required;
+use crate::stream::{Taken, end_of, required};
 use std::alloc::Global;
 use std::thread::{Threads, join};
 use sx_base::Source;
@@ -37,12 +38,13 @@ fn digest_and_ledger<R: Threads>(
     requires place { found.now.at ≤ 2 ^ 63 + 5 }
     requires fits { length found.now.payload ≤ most_bytes }
     ensures digest { result.0 ≡ sha256 (record_bytes state_tag found.now.payload) }
-    ensures exact { Holds (λ x. x) found.now.at (state_at found.now.payload) result.1 }
+    ensures exact { Holds (λ ledger. item.state ledger) found.now.at (payload_at state_tag found.now.payload) result.1 }
+    ensures form { IfOk result.1 IsLedger }
     ensures encoded { IfOk result.1 (λ ledger. found.now.payload ≡ state_bytes ledger) }
 {
     let payload = found.payload.items();
     if payload.len() < WORTH_A_THREAD {
-        return (record_digest(tag::STATE, payload), ledger_of(alloc, found));
+        return (record_digest(tag::STATE, payload), decoded(alloc, found));
     }
     join(
         rt,
@@ -53,34 +55,25 @@ fn digest_and_ledger<R: Threads>(
         || -> Result<Ledger, Stop>
             requires place { found.now.at ≤ 2 ^ 63 + 5 }
             requires fits { length found.now.payload ≤ most_bytes }
-            ensures exact { Holds (λ x. x) found.entry.now.at (state_at found.entry.now.payload) result }
+            ensures exact { Holds (λ ledger. item.state ledger) found.entry.now.at (payload_at state_tag found.entry.now.payload) result }
+            ensures form { IfOk result IsLedger }
             ensures encoded { IfOk result (λ ledger. found.entry.now.payload ≡ state_bytes ledger) }
-        { ledger_of(alloc, found) },
+        { decoded(alloc, found) },
     )
 }
 
-// A state that was read, and the offset after its record.
-#[derive(Debug, Drop)]
-pub struct Opening {
-    pub head: Head,
-    pub end: u64,
-}
-
-// The state, which has to be the first record.
-pub fn read_opening<R: Threads, S: Source>(
+// The state, which has to be the first record, and where a chain of blocks stands on it.
+pub fn take_head<R: Threads, S: Source>(
     rt: &R,
     alloc: Global,
     source: &mut S,
-) -> Result<Opening, Stop>
-    ensures exact { Reads (λ o. (o.head.ledger, o.end)) opening_at (S.left source.old) (S.left source.new) result }
-    ensures took { IfOk result (λ o. Took (S.left source.old) (S.left source.new) (state_record o.head.ledger)) }
-    ensures head { IfOk result (λ o. IsHead o.head) }
-    ensures ledger { IfOk result (λ o. IsLedger o.head.ledger) }
-    ensures end { IfOk result (λ o. o.end ≡ length (state_record o.head.ledger)) }
-    ensures near { IfOk result (λ o. o.end ≤ most_bytes + 5) }
-
-    // The count of faults rises where the answer is ReadFault. At each other answer the count of a
-    // strict source does not change.
+) -> Result<Taken<Head>, Stop>
+    ensures stops { IfErr result (Stops (item_at (needed state_tag) 0) (S.left source.old) (S.left source.new)) }
+    ensures took { IfOk result (λ taken. Took (S.left source.old) (S.left source.new) (item_record (item.state taken.held.ledger))) }
+    ensures form { IfOk result (λ taken. IsLedger taken.held.ledger) }
+    ensures head { IfOk result (λ taken. IsHead taken.held) }
+    ensures end { IfOk result (λ taken. taken.end ≡ length (item_record (item.state taken.held.ledger))) }
+    ensures near { IfOk result (λ taken. taken.end ≤ frame_bytes + most_bytes) }
     ensures steady { UnlessReadFault result (IsTrue (S.strict source.old) → S.faults source.new ≡ S.faults source.old) }
     ensures read_fault { IsErrOf result Stop.ReadFault → Rose (S.faults source.old) (S.faults source.new) }
     ensures falls_never { S.faults source.old ≤ S.faults source.new }
@@ -88,39 +81,11 @@ pub fn read_opening<R: Threads, S: Source>(
 {
     let found = required(alloc, source, 0, tag::STATE)?;
     let (digest, ledger) = digest_and_ledger(rt, alloc, &found);
-    let ledger = ledger?;
-    let head = Head {
-        ledger,
+    let held = Head {
+        ledger: ledger?,
         state: None,
         digest,
     };
-    let end = found.at + found.payload.items().len() as u64;
-    Ok(Opening { head, end })
-}
-
-// A ledger that was read, and the offset after its record.
-#[derive(Debug, Drop)]
-pub struct Beginning {
-    pub ledger: Ledger,
-    pub end: u64,
-}
-
-// The state, which has to be the first record, without its digest.
-pub fn read_ledger<S: Source>(alloc: Global, source: &mut S) -> Result<Beginning, Stop>
-    ensures exact { Reads (λ o. (o.ledger, o.end)) opening_at (S.left source.old) (S.left source.new) result }
-    ensures took { IfOk result (λ o. Took (S.left source.old) (S.left source.new) (state_record o.ledger)) }
-    ensures ledger { IfOk result (λ o. IsLedger o.ledger) }
-    ensures near { IfOk result (λ o. o.end ≤ most_bytes + 5) }
-
-    // The count of faults rises where the answer is ReadFault. At each other answer the count of a
-    // strict source does not change.
-    ensures steady { UnlessReadFault result (IsTrue (S.strict source.old) → S.faults source.new ≡ S.faults source.old) }
-    ensures read_fault { IsErrOf result Stop.ReadFault → Rose (S.faults source.old) (S.faults source.new) }
-    ensures falls_never { S.faults source.old ≤ S.faults source.new }
-    ensures kept { S.strict source.new ≡ S.strict source.old }
-{
-    let found = required(alloc, source, 0, tag::STATE)?;
-    let ledger = ledger_of(alloc, &found)?;
-    let end = found.at + found.payload.items().len() as u64;
-    Ok(Beginning { ledger, end })
+    let end = end_of(&found);
+    Ok(Taken { held, end })
 }

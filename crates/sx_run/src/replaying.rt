@@ -1,26 +1,27 @@
 //! `replay`: a state, and then blocks, each of which may have outcomes after it. Each block is judged on
 //! the ledger so far, and applied before the next record is read.
 
-ghost use Rattle.std.specs.Prelude.{◌≡◌, ◌+◌, ◌^◌, ◌≤◌, length, IfOk, OnOk, IsErrOf, IsTrue};
+ghost use Rattle.std.specs.Prelude.{◌≡◌, ◌+◌, ◌^◌, ◌≤◌, ℕ, length, IfOk, IsErrOf, IsTrue};
 ghost use Rattle.sx_base.specs.Outside.{Rose};
 ghost use Rattle.sx_record.specs.Tags.{block_tag, outcomes_tag};
-ghost use Rattle.sx_run.specs.Answers.{FindsInReplay, Found, IsRead};
-ghost use Rattle.sx_run.specs.Inputs.{end_of};
-ghost use Rattle.sx_run.specs.Replaying.{HasReplayed, IsNext, MayGoOn, Steps, stand_of};
-ghost use Rattle.sx_run.specs.Replays.{most_blocks, tags_after};
+ghost use Rattle.sx_run.specs.Answers.{Found};
+ghost use Rattle.sx_run.specs.Replaying.{IsNext, MayGoOn, Steps};
+ghost use Rattle.sx_run.specs.Replays.{tags_after};
 ghost use Rattle.sx_run.specs.Stream.{UnlessReadFault};
 
 use crate::head::{Head, advance};
-use crate::opening::read_opening;
-use crate::payloads::{block_of, outcomes_of};
+use crate::opening::take_head;
+use crate::payloads::{Incoming, decoded};
 use crate::stop::Stop;
-use crate::stream::next;
+use crate::stream::{end_of, next};
 use std::alloc::Global;
 use std::thread::Threads;
 use sx_base::Source;
 use sx_bytes::{Form, FormFault, Writer};
 use sx_check::CheckFault;
+use sx_layout::Outcomes;
 use sx_record::{Record, tag};
+use sx_words::Command;
 
 // How many blocks a replay may have.
 const MOST_BLOCKS: u32 = 1_000_000;
@@ -47,11 +48,11 @@ fn tags(after_block: bool) -> &'static [u8]
 }
 
 // A block, judged on the ledger so far and applied.
-fn step_block(alloc: Global, place: Place, found: Record) -> Result<Place, Stop>
+fn step_block(alloc: Global, place: Place, found: &Record) -> Result<Place, Stop>
     requires place { MayGoOn place }
-    requires found { IsNext place found }
-    requires tag { found.tag ≡ block_tag }
-    ensures { Steps place found result }
+    requires found { IsNext place found.now }
+    requires tag { found.now.tag ≡ block_tag }
+    ensures { Steps place found.now result }
 {
     if place.blocks >= MOST_BLOCKS {
         return Err(Stop::Malformed(FormFault {
@@ -59,12 +60,11 @@ fn step_block(alloc: Global, place: Place, found: Record) -> Result<Place, Stop>
             fault: Form::TooMany,
         }));
     }
-    let at = found.at + found.payload.items().len() as u64;
-    let incoming = block_of(alloc, found)?;
+    let incoming = decoded::<Incoming>(alloc, found)?;
     match advance(alloc, place.head, &incoming) {
         Ok(advanced) => Ok(Place {
             head: advanced.head,
-            at,
+            at: end_of(found),
             blocks: place.blocks + 1,
             after_block: true,
         }),
@@ -77,23 +77,26 @@ fn step_block(alloc: Global, place: Place, found: Record) -> Result<Place, Stop>
 }
 
 // Outcomes, read for their form alone.
-fn step_outcomes(alloc: Global, mut place: Place, found: Record) -> Result<Place, Stop>
+fn step_outcomes(alloc: Global, place: Place, found: &Record) -> Result<Place, Stop>
     requires place { MayGoOn place }
-    requires found { IsNext place found }
-    requires tag { found.tag ≡ outcomes_tag }
-    ensures { Steps place found result }
+    requires found { IsNext place found.now }
+    requires tag { found.now.tag ≡ outcomes_tag }
+    ensures { Steps place found.now result }
 {
-    place.at = found.at + found.payload.items().len() as u64;
-    place.after_block = false;
-    let _ = outcomes_of(alloc, found)?;
-    Ok(place)
+    let _ = decoded::<Outcomes>(alloc, found)?;
+    Ok(Place {
+        head: place.head,
+        at: end_of(found),
+        blocks: place.blocks,
+        after_block: false,
+    })
 }
 
 // One record after the state.
-fn step(alloc: Global, place: Place, found: Record) -> Result<Place, Stop>
+fn step(alloc: Global, place: Place, found: &Record) -> Result<Place, Stop>
     requires place { MayGoOn place }
-    requires found { IsNext place found }
-    ensures { Steps place found result }
+    requires found { IsNext place found.now }
+    ensures { Steps place found.now result }
 {
     if found.tag == tag::OUTCOMES {
         step_outcomes(alloc, place, found)
@@ -104,20 +107,19 @@ fn step(alloc: Global, place: Place, found: Record) -> Result<Place, Stop>
 
 // The record of the ledger after all blocks of the input.
 pub fn replay<R: Threads, S: Source>(rt: &R, alloc: Global, source: &mut S) -> Result<Writer, Stop>
-    ensures found { Found (FindsInReplay (S.left source.old)) result }
-    ensures read { OnOk result (IsRead (S.left source.old) (S.left source.new)) }
+    ensures found { (workers : ℕ) → Found (Command.Replay workers) (S.left source.old) (S.left source.new) result }
     ensures steady { UnlessReadFault result (IsTrue (S.strict source.old) → S.faults source.new ≡ S.faults source.old) }
     ensures read_fault { IsErrOf result Stop.ReadFault → Rose (S.faults source.old) (S.faults source.new) }
 {
-    let opened = read_opening(rt, alloc, source)?;
+    let opening = take_head(rt, alloc, source)?;
     let mut place = Place {
-        head: opened.head,
-        at: opened.end,
+        head: opening.held,
+        at: opening.end,
         blocks: 0,
         after_block: false,
     };
     while let Some(found) = next(alloc, source, place.at, tags(place.after_block))? {
-        place = step(alloc, place, found)?;
+        place = step(alloc, place, &found)?;
     }
     Ok(place.head.into_state(alloc)?)
 }

@@ -1,89 +1,62 @@
 //! The top call.
 
-ghost use Rattle.std.specs.Prelude.{◌≡◌, ◌↔◌, IsTrue};
+ghost use Rattle.std.specs.Prelude.{◌≡◌, false, None, IfNone, IfSome, IsErrOf, IsTrue};
 ghost use Rattle.sx_base.specs.Outside.{Rose};
-ghost use Rattle.sx_run.specs.Answers.{Answers, Completes, FindsInCheck, FindsInReplay, FitsWords, IsRead};
-ghost use Rattle.sx_run.specs.Interleaving.{FindsInInterleave};
-ghost use Rattle.sx_run.specs.Running.{IsWritten};
+ghost use Rattle.sx_run.specs.Answers.{Answers, Completes, FitsWords, Found, IsRead, asked};
+ghost use Rattle.sx_run.specs.Findings.{is_built};
+ghost use Rattle.sx_run.specs.Running.{Tells};
+ghost use Rattle.sx_run.specs.Settling.{ReplaysSettle, ValidSettles};
 ghost use Rattle.sx_run.specs.Status.{UnlessReadFails, UnlessWriteFails, is_silent};
-ghost use Rattle.sx_run.specs.Words.{AreCheck, AreInterleave, AreReplay};
+ghost use Rattle.sx_run.specs.Stream.{UnlessReadFault};
 
 use crate::checking::check;
 use crate::interleaving::interleave;
-use crate::laws::input_laws;
+use crate::laws::{chain_laws, input_laws};
+use crate::migrating::migrate;
 use crate::replaying::replay;
 use crate::status::{Status, status_of};
-use crate::words::{Command, command_of};
+use crate::stop::Stop;
 use std::alloc::Global;
 use std::thread::Threads;
 use sx_base::{Sink, Source, put_all};
+use sx_bytes::Writer;
+use sx_words::{Command, WordsFault, parse};
 
-// Writes the output, all of it.
-fn write<K: Sink>(sink: &mut K, output: &[u8]) -> Status
-    ensures outcome { IsWritten (K.written sink.old) (K.written sink.new) output.now result }
+// What a command writes, or why it stops; none where the command is not built yet.
+fn output_of<R: Threads, S: Source>(
+    rt: &R,
+    alloc: Global,
+    command: Command,
+    source: &mut S,
+) -> Option<Result<Writer, Stop>>
+    ensures built { IfSome result (λ _. IsTrue (is_built command)) }
+    ensures found { IfSome result (Found command (S.left source.old) (S.left source.new)) }
+    ensures steady { IfSome result (λ found. UnlessReadFault found (IsTrue (S.strict source.old) → S.faults source.new ≡ S.faults source.old)) }
+    ensures read_fault { IfSome result (λ found. IsErrOf found Stop.ReadFault → Rose (S.faults source.old) (S.faults source.new)) }
+    ensures unbuilt { IfNone result (is_built command ≡ false) }
+    ensures unread { IfNone result (source.new ≡ source.old) }
+{
+    match command {
+        Command::Check => Some(check(rt, alloc, source)),
+        Command::Replay { .. } => Some(replay(rt, alloc, source)),
+        Command::Interleave => Some(interleave(alloc, source)),
+        Command::Migrate => Some(migrate(alloc, source)),
+        Command::Seal { .. } | Command::Show | Command::Demo { .. } => None,
+    }
+}
+
+// Writes the output, all of it, or answers why there is none.
+fn conclude<K: Sink>(sink: &mut K, found: Result<Writer, Stop>) -> Status
+    ensures told { Tells found (K.written sink.old) (K.written sink.new) result }
+    ensures silent { IsTrue (is_silent result) → sink.new ≡ sink.old }
     ensures steady { UnlessWriteFails result (IsTrue (K.strict sink.old) → K.faults sink.new ≡ K.faults sink.old) }
     ensures write_fault { result ≡ Status.WriteFault → Rose (K.faults sink.old) (K.faults sink.new) }
 {
-    match put_all(sink, output) {
-        Ok(()) => Status::Done,
-        Err(_) => Status::WriteFault,
-    }
-}
-
-fn run_check<R: Threads, S: Source, K: Sink>(
-    rt: &R,
-    alloc: Global,
-    source: &mut S,
-    sink: &mut K,
-) -> Status
-    ensures known { result ≡ Status.Usage → ⊥ }
-    ensures answer { Answers (FindsInCheck (S.left source.old)) (K.written sink.old) (K.written sink.new) result }
-    ensures read { result ≡ Status.Done → IsRead (S.left source.old) (S.left source.new) }
-    ensures read_fault { result ≡ Status.ReadFault → Rose (S.faults source.old) (S.faults source.new) }
-    ensures write_fault { result ≡ Status.WriteFault → Rose (K.faults sink.old) (K.faults sink.new) }
-    ensures steady_source { UnlessReadFails result (IsTrue (S.strict source.old) → S.faults source.new ≡ S.faults source.old) }
-    ensures steady_sink { UnlessWriteFails result (IsTrue (K.strict sink.old) → K.faults sink.new ≡ K.faults sink.old) }
-    ensures silent { IsTrue (is_silent result) → sink.new ≡ sink.old }
-{
-    match check(rt, alloc, source) {
-        Ok(line) => write(sink, line.bytes()),
-        Err(stop) => status_of(stop),
-    }
-}
-
-fn run_replay<R: Threads, S: Source, K: Sink>(
-    rt: &R,
-    alloc: Global,
-    source: &mut S,
-    sink: &mut K,
-) -> Status
-    ensures known { result ≡ Status.Usage → ⊥ }
-    ensures answer { Answers (FindsInReplay (S.left source.old)) (K.written sink.old) (K.written sink.new) result }
-    ensures read { result ≡ Status.Done → IsRead (S.left source.old) (S.left source.new) }
-    ensures read_fault { result ≡ Status.ReadFault → Rose (S.faults source.old) (S.faults source.new) }
-    ensures write_fault { result ≡ Status.WriteFault → Rose (K.faults sink.old) (K.faults sink.new) }
-    ensures steady_source { UnlessReadFails result (IsTrue (S.strict source.old) → S.faults source.new ≡ S.faults source.old) }
-    ensures steady_sink { UnlessWriteFails result (IsTrue (K.strict sink.old) → K.faults sink.new ≡ K.faults sink.old) }
-    ensures silent { IsTrue (is_silent result) → sink.new ≡ sink.old }
-{
-    match replay(rt, alloc, source) {
-        Ok(state) => write(sink, state.bytes()),
-        Err(stop) => status_of(stop),
-    }
-}
-
-fn run_interleave<S: Source, K: Sink>(alloc: Global, source: &mut S, sink: &mut K) -> Status
-    ensures known { result ≡ Status.Usage → ⊥ }
-    ensures answer { Answers (FindsInInterleave (S.left source.old)) (K.written sink.old) (K.written sink.new) result }
-    ensures read { result ≡ Status.Done → IsRead (S.left source.old) (S.left source.new) }
-    ensures read_fault { result ≡ Status.ReadFault → Rose (S.faults source.old) (S.faults source.new) }
-    ensures write_fault { result ≡ Status.WriteFault → Rose (K.faults sink.old) (K.faults sink.new) }
-    ensures steady_source { UnlessReadFails result (IsTrue (S.strict source.old) → S.faults source.new ≡ S.faults source.old) }
-    ensures steady_sink { UnlessWriteFails result (IsTrue (K.strict sink.old) → K.faults sink.new ≡ K.faults sink.old) }
-    ensures silent { IsTrue (is_silent result) → sink.new ≡ sink.old }
-{
-    match interleave(alloc, source) {
-        Ok(outcomes) => write(sink, outcomes.bytes()),
+    match found {
+        Ok(output) => match put_all(sink, output.bytes()) {
+            Ok(()) => Status::Done,
+            Err(_) => Status::WriteFault,
+        },
         Err(stop) => status_of(stop),
     }
 }
@@ -95,7 +68,7 @@ fn run_interleave<S: Source, K: Sink>(alloc: Global, source: &mut S, sink: &mut 
 /// 1,000,000 blocks, each of which may have the outcomes of its candidates after it, and writes the
 /// state after all of them, where each block is valid for what the one before it left. `interleave` reads
 /// a state, candidates and a script of who makes the next step, and writes what becomes of each candidate;
-/// `Refused` says there that the state has no room for all that the candidates ask for. See [`Status`]
+/// `Refused` says there that the state has no room for all that the candidates ask for. `migrate` reads a state and writes it in version 2. See [`Status`]
 /// for the answers and for what is written at each. What is answered of the bytes holds where the
 /// source tells those that it has left, and what is written where the sink tells those that it holds.
 ///
@@ -109,18 +82,15 @@ pub fn run<R: Threads + Sync, S: Source, K: Sink>(
     source: &mut S,
     sink: &mut K,
 ) -> Status
-    // Usage comes exactly where the words are no command in its plain form, and nothing is read then.
-    ensures usage { FitsWords words.now result }
-    ensures unread { result ≡ Status.Usage → source.new ≡ source.old }
+    // Usage comes exactly where the words are no command in its plain form, but that memory may run out.
+    // Nothing is read then.
+    ensures usage { FitsWords (asked words.now) result }
+    ensures unread { asked words.now ≡ None → source.new ≡ source.old }
 
     // The answer is what is found of the input: the first fault, or else the output, which is written
     // whole at Done, and up to some byte at WriteFault.
-    ensures check { AreCheck words.now →
-        Answers (FindsInCheck (S.left source.old)) (K.written sink.old) (K.written sink.new) result }
-    ensures replay { AreReplay words.now →
-        Answers (FindsInReplay (S.left source.old)) (K.written sink.old) (K.written sink.new) result }
-    ensures interleave { AreInterleave words.now →
-        Answers (FindsInInterleave (S.left source.old)) (K.written sink.old) (K.written sink.new) result }
+    ensures answer { IfSome (asked words.now) (λ command.
+        Answers command (S.left source.old) (S.left source.new) (K.written sink.old) (K.written sink.new) result) }
     ensures read { result ≡ Status.Done → IsRead (S.left source.old) (S.left source.new) }
 
     // At every other answer nothing is written.
@@ -136,18 +106,24 @@ pub fn run<R: Threads + Sync, S: Source, K: Sink>(
     ensures steady_sink { UnlessWriteFails result (IsTrue (K.strict sink.old) → K.faults sink.new ≡ K.faults sink.old) }
 
     // Where neither count rose, what is found of the input is answered, unless memory ran out.
-    ensures complete_check { AreCheck words.now → (Rose (S.faults source.old) (S.faults source.new) → ⊥) →
-        (Rose (K.faults sink.old) (K.faults sink.new) → ⊥) → Completes FindsInCheck (S.left source.old) result }
-    ensures complete_replay { AreReplay words.now → (Rose (S.faults source.old) (S.faults source.new) → ⊥) →
-        (Rose (K.faults sink.old) (K.faults sink.new) → ⊥) → Completes FindsInReplay (S.left source.old) result }
-    ensures complete_interleave { AreInterleave words.now → (Rose (S.faults source.old) (S.faults source.new) → ⊥) →
-        (Rose (K.faults sink.old) (K.faults sink.new) → ⊥) → Completes FindsInInterleave (S.left source.old) result }
+    ensures complete { (Rose (S.faults source.old) (S.faults source.new) → ⊥) →
+        (Rose (K.faults sink.old) (K.faults sink.new) → ⊥) →
+        IfSome (asked words.now) (λ command. Completes command (S.left source.old) result) }
+
+    // Each block of a replay settles: no debit is more than is there, offers trade within their limits, in
+    // full where they must, unless a cut shows that not all can, and no circulation trades more.
+    // Balances and offers fall by the rounding that the block records, and the ledger's rises by it.
+    ensures checked_settles { ValidSettles }
+    ensures replayed_settle { ReplaysSettle }
 {
     input_laws();
-    match command_of(words) {
-        Some(Command::Check) => run_check(rt, alloc, source, sink),
-        Some(Command::Replay { .. }) => run_replay(rt, alloc, source, sink),
-        Some(Command::Interleave) => run_interleave(alloc, source, sink),
-        None => Status::Usage,
+    chain_laws();
+    match parse(alloc, words) {
+        Ok(command) => match output_of(rt, alloc, command, source) {
+            Some(found) => conclude(sink, found),
+            None => Status::Usage,
+        },
+        Err(WordsFault::Usage) => Status::Usage,
+        Err(WordsFault::NoMemory) => Status::NoMemory,
     }
 }

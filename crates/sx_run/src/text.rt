@@ -74,6 +74,23 @@ fn overdrawn(
     )?)
 }
 
+fn overspent(
+    alloc: Global,
+    account: AccountId,
+    asset: AssetId,
+    opening: u64,
+    credits: u128,
+    debits: u128,
+) -> Result<String, NoMemory>
+    ensures { IfOk result (λ text. string_bytes text ≡ reason_text (Invalid.Overspent account asset opening credits debits)) }
+{
+    let account = account.0;
+    let asset = asset.get();
+    Ok(format!(in alloc;
+        "17 Overspent account {account} asset {asset} opening {opening} credits {credits} debits {debits}"
+    )?)
+}
+
 fn outside(
     alloc: Global,
     sell: AssetId,
@@ -161,6 +178,13 @@ fn reason(alloc: Global, why: &Invalid) -> Result<String, NoMemory>
             opening,
             debits,
         } => overdrawn(alloc, account, asset, opening, debits),
+        Invalid::Overspent {
+            account,
+            asset,
+            opening,
+            credits,
+            debits,
+        } => overspent(alloc, account, asset, opening, credits, debits),
         Invalid::Outside {
             sell,
             buy,
@@ -201,7 +225,7 @@ pub fn status_line(alloc: Global, status: &Status) -> Result<Text, NoMemory>
         Status::Usage => {
             String::from_str(
                 alloc,
-                "usage: speedex seal, replay, check, show, interleave or demo N\n",
+                "usage: speedex seal, replay, check, show, interleave, migrate or demo N\n",
             )?
         }
         Status::ReadFault => String::from_str(alloc, "read fault\n")?,

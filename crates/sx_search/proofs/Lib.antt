@@ -1,4 +1,3 @@
 pub mod Steps
 pub mod Excesses
 pub mod Rounds
-pub mod Alike

@@ -36,7 +36,4 @@ mod state;
 mod step;
 mod trial;
 
-pub use searching::search;
-
-#[cfg(test)]
-mod tests;
+pub use searching::{Found, search, search_from};

@@ -33,3 +33,9 @@ pub record Ends (shard : Shown) (view : View) (purses bits : List ℕ) : Type 0 
   pub bits_add_up : BitsAddUp shard.bits bits (times view.claims)
   pub lows : All (LowFits shard.purses purses) view.notes
   pub sets : All (SetFits bits) view.notes
+
+-- there are words at which the shard ends so
+pub record HasEnded (shard : Shown) (view : View) : Type 0 where
+  pub purses : List ℕ
+  pub bits : List ℕ
+  pub ends : Ends shard view purses bits

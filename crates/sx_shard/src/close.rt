@@ -2,7 +2,7 @@
 ghost use Rattle.std.specs.Prelude.{◌≡◌, ◌+◌, ◌≤◌, [], take, drop, vec_capacity, IfOk};
 ghost use Rattle.std.specs.Mem.Slots.{slots_items, slots_len, IsFull};
 ghost use Rattle.sx_shard.specs.Models.{IsOf};
-ghost use Rattle.sx_shard.specs.Close.{Ends};
+ghost use Rattle.sx_shard.specs.Close.{Ends, HasEnded};
 
 use crate::seat::ShardSeat;
 use crate::shard::Shard;
@@ -65,5 +65,20 @@ impl Shard {
             purses: ListOf::of(purses),
             bits: ListOf::of(bits),
         })
+    }
+
+    /// Ends the shard as [`Shard::close`] does, and gives its words back to the allocator.
+    ///
+    /// It takes no memory, so it serves where the words at the end are wanted in proofs alone.
+    pub fn finish(self, seat: ShardSeat)
+        requires of { IsOf self seat }
+        requires from { seat.view.from ≡ 0 }
+        requires end { seat.view.end ≡ self.count }
+        ensures { HasEnded self seat.view }
+    {
+        let Shard { table, .. } = self;
+        let ShardSeat { seat } = seat;
+        let closed = table.close_with(seat);
+        closed.free();
     }
 }

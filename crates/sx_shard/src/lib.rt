@@ -49,7 +49,8 @@
 //!
 //! [`Shard::close`] takes the seat that has all candidates again. It is then the only live one, so
 //! what is missing from the words is what this seat has claimed, and each of its notes is true of
-//! the words at the end. A seat that is dropped keeps its candidates, and such a shard is only dropped.
+//! the words at the end. [`Shard::finish`] does the same and tells no words, so it takes no memory. A
+//! seat that is dropped keeps its candidates, and such a shard is only dropped.
 //!
 //! Not here: which words stand for what, who is refused and what becomes of it, and the threads.
 //! Nothing is promised of fairness, or of which thread is first.
@@ -69,6 +70,3 @@ pub use laws::reserve_laws;
 pub use refusal::{Held, Overdraft};
 pub use seat::ShardSeat;
 pub use shard::Shard;
-
-#[cfg(test)]
-mod tests;

@@ -3,10 +3,11 @@
 //! What is a row through the program is a stored case under `examples/cases/` and no test. Here is
 //! what no input of the program can show: sources and sinks that give and take their bytes in pieces
 //! of any size, that fail in mid-stream, and that overcome an interruption. Here too are library calls on
-//! what was worked out by hand: circulations and cuts of bounds at the ends of their ranges, and blocks
-//! that are made again from the transactions of valid ones.
+//! what was worked out by hand: blocks that are made again from the transactions of valid ones.
 #![tactic(auto)]
 
+#[cfg(test)]
+mod books;
 #[cfg(test)]
 mod chain;
 #[cfg(test)]
@@ -14,9 +15,13 @@ mod chains;
 #[cfg(test)]
 mod clearing;
 #[cfg(test)]
+mod demonstration;
+#[cfg(test)]
 mod dropped;
 #[cfg(test)]
-mod instances;
+mod events;
+#[cfg(test)]
+mod fills;
 #[cfg(test)]
 mod layout;
 #[cfg(test)]
@@ -30,6 +35,8 @@ mod recovering;
 #[cfg(test)]
 mod replay;
 #[cfg(test)]
-mod spans;
+mod threads;
+#[cfg(test)]
+mod words;
 #[cfg(test)]
 mod worked;

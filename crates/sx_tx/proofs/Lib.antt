@@ -1,4 +1,7 @@
 pub mod FieldLaws
 pub mod WindowLaws
+pub mod UsedNumbers
 pub mod TxLaws
 pub mod ListLaws
+pub mod FaultPlaces
+mod WindowCases

@@ -4,7 +4,7 @@ use Rattle.std.proofs.Common.{arith, inl, inr}
 use Rattle.std.specs.Int.{bit_at, IsBitSet}
 use Rattle.std.specs.Int.Bits.{bit_and}
 use Rattle.std.specs.Int.Count.{count_leading_zeros}
-use Rattle.std.proofs.lemmas.Bool.{cases_lt, ne_eqb}
+use Rattle.std.proofs.lemmas.Bool.{cases_eq, cases_lt, ne_eqb}
 use Rattle.std.proofs.lemmas.Nat.{leading_top, pow_pos}
 use Rattle.std.proofs.lemmas.Nat.Bits.{bit_at-lt, bit_at_above, and_pow}
 use Rattle.std.proofs.Math.Nat.{div-eq_of_lt-le, pow-suc, zero-mul}
@@ -67,3 +67,15 @@ next_is window map i lt set unset =
     highest_is 64 map i lt (set_is map i set) (λ k above within. unset_is map k (unset k above within)) in
     rw some (rw highest (ap (λ (n : ℕ). record { last = n; used = 0 })
     (let n : window.last + suc i ≡ window.last + 1 + i = omega arith in n)))
+
+none_set : 64 - count_leading_zeros 64 0 ≡ bit_length 64 0
+unfolding bit_length count_leading_zeros
+none_set = refl
+
+-- the bits of a word but its leading zeros
+pub length_is : (map : ℕ) → map < 2 ^ 64 → 64 - count_leading_zeros 64 map ≡ bit_length 64 map
+length_is map fits =
+    elim (cases_eq map 0) [
+      | inl none ↦ rw none none_set
+      | inr some ↦ let top = highest_of map some fits in top.3 ∙ sym top.4
+    ]

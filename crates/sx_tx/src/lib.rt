@@ -10,9 +10,10 @@
 //! encoding, or nothing where memory runs out. [`tx_laws`] and [`list_laws`] say that decoding
 //! inverts encoding, that no two values share an encoding, and that none is a prefix of another.
 //!
-//! A [`Window`] is what is left of an account's sequence numbers: the greatest one used so far,
-//! after which [`Window::OPEN`] are open. [`Window::next`] is the window after a block, and
-//! [`window_laws`] says what it is in the words of bits.
+//! A [`Window`] says which of an account's sequence numbers were used: all up to the last one, and
+//! in version 2 some of the [`Window::OPEN`] after it. [`Window::place`] is where a number stands
+//! among these. [`Window::next`] is the window after a block, and [`window_laws`] says in the words
+//! of used numbers what it is.
 //!
 //! Not here: whether an account, an asset or an offer is there, and what a transaction does.
 #![tactic(auto)]
@@ -34,6 +35,3 @@ pub use tx::Tx;
 pub use tx_list::{MOST_TRANSACTIONS, TxList};
 pub use window::{Window, WindowFault};
 pub use writing::{write_candidates, write_tx};
-
-#[cfg(test)]
-mod tests;

@@ -1,8 +1,6 @@
+use Rattle.sx_block.proofs.InPart.{one_trades_in_part}
 use Rattle.sx_block.proofs.LimitLaws.{only_within_limit, must_in_full}
 use Rattle.sx_block.proofs.effect_laws.limit_laws.Goals as goal
 
-pub returns-clause-within : goal.returns-clause-within
-returns-clause-within c = only_within_limit
-
-pub returns-clause-in_full : goal.returns-clause-in_full
-returns-clause-in_full c = must_in_full
+pub returns : goal.returns
+returns c = record { within = only_within_limit; in_full = must_in_full; one_in_part = one_trades_in_part }

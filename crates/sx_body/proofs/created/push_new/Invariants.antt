@@ -1,5 +1,5 @@
 use Rattle.std.proofs.Common.{◌≡◌, ◌++◌, map, take}
-use Rattle.sx_body.specs.Settled.{fresh}
+use Rattle.sx_body.specs.Accounts.{fresh}
 use Rattle.sx_body.proofs.created.push_new.Given as goal
 
 abbrev pub invariant-loop-id : goal.invariant-loop-id

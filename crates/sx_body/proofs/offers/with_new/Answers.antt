@@ -1,6 +1,6 @@
 use Rattle.std.proofs.Common.{rules}
 use Rattle.std.proofs.lemmas.List.Sorted.{answers_always}
-use Rattle.sx_body.proofs.SettledOffers.{sorted_offers}
+use Rattle.sx_body.proofs.OffersAfter.{sorted_offers}
 use Rattle.sx_body.proofs.offers.with_new.Goals as goal
 use Rattle.sx_ledger.specs.Order.{key_of}
 

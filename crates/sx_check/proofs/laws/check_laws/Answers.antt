@@ -1,8 +1,11 @@
-use Rattle.sx_check.proofs.ReasonLaws.{one_reason, valid_is_not_refused}
+use Rattle.sx_check.proofs.Judgement.{every_block_is_judged}
+use Rattle.sx_check.proofs.ReasonLaws.{one_reason, valid_is_not_refused, wrong_after_refuses}
 use Rattle.sx_check.proofs.laws.check_laws.Goals as goal
 
-pub returns-clause-one_reason : goal.returns-clause-one_reason
-returns-clause-one_reason c = one_reason
-
-pub returns-clause-valid_is_not_refused : goal.returns-clause-valid_is_not_refused
-returns-clause-valid_is_not_refused c = valid_is_not_refused
+pub returns : goal.returns
+returns c = record {
+  one_reason = one_reason;
+  valid_is_not_refused = valid_is_not_refused;
+  wrong_after = wrong_after_refuses;
+  judged = every_block_is_judged;
+}

@@ -1,7 +1,16 @@
 use Rattle.std.proofs.Common.{◌≡◌, ◌<◌, length, ap, arith}
-use Rattle.sx_check.proofs.OfferLaws.{misrounded}
+use Rattle.sx_check.proofs.OfferLaws.{misrounded, one_rounding}
 use Rattle.sx_check.proofs.rounding.check_kept.Goals as goal
 use Rattle.sx_ledger.specs.Ledger.{assets_of}
+
+pub first_difference-requires : goal.first_difference-requires
+first_difference-requires c =
+    omega (
+      arith,
+      ap length c.items-said.ensures,
+      one_rounding c.args.ledger.now c.args.block.now c.requires.form (λ r lt. c.requires.cut r (omega arith)),
+      c.requires.one_each,
+    )
 
 pub returns-in-Some-clause-refused : goal.returns-in-Some-clause-refused
 returns-in-Some-clause-refused c =
@@ -15,14 +24,23 @@ returns-in-Some-clause-refused c =
       arith,
       found.within,
       ap length c.items-said.ensures,
-      c.requires.form.header.one_rounding,
-      c.requires.cut.fit.body.for_ledger.same_assets,
+      one_rounding parts block c.requires.form (λ r lt. c.requires.cut r (omega arith)),
     ) in
     record {
-      refuses = (
-        c.requires.cut,
-        misrounded parts block c.items-said.result.now c.args.kept.now c.unwrap.result place at
-            c.items-said.ensures lt c.requires.kept found.differ found.earlier,
-      );
-      early = omega arith;
+      refuses = record {
+        before = c.requires.cut;
+        breaks = misrounded parts block c.items-said.result.now c.args.kept.now c.unwrap.result place at
+            c.items-said.ensures lt c.requires.kept found.differ found.earlier;
+      };
+      early = λ said real e. absurd cc;
     }
+
+pub bounds-kept-place : goal.bounds-kept-place
+bounds-kept-place c =
+    omega (
+      arith,
+      c.in-Some.ensures.within,
+      ap length c.items-said.ensures,
+      one_rounding c.args.ledger.now c.args.block.now c.requires.form (λ r lt. c.requires.cut r (omega arith)),
+      c.requires.one_each,
+    )

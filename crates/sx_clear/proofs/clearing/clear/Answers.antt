@@ -4,10 +4,10 @@ use Rattle.sx_block.proofs.ValidBlocks.{block_trades_most}
 use Rattle.sx_clear.specs.Found.{IsBodyOf}
 use Rattle.sx_clear.specs.Quotes.{quotes_of}
 use Rattle.sx_clear.proofs.BlockLaws.{drops_exactly}
-use Rattle.sx_clear.proofs.OfferLaws.{offers_are}
+use Rattle.sx_clear.proofs.OfferLaws.{offers_are, offers_is}
 use Rattle.sx_clear.proofs.PriceLaws.{mends_from}
 use Rattle.sx_clear.proofs.clearing.clear.Goals as goal
-use Rattle.sx_curve.specs.Search.{searched_prices}
+use Rattle.sx_curve.specs.Search.{searched_prices, usual_exponent}
 use Rattle.sx_curve.proofs.SearchLaws.{search_keeps_length}
 use Rattle.sx_ledger.specs.declared.offer.Offer.{Offer}
 use Rattle.sx_tx.specs.declared.tx.Tx.{Tx}
@@ -22,7 +22,7 @@ searched-requires-clause-offers g c κs within =
 pub clear_body-requires-clause-assets : goal.clear_body-requires-clause-assets
 clear_body-requires-clause-assets g c =
     ap length c.in_ok-prices.ensures.exact
-    ∙ search_keeps_length (quotes_of c.items-2.result.now) c.args.ledger.now.prices c.args.mu c.args.rounds
+    ∙ search_keeps_length usual_exponent (quotes_of c.items-2.result.now) c.args.ledger.now.prices c.args.mu c.args.rounds
 
 pub returns-clause-mends : goal.returns-clause-mends
 returns-clause-mends g c =
@@ -31,7 +31,7 @@ returns-clause-mends g c =
     mends_from parts c.args.txs c.args.mu c.args.rounds c.in_ok-prices.prices c.clear_body.result
     (c.in_ok-prices.ensures.exact
     ∙ ap (λ (os : List Offer). searched_prices (quotes_of os) parts.prices c.args.mu c.args.rounds)
-    (c.items-2.ensures ∙ found.offers)) c.clear_body.ensures.txs c.clear_body.ensures.prices
+    (c.items-2.ensures ∙ offers_is parts c.args.txs c.in_ok-body.body c.requires.admissible found)) c.clear_body.ensures.txs c.clear_body.ensures.prices
 
 pub returns-clause-greatest : goal.returns-clause-greatest
 returns-clause-greatest g c =

@@ -2,7 +2,7 @@ use Rattle.std.proofs.Common.{ap, ◌∙◌}
 use Rattle.std.proofs.lemmas.Result.{IfOk-weaker}
 use Rattle.sx_clear.specs.Quotes.{quotes_of}
 use Rattle.sx_clear.proofs.clearing.searched.Goals as goal
-use Rattle.sx_curve.specs.Search.{searched_prices}
+use Rattle.sx_curve.specs.Search.{searched_prices, usual_exponent}
 use Rattle.sx_curve.proofs.SearchLaws.{search_permuted}
 use Rattle.sx_ledger.specs.declared.parts.Parts.{Parts}
 
@@ -12,7 +12,7 @@ returns g c =
     record {
       exact = IfOk-weaker c.search.result _ _
           (λ prices is.
-          is ∙ search_permuted quotes c.in_ok-curves.curves.quotes c.parts.result.now.prices c.args.mu c.args.rounds
+          is ∙ search_permuted usual_exponent quotes c.in_ok-curves.curves.quotes c.parts.result.now.prices c.args.mu c.args.rounds
           c.in_ok-curves.ensures.quotes
           ∙ ap (λ (parts : Parts). searched_prices quotes parts.prices c.args.mu c.args.rounds) c.parts.ensures.parts)
           c.search.ensures.exact;

@@ -2,6 +2,7 @@ use Rattle.sx_bytes.proofs.Parts.{decodes_only_encodings, decodes_every_encoding
 use Rattle.sx_layout.specs.OutcomeDecoding.{outcome_list_at}
 use Rattle.sx_layout.specs.Outcomes.{outcomes_bytes, AreOutcomes}
 use Rattle.sx_layout.proofs.OutcomeListLaws.{list_takes, list_again, outcomes_fit}
+use Rattle.sx_layout.proofs.OutcomeFaults.{outcome_payload_within, outcomes_within}
 use Rattle.sx_layout.proofs.laws.outcome_list_laws.Goals as goal
 
 pub returns-clause-decodes_only : goal.returns-clause-decodes_only
@@ -18,3 +19,9 @@ returns-clause-prefix_free c = is_prefix_free outcome_list_at outcomes_bytes Are
 
 pub returns-clause-fits : goal.returns-clause-fits
 returns-clause-fits c = outcomes_fit
+
+pub returns-clause-within : goal.returns-clause-within
+returns-clause-within c = outcomes_within
+
+pub returns-clause-payload_within : goal.returns-clause-payload_within
+returns-clause-payload_within c = outcome_payload_within

@@ -2,6 +2,7 @@ use Rattle.sx_bytes.proofs.Parts.{decodes_only_encodings, decodes_every_encoding
 use Rattle.sx_layout.specs.ScriptDecoding.{script_fields_at}
 use Rattle.sx_layout.specs.Scripts.{script_bytes, IsScript}
 use Rattle.sx_layout.proofs.ScriptLaws.{script_takes, script_again, scripts_fit}
+use Rattle.sx_layout.proofs.ScriptFaults.{script_payload_within, script_within}
 use Rattle.sx_layout.proofs.laws.script_laws.Goals as goal
 
 pub returns-clause-decodes_only : goal.returns-clause-decodes_only
@@ -18,3 +19,9 @@ returns-clause-prefix_free c = is_prefix_free script_fields_at script_bytes IsSc
 
 pub returns-clause-fits : goal.returns-clause-fits
 returns-clause-fits c = scripts_fit
+
+pub returns-clause-within : goal.returns-clause-within
+returns-clause-within c = script_within
+
+pub returns-clause-payload_within : goal.returns-clause-payload_within
+returns-clause-payload_within c = script_payload_within

@@ -15,7 +15,7 @@ returns-in-Some c =
     accounts c.in-Some.place c.args.offer.now.account.0 entry found c.index-accounts-place.is in
     let same = mark_is (λ (account : Account). account.id.0)
     accounts c.in-Some.place c.args.offer.now.account.0 entry at found in
-    rw (c.get.ensures.value, ← c.index-accounts-place.is)
+    rw (c.has_used.ensures, ← c.index-accounts-place.is)
     (sym (owner_is accounts c.in-Some.place entry at by_id c.args.offer.now same))
 
 pub returns-in-None : goal.returns-in-None

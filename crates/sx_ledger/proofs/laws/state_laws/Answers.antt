@@ -1,3 +1,4 @@
+use Rattle.sx_ledger.proofs.FaultPlaces.{state_within}
 use Rattle.sx_ledger.proofs.Lengths.{state_fits}
 use Rattle.sx_ledger.proofs.Payload.{state_is_injective, state_is_prefix_free}
 use Rattle.sx_ledger.proofs.laws.state_laws.Goals as goal
@@ -10,3 +11,6 @@ returns-clause-first c = state_is_prefix_free
 
 pub returns-clause-fits : goal.returns-clause-fits
 returns-clause-fits c = state_fits
+
+pub returns-clause-within : goal.returns-clause-within
+returns-clause-within c = state_within

@@ -14,11 +14,11 @@ offer_list-requires-clause-few c = rw c.items.ensures (omega (arith, (assets_kno
 pub offer_list-requires-clause-by_id : goal.offer_list-requires-clause-by_id
 offer_list-requires-clause-by_id c =
     rw c.deref.ensures.value
-    (accounts_by_id _ c.read_head.new.from c.account_list.new.from c.in_ok-accounts.accounts.items
+    (accounts_by_id _ _ c.read_head.new.from c.account_list.new.from c.in_ok-accounts.accounts.items
     c.in_ok-accounts.ensures)
 
 pub offer_list-requires-clause-few_accounts : goal.offer_list-requires-clause-few_accounts
 offer_list-requires-clause-few_accounts c =
     rw c.deref.ensures.value
-    (accounts_few _ c.read_head.new.from c.account_list.new.from c.in_ok-accounts.accounts.items
+    (accounts_few _ _ c.read_head.new.from c.account_list.new.from c.in_ok-accounts.accounts.items
     c.in_ok-accounts.ensures)

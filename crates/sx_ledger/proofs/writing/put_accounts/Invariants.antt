@@ -4,4 +4,4 @@ use Rattle.sx_ledger.specs.Encoding.{account_bytes}
 use Rattle.sx_ledger.proofs.writing.put_accounts.Given as goal
 
 abbrev pub invariant-loop-account : goal.invariant-loop-account
-invariant-loop-account l = l.to ≡ l.fn.to ++ flat_map account_bytes (take l.account-index l.accounts)
+invariant-loop-account l = l.to ≡ l.fn.to ++ flat_map (account_bytes l.version) (take l.account-index l.accounts)

@@ -38,7 +38,7 @@ returns-clause-ok c =
     let parts = c.args.parts.now in
     let offers : List ℕ = flat_map offer_bytes parts.offers in
     let from_offers : List ℕ = big_bytes 4 (length parts.offers) ++ offers in
-    let from_accounts : List ℕ = flat_map account_bytes parts.accounts ++ from_offers in
+    let from_accounts : List ℕ = flat_map (account_bytes parts.version) parts.accounts ++ from_offers in
     let from_count : List ℕ = big_bytes 4 (length parts.accounts) ++ from_accounts in
     let from_rounding : List ℕ = flat_map (big_bytes 8) parts.rounding ++ from_count in
     let from_prices : List ℕ = flat_map (big_bytes 8) parts.prices ++ from_rounding in
@@ -56,7 +56,8 @@ returns-clause-ok c =
     (rw c.items-3.ensures at c.in_ok-put_units.ensures.ok)
     (written_then r c.put_units.new.to (big_bytes 4 (length parts.accounts)) c.put_u32.new.self from_accounts new
     (rw c.items-4.ensures at c.in_ok-put_u32.ensures.ok)
-    (written_then r c.put_u32.new.self (flat_map account_bytes parts.accounts) c.put_accounts.new.to from_offers new
+    (written_then r c.put_u32.new.self (flat_map (account_bytes parts.version) parts.accounts)
+    c.put_accounts.new.to from_offers new
     (rw c.items-5.ensures at c.in_ok-put_accounts.ensures.ok)
     (written_then r c.put_accounts.new.to (big_bytes 4 (length parts.offers)) c.put_u32-2.new.self offers new
     (rw c.items-6.ensures at c.in_ok-put_u32-2.ensures.ok)

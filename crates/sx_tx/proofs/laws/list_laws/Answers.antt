@@ -2,6 +2,7 @@ use Rattle.sx_bytes.proofs.Parts.{decodes_only_encodings, decodes_every_encoding
 use Rattle.sx_tx.specs.Transactions.{list_bytes, IsTxList}
 use Rattle.sx_tx.specs.TransactionDecoding.{list_at}
 use Rattle.sx_tx.proofs.ListLaws.{list_takes, list_again, fits_record}
+use Rattle.sx_tx.proofs.FaultPlaces.{list_within, candidates_within}
 use Rattle.sx_tx.proofs.laws.list_laws.Goals as goal
 
 pub returns-clause-decodes_only : goal.returns-clause-decodes_only
@@ -18,3 +19,9 @@ returns-clause-prefix_free c = is_prefix_free list_at list_bytes IsTxList list_a
 
 pub returns-clause-fits : goal.returns-clause-fits
 returns-clause-fits c = fits_record
+
+pub returns-clause-within : goal.returns-clause-within
+returns-clause-within c = list_within
+
+pub returns-clause-payload_within : goal.returns-clause-payload_within
+returns-clause-payload_within c = candidates_within

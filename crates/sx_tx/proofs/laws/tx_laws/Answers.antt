@@ -2,6 +2,7 @@ use Rattle.sx_bytes.proofs.Parts.{decodes_only_encodings, decodes_every_encoding
 use Rattle.sx_tx.specs.Transactions.{tx_bytes, IsTx}
 use Rattle.sx_tx.specs.TransactionDecoding.{tx_at}
 use Rattle.sx_tx.proofs.TxLaws.{tx_takes, tx_again, length-tx_bytes, none_is_shorter}
+use Rattle.sx_tx.proofs.FaultPlaces.{tx_within}
 use Rattle.sx_tx.proofs.laws.tx_laws.Goals as goal
 
 pub returns-clause-decodes_only : goal.returns-clause-decodes_only
@@ -21,3 +22,6 @@ returns-clause-length c = length-tx_bytes
 
 pub returns-clause-shortest : goal.returns-clause-shortest
 returns-clause-shortest c = none_is_shorter
+
+pub returns-clause-within : goal.returns-clause-within
+returns-clause-within c = tx_within

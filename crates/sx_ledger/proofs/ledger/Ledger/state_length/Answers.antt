@@ -4,5 +4,11 @@ use Rattle.sx_ledger.proofs.ledger.Ledger.state_length.Goals as goal
 
 pub returns-clause-exact : goal.returns-clause-exact
 returns-clause-exact c =
-    rw (c.assets-assets.ensures.number, c.accounts.ensures.number, c.offers.ensures.number)
+    rw (
+      c.map_bytes.ensures,
+      c.version.ensures.version,
+      c.assets-assets.ensures.number,
+      c.accounts.ensures.number,
+      c.offers.ensures.number,
+    )
     (sym (length-state_bytes c.args.self.now c.accounts.ensures.kept))

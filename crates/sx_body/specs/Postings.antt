@@ -1,0 +1,60 @@
+-- A table of what is debited and credited, row after row.
+use Rattle.std.specs.Prelude.{◌≡◌, ◌≢◌, ℕ, ◌+◌, ◌<◌, ◌≤◌, ◌^◌, ◌⊎◌, List, length, slice_index, slice_get, Option, Some}
+use Rattle.std.specs.Prelude.{◌==◌, ◌&&◌, if◌then◌else◌}
+use Rattle.sx_body.specs.declared.postings.Entry.{Entry}
+use Rattle.sx_body.specs.declared.postings.Postings.{Postings}
+use Rattle.sx_ledger.specs.declared.parts.Parts.{Parts}
+use Rattle.sx_ledger.specs.Effects.{Posting, credits, debits}
+use Rattle.sx_ledger.specs.Ledger.{assets_of, ids}
+use Rattle.sx_tx.specs.declared.tx.Tx.{Tx}
+
+-- where the row of a place starts
+abbrev pub start_of : Postings → ℕ → ℕ
+start_of postings place = slice_index postings.starts.items place
+
+-- what is debited of an asset at a place
+abbrev pub debit_at : Postings → ℕ → ℕ → ℕ
+debit_at postings place asset = slice_index postings.debits.items (start_of postings place + asset)
+
+-- what is credited of an asset at a place
+abbrev pub credit_at : Postings → ℕ → ℕ → ℕ
+credit_at postings place asset = slice_index postings.credits.items (start_of postings place + asset)
+
+-- the units that an entry has of an asset for the account at a place
+abbrev pub units_at : Entry → ℕ → ℕ → ℕ
+units_at entry place asset = if (entry.place == place) && (entry.asset == asset) then entry.amount else 0
+
+-- an entry of a posting to an account, which stands at the place
+pub record IsEntry (parts : Parts) (posting : Option Posting) (entry : Entry) : Type 0 where
+  pub account : ℕ
+  pub there : slice_get (ids parts.accounts) entry.place ≡ Some account
+  pub asset : entry.asset < assets_of parts
+  pub is : posting ≡ Some (record { account = account; asset = entry.asset; units = entry.amount })
+
+-- Rows for this many places and assets. The first row is all zero; each other row is that of one place, and lies by
+-- itself.
+pub record HasRows (postings : Postings) (places width : ℕ) : Type 0 where
+  pub assets : postings.assets ≡ width
+  pub as_many : length postings.starts.items ≡ places
+  pub even : length postings.credits.items ≡ length postings.debits.items
+  pub some : width ≤ length postings.debits.items
+  pub no_debits : (x : ℕ) → x < width → slice_index postings.debits.items x ≡ 0
+  pub no_credits : (x : ℕ) → x < width → slice_index postings.credits.items x ≡ 0
+  pub within : (p : ℕ) → p < places → start_of postings p + width ≤ length postings.debits.items
+  pub behind : (p : ℕ) → p < places → start_of postings p ≢ 0 → width ≤ start_of postings p
+  pub apart : (p q : ℕ) → p < places → q < places → p ≢ q → start_of postings p ≢ 0 → start_of postings q ≢ 0
+      → (start_of postings p + width ≤ start_of postings q) ⊎ (start_of postings q + width ≤ start_of postings p)
+
+-- one amount more can be posted anywhere
+pub record HasRoom (postings : Postings) : Type 0 where
+  pub debits : (p x : ℕ) → p < length postings.starts.items → x < postings.assets
+      → debit_at postings p x + 2 ^ 62 < 2 ^ 128
+  pub credits : (p x : ℕ) → p < length postings.starts.items → x < postings.assets
+      → credit_at postings p x + 2 ^ 62 < 2 ^ 128
+
+-- the debits and credits of the accounts of a ledger, at their places
+pub record HasPostings (parts : Parts) (txs : List Tx) (postings : Postings) : Type 0 where
+  pub debits : (place account asset : ℕ) → slice_get (ids parts.accounts) place ≡ Some account
+      → asset < assets_of parts → debit_at postings place asset ≡ debits txs account asset
+  pub credits : (place account asset : ℕ) → slice_get (ids parts.accounts) place ≡ Some account
+      → asset < assets_of parts → credit_at postings place asset ≡ credits parts.offers txs account asset

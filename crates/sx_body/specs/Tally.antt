@@ -1,0 +1,65 @@
+-- What a body does to a ledger, added up.
+use Rattle.std.specs.Prelude.{◌≡◌, ℕ, Bool, List, Ok, Some, length, slice_index, slice_get, All, nat_eq}
+use Rattle.std.specs.BTreeSet.{contains}
+use Rattle.std.specs.List.{list_any}
+use Rattle.std.specs.Ordering.{nat_cmp}
+use Rattle.sx_body.specs.declared.cancellations.Cancellations.{Cancellations}
+use Rattle.sx_body.specs.declared.creations.Creations.{Creations}
+use Rattle.sx_body.specs.declared.tally.Tally.{Tally}
+use Rattle.sx_body.specs.Postings.{HasPostings, HasRows}
+use Rattle.sx_body.specs.Repeats.{IsRepeat, cancels, creates}
+use Rattle.sx_ledger.specs.declared.account.Account.{Account}
+use Rattle.sx_ledger.specs.declared.offer.Offer.{Offer}
+use Rattle.sx_ledger.specs.declared.parts.Parts.{Parts}
+use Rattle.sx_ledger.specs.Body.{IsAdmissibleIn, cancelled, created, made, used_numbers}
+use Rattle.sx_ledger.specs.Ledger.{assets_of}
+use Rattle.sx_ledger.specs.Order.{key_of, same_key}
+use Rattle.sx_ledger.specs.Static.{static_of}
+use Rattle.sx_tx.specs.declared.tx.Tx.{Tx}
+use Rattle.sx_tx.specs.Transactions.{IsTx}
+
+-- for each account of a ledger the map of the numbers that it uses, at its place
+abbrev pub HasUsed : Parts → List Tx → List ℕ → Type 0
+HasUsed parts txs maps =
+    (place : ℕ) (account : Account) → slice_get parts.accounts place ≡ Some account
+    → slice_index maps place ≡ used_numbers txs account.id.0 account.window.last
+
+-- for each offer whether the test holds of it, at its place
+abbrev pub AreFlags : (Offer → Bool) → List Offer → List Bool → Type 0
+AreFlags test offers flags =
+    (place : ℕ) (offer : Offer) → slice_get offers place ≡ Some offer → slice_get flags place ≡ Some (test offer)
+
+-- for each offer of a ledger whether it is cancelled, and the first transaction that cancels one again
+pub record HasCancelled (parts : Parts) (txs : List Tx) (cancellations : Cancellations) : Type 0 where
+  pub flags : AreFlags (λ offer. list_any (same_key (key_of offer)) (cancelled txs)) parts.offers
+      cancellations.flags.items
+  pub again : IsRepeat cancels txs cancellations.again
+
+-- the ids that are created, as a list and as a set, and the first transaction that creates one again
+pub record HasCreated (txs : List Tx) (creations : Creations) : Type 0 where
+  pub ids : creations.ids.items ≡ created txs
+  pub set : (id : ℕ) → contains nat_cmp creations.set id ≡ list_any (nat_eq id) (created txs)
+  pub again : IsRepeat creates txs creations.again
+
+-- a tally with the places of this ledger
+pub record IsTallyFor (parts : Parts) (tally : Tally) : Type 0 where
+  pub rows : HasRows tally.postings (length parts.accounts) (assets_of parts)
+  pub maps : length tally.used.items ≡ length parts.accounts
+  pub flags : length tally.cancellations.flags.items ≡ length parts.offers
+
+-- The tally of transactions on a ledger: each passes the static test, and their effects are added up.
+pub record IsTally (parts : Parts) (txs : List Tx) (tally : Tally) : Type 0 where
+  pub shape : IsTallyFor parts tally
+  pub passes : All (λ tx. static_of parts tx ≡ Ok tt) txs
+  pub in_range : All IsTx txs
+  pub postings : HasPostings parts txs tally.postings
+  pub used : HasUsed parts txs tally.used.items
+  pub cancelled : HasCancelled parts txs tally.cancellations
+  pub created : HasCreated txs tally.creations
+  pub made : tally.made.items ≡ made txs
+
+-- the tally of some body that the ledger admits by the rule of version 2, which admits all that version 1 does
+pub record IsTallyOfBody (parts : Parts) (tally : Tally) : Type 0 where
+  pub txs : List Tx
+  pub body : IsAdmissibleIn 2 parts txs
+  pub is : IsTally parts txs tally

@@ -1,0 +1,129 @@
+//! The accounts of a ledger after a body.
+
+ghost use Rattle.std.specs.Prelude.{◌≡◌, ℕ, ◌+◌, ◌-◌, ◌<◌, ◌≤◌, ◌^◌, ◌⊎◌, List, length, slice_index, IsBitSet};
+ghost use Rattle.sx_base.specs.Ranges.{most_seq};
+ghost use Rattle.sx_body.specs.Accounts.{with_known_accounts};
+ghost use Rattle.sx_body.specs.Postings.{HasRows, credit_at, debit_at};
+ghost use Rattle.sx_body.specs.Tally.{IsTally, IsTallyOfBody};
+ghost use Rattle.sx_ledger.specs.Body.{IsAdmissibleIn};
+ghost use Rattle.sx_ledger.specs.Ledger.{balance_at};
+ghost use Rattle.sx_tx.specs.declared.tx.Tx.{Tx as Transaction};
+ghost use Rattle.sx_tx.specs.Window.{Next, open_numbers};
+
+use crate::tally::Tally;
+use std::alloc::Global;
+use std::mem;
+use sx_base::Balances;
+use sx_ledger::{Account, Accounts, Ledger, Parts};
+
+// A balance with these credits and debits.
+fn balance_after(balance: u64, debits: u128, credits: u128) -> u64
+    requires covers { debits ≤ balance + credits }
+    requires fits { (balance + credits) - debits < 2 ^ 64 }
+    ensures { result ≡ (balance + credits) - debits }
+{
+    if debits <= credits {
+        balance + (credits - debits) as u64
+    } else {
+        balance - (debits - credits) as u64
+    }
+}
+
+// Adds credits to balances, and takes debits from them.
+fn post_all(balances: &mut Vec<u64>, debits: &[u128], credits: &[u128])
+    requires debits { length balances.old.items ≡ length debits.now }
+    requires credits { length balances.old.items ≡ length credits.now }
+    requires covers { (asset : ℕ) → asset < length balances.old.items
+        → slice_index debits.now asset ≤ slice_index balances.old.items asset + slice_index credits.now asset }
+    requires fits { (asset : ℕ) → asset < length balances.old.items
+        → (slice_index balances.old.items asset
+        + slice_index credits.now asset) - slice_index debits.now asset < 2 ^ 64 }
+    ensures as_many { length balances.new.items ≡ length balances.old.items }
+    ensures each { (asset : ℕ) → asset < length balances.old.items
+        → slice_index balances.new.items asset ≡ (slice_index balances.old.items asset
+        + slice_index credits.now asset) - slice_index debits.now asset }
+{
+    for asset in 0..balances.len() {
+        balances[asset] = balance_after(balances[asset], debits[asset], credits[asset]);
+    }
+}
+
+// The same with the balances of an account.
+fn post_account(alloc: Global, account: &mut Account, debits: &[u128], credits: &[u128])
+    requires debits { length account.old.balances ≡ length debits.now }
+    requires credits { length account.old.balances ≡ length credits.now }
+    requires covers { (asset : ℕ) → asset < length account.old.balances
+        → slice_index debits.now asset ≤ balance_at asset account.old + slice_index credits.now asset }
+    requires fits { (asset : ℕ) → asset < length account.old.balances
+        → (balance_at asset account.old + slice_index credits.now asset) - slice_index debits.now asset < 2 ^ 64 }
+    ensures id { account.new.id ≡ account.old.id }
+    ensures window { account.new.window ≡ account.old.window }
+    ensures as_many { length account.new.balances ≡ length account.old.balances }
+    ensures each { (asset : ℕ) → asset < length account.old.balances
+        → balance_at asset account.new ≡ (balance_at asset account.old
+        + slice_index credits.now asset) - slice_index debits.now asset }
+{
+    let none = Balances::of(Vec::new(alloc));
+    let mut balances = mem::replace(&mut account.balances, none).into_items();
+    post_all(&mut balances, debits, credits);
+    account.balances = Balances::of(balances);
+}
+
+// Makes the account at a place what it is after the body.
+fn apply_to_account(alloc: Global, version: u8, account: &mut Account, place: usize, tally: &Tally)
+    requires version { (version ≡ 1) ⊎ (version ≡ 2) }
+    requires last { account.old.window.last ≤ most_seq }
+    requires place { place < length tally.now.used.items }
+    requires rows { HasRows tally.now.postings (length tally.now.used.items) (length account.old.balances) }
+    requires in_range { (i : ℕ) → i < open_numbers → IsBitSet (slice_index tally.now.used.items place) i
+        → account.old.window.last + 1 + i ≤ most_seq }
+    requires covers { (asset : ℕ) → asset < length account.old.balances
+        → debit_at tally.now.postings place asset ≤ balance_at asset account.old
+        + credit_at tally.now.postings place asset }
+    requires fits { (asset : ℕ) → asset < length account.old.balances
+        → (balance_at asset account.old
+        + credit_at tally.now.postings place asset) - debit_at tally.now.postings place asset < 2 ^ 64 }
+    ensures id { account.new.id ≡ account.old.id }
+    ensures window { account.new.window ≡ Next version account.old.window (slice_index tally.now.used.items place) }
+    ensures as_many { length account.new.balances ≡ length account.old.balances }
+    ensures each { (asset : ℕ) → asset < length account.old.balances
+        → balance_at asset account.new ≡ (balance_at asset account.old
+        + credit_at tally.now.postings place asset) - debit_at tally.now.postings place asset }
+{
+    account.window = account.window.next(version, tally.used[place]);
+    if tally.postings.is_named(place) {
+        let debits = tally.postings.debits(place);
+        let credits = tally.postings.credits(place);
+        post_account(alloc, account, debits, credits);
+    }
+}
+
+// The parts of the ledger, with each account that is there as it is after the body. Accounts change in
+// place.
+pub fn apply_to_known(alloc: Global, ledger: Ledger, tally: &Tally) -> Parts
+    requires body { IsTallyOfBody ledger tally.now }
+    ensures { (txs : List Transaction) → IsAdmissibleIn 2 ledger txs → IsTally ledger txs tally.now
+        → result ≡ with_known_accounts ledger txs }
+{
+    let Parts {
+        version,
+        height,
+        prices,
+        rounding,
+        accounts,
+        offers,
+    } = ledger.into_parts();
+    let mut accounts = accounts.into_items();
+    for place in 0..accounts.len() {
+        let account = &mut accounts[place];
+        apply_to_account(alloc, version, account, place, tally);
+    }
+    Parts {
+        version,
+        height,
+        prices,
+        rounding,
+        accounts: Accounts::of(accounts),
+        offers,
+    }
+}

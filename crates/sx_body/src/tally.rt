@@ -1,0 +1,131 @@
+//! What a body does to a ledger, added up.
+
+ghost use Rattle.std.specs.Prelude.{◌≡◌, ◌++◌, [], ◌∷◌, List, Ok, nat_eq, length, IfNone, IfOk, IfSome, OnOk};
+ghost use Rattle.std.specs.List.{IsDistinct};
+ghost use Rattle.sx_body.specs.Postings.{HasRoom};
+ghost use Rattle.sx_body.specs.Repeats.{IsFirstRepeat, cancels, creates};
+ghost use Rattle.sx_body.specs.Tally.{IsTally, IsTallyFor};
+ghost use Rattle.sx_ledger.specs.declared.parts.Parts.{Parts as Ledgers};
+ghost use Rattle.sx_ledger.specs.Body.{cancelled, created as created_in, made as made_in};
+ghost use Rattle.sx_ledger.specs.Ledger.{IsLedger};
+ghost use Rattle.sx_ledger.specs.Order.{same_key};
+ghost use Rattle.sx_ledger.specs.Places.{ArePlaces};
+ghost use Rattle.sx_ledger.specs.Static.{static_of};
+ghost use Rattle.sx_tx.specs.declared.tx.Tx.{Tx as Transaction};
+
+use crate::cancellations::Cancellations;
+use crate::creations::Creations;
+use crate::entries::post;
+use crate::kinds::made_offer;
+use crate::postings::Postings;
+use crate::ranges::tx_ranges;
+use crate::used::mark;
+use std::alloc::Global;
+use sx_bytes::NoMemory;
+use sx_ledger::{Ledger, Offer, Places};
+use sx_tx::Tx;
+
+/// What transactions do to a ledger, added up: the debits and credits of each account and asset, the
+/// sequence numbers that each account uses, the offers that are cancelled and made, and the accounts that
+/// are created. Contracts relate it to the list of transactions (`IsTally`).
+///
+/// Where an account or an offer is meant, it is named by its place in the ledger. An account that no
+/// transaction debits or credits has no sums of its own.
+#[derive(Debug, Drop)]
+pub struct Tally {
+    pub(crate) postings: Postings,
+    pub(crate) used: Vec<u64>,
+    pub(crate) cancellations: Cancellations,
+    pub(crate) creations: Creations,
+    pub(crate) made: Vec<Offer>,
+}
+
+// Puts the offer that a transaction makes behind the others.
+fn push_made(made: &mut Vec<Offer>, tx: &Tx) -> Result<(), NoMemory>
+    ensures { OnOk result ((before : List Transaction) → made.old.items ≡ made_in before
+        → made.new.items ≡ made_in (before ++ tx.now ∷ [])) }
+{
+    if let Some(offer) = made_offer(tx) {
+        made.push(offer)?;
+    }
+    Ok(())
+}
+
+impl Tally {
+    // The tally of no transaction.
+    pub(crate) fn none(alloc: Global, ledger: &Ledger) -> Result<Tally, NoMemory>
+        ensures nothing { IfOk result (IsTally ledger.now []) }
+        ensures kept { OnOk result (IsLedger ledger.now) }
+    {
+        let places = ledger.accounts() as usize;
+        Ok(Tally {
+            postings: Postings::zero(alloc, places, ledger.assets() as usize)?,
+            used: vec![in alloc; 0; places]?,
+            cancellations: Cancellations::none(alloc, ledger.offers() as usize)?,
+            creations: Creations::none(alloc),
+            made: Vec::new(alloc),
+        })
+    }
+
+    // Enters a transaction, which is the one at this index and stands at these places.
+    pub(crate) fn enter(
+        &mut self,
+        ledger: &Ledger,
+        index: usize,
+        tx: &Tx,
+        places: &Places,
+    ) -> Result<(), NoMemory>
+        requires passes { static_of ledger.now tx.now ≡ Ok tt }
+        requires places { ArePlaces ledger.now tx.now places.now }
+        requires shape { IsTallyFor ledger.now self.old }
+        requires room { HasRoom self.old.postings }
+        ensures { OnOk result ((before : List Transaction) → length before ≡ index
+            → IsTally ledger.now before self.old → IsTally ledger.now (before ++ tx.now ∷ []) self.new) }
+    {
+        tx_ranges(tx);
+        let last = ledger.account(places.account).window.last;
+        post(&mut self.postings, ledger, tx, places)?;
+        mark(&mut self.used, places.account, last, tx.seq);
+        self.cancellations.enter(index, &places.target);
+        self.creations.enter(index, tx)?;
+        push_made(&mut self.made, tx)
+    }
+
+    /// The first transaction that cancels an offer that one before it cancels, by its index from 0, or
+    /// `None` where no offer is cancelled twice.
+    pub fn cancelled_again(&self) -> Option<usize>
+        ensures first { (parts : Ledgers) (txs : List Transaction) → IsTally parts txs self.now
+            → IfSome result (IsFirstRepeat cancels txs) }
+        ensures none { (parts : Ledgers) (txs : List Transaction) → IsTally parts txs self.now
+            → IfNone result (IsDistinct same_key (cancelled txs)) }
+    {
+        self.cancellations.again
+    }
+
+    /// The first transaction that creates an account that one before it creates, by its index from 0, or
+    /// `None` where no account is created twice.
+    pub fn created_again(&self) -> Option<usize>
+        ensures first { (parts : Ledgers) (txs : List Transaction) → IsTally parts txs self.now
+            → IfSome result (IsFirstRepeat creates txs) }
+        ensures none { (parts : Ledgers) (txs : List Transaction) → IsTally parts txs self.now
+            → IfNone result (IsDistinct nat_eq (created_in txs)) }
+    {
+        self.creations.again
+    }
+
+    /// How many accounts are created.
+    pub fn created(&self) -> usize
+        ensures { (parts : Ledgers) (txs : List Transaction) → IsTally parts txs self.now
+            → result ≡ length (created_in txs) }
+    {
+        self.creations.ids.len()
+    }
+
+    /// How many offers are made.
+    pub fn made(&self) -> usize
+        ensures { (parts : Ledgers) (txs : List Transaction) → IsTally parts txs self.now
+            → result ≡ length (made_in txs) }
+    {
+        self.made.len()
+    }
+}

@@ -1,0 +1,80 @@
+//! The header of a block.
+
+ghost use Rattle.std.specs.Prelude.{◌≡◌, ◌+◌, ◌<◌, ◌≤◌, All, IfOk, length};
+ghost use Rattle.sx_block.specs.Digest.{IsDigest};
+ghost use Rattle.sx_block.specs.Validity.{IsValid};
+ghost use Rattle.sx_clear.specs.Terms.{AreTerms};
+ghost use Rattle.sx_ledger.specs.Body.{IsAdmissible};
+ghost use Rattle.sx_ledger.specs.Ledger.{IsLedger, most_height};
+ghost use Rattle.sx_tx.specs.Transactions.{IsTx, most_transactions};
+
+use crate::ranges::potential_ranges;
+use crate::trade::Trade;
+use std::alloc::Global;
+use sx_base::Balances;
+use sx_block::{Block, Digest, Header, body_digest, ledger_digest};
+use sx_bytes::NoMemory;
+use sx_ledger::Ledger;
+use sx_price::{Mu, Prices};
+use sx_tx::TxList;
+
+// At which terms a body trades, and the digest of the ledger that is left.
+#[derive(Drop)]
+pub struct Terms {
+    pub mu: Mu,
+    pub prices: Prices,
+    pub trade: Trade,
+    pub rounding: Balances,
+    pub after: Digest,
+}
+
+// The block of a body at these terms.
+pub fn block_of(
+    alloc: Global,
+    ledger: &Ledger,
+    height: u64,
+    txs: TxList,
+    terms: Terms,
+) -> Result<Block, NoMemory>
+    requires kept { IsLedger ledger.now }
+    requires admissible { IsAdmissible ledger.now txs }
+    requires few { length txs ≤ most_transactions }
+    requires each { All IsTx txs }
+    requires below_last { ledger.now.height < most_height }
+    requires height { height ≡ ledger.now.height + 1 }
+    requires terms { AreTerms ledger.now txs terms }
+    requires digest { IsDigest terms.after }
+    ensures valid { IfOk result (IsValid ledger.now) }
+    ensures version { IfOk result (λ block. block.header.version ≡ 1) }
+    ensures txs { IfOk result (λ block. block.txs ≡ txs) }
+    ensures mu { IfOk result (λ block. block.header.mu ≡ terms.mu) }
+    ensures prices { IfOk result (λ block. block.header.prices ≡ terms.prices) }
+{
+    let Terms {
+        mu,
+        prices,
+        trade,
+        rounding,
+        after,
+    } = terms;
+    // The flow, the potentials and the margin keep what their types keep.
+    let _assets = trade.flow.assets();
+    let _exponent = mu.get();
+    potential_ranges(&trade.potentials);
+    let parent = ledger_digest(alloc, ledger)?;
+    let body = body_digest(alloc, txs.items())?;
+    let header = Header {
+        version: 1,
+        height,
+        parent,
+        body,
+        mu,
+        prices,
+        trades: trade.flow,
+        dropped: trade.dropped,
+        potentials: trade.potentials,
+        rounding,
+        after,
+    };
+    Ok(Block { header, txs })
+}

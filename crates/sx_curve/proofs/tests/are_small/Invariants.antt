@@ -1,6 +1,0 @@
-use Rattle.std.proofs.Common.{All, take}
-use Rattle.sx_curve.proofs.SmallMarket.{IsSmall}
-use Rattle.sx_curve.proofs.tests.are_small.Given as goal
-
-abbrev pub invariant-loop-quote : goal.invariant-loop-quote
-invariant-loop-quote l = All IsSmall (take l.quote-index l.quotes)

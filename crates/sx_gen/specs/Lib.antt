@@ -1,0 +1,4 @@
+pub mod Drawing
+pub mod Candidates
+pub mod State
+pub mod Laws

@@ -1,0 +1,17 @@
+pub mod Sums
+pub mod Balance
+pub mod Pushes
+pub mod Counting
+pub mod Crossing
+pub mod Limits
+pub mod Marking
+pub mod Stopping
+pub mod Allowing
+pub mod Filling
+pub mod Heights
+pub mod Building
+pub mod Gaps
+pub mod Starting
+pub mod Climbing
+pub mod WrittenBack
+pub mod SolvedCases

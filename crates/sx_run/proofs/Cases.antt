@@ -1,0 +1,124 @@
+-- Definitions at single answers, and what is found of worked inputs.
+use Rattle.std.proofs.Common.{◌≡◌, ℕ, zero, suc, ◌≤◌, true, List, [], ◌∷◌, Option, Some, None, Result, Ok, Err, inl}
+use Rattle.std.proofs.Common.{inr}
+use Rattle.std.proofs.Common.{refl, arith}
+use Rattle.std.specs.Prelude.{◌⊎◌}
+use Rattle.sx_base.specs.Outside.{AppendsPrefix}
+use Rattle.sx_bytes.specs.declared.fault.Form.TheVariants as form
+use Rattle.sx_bytes.specs.declared.fault.FormFault.{FormFault}
+use Rattle.sx_check.specs.declared.invalid.Invalid.{Invalid}
+use Rattle.sx_record.specs.Decoding.{after_tag, length_at, record_at}
+use Rattle.sx_run.specs.declared.status.Status.TheVariants.{Done, Usage, ReadFault, WriteFault, Malformed, Refused}
+use Rattle.sx_run.specs.declared.status.Status.TheVariants.{NoMemory}
+use Rattle.sx_words.specs.declared.command.Command.{Command}
+use Rattle.sx_words.specs.declared.command.Command.TheVariants.{Check, Interleave, Replay}
+use Rattle.sx_run.specs.Answers.{Answers, Completes, FitsWords}
+use Rattle.sx_run.specs.Expected.{item_at}
+use Rattle.sx_run.specs.Findings.{Finding, Finds, malformed, output, refused}
+use Rattle.sx_run.specs.Status.{UnlessReadFails, UnlessWriteFails, is_silent}
+
+-- ---- what holds at which answer
+
+module _ (fault : FormFault) (number : ℕ) (why : Invalid) where
+  silent_usage : is_silent Usage ≡ true
+  silent_usage = refl
+
+  silent_read_fault : is_silent ReadFault ≡ true
+  silent_read_fault = refl
+
+  silent_malformed : is_silent (Malformed fault) ≡ true
+  silent_malformed = refl
+
+  silent_refused : is_silent (Refused number why) ≡ true
+  silent_refused = refl
+
+  silent_no_memory : is_silent NoMemory ≡ true
+  silent_no_memory = refl
+
+module _ (fact : Type 0) (fault : FormFault) (number : ℕ) (why : Invalid) where
+  read_at_done : UnlessReadFails Done fact → fact
+  read_at_done it = it
+
+  read_at_usage : UnlessReadFails Usage fact → fact
+  read_at_usage it = it
+
+  read_at_write_fault : UnlessReadFails WriteFault fact → fact
+  read_at_write_fault it = it
+
+  read_at_malformed : UnlessReadFails (Malformed fault) fact → fact
+  read_at_malformed it = it
+
+  read_at_refused : UnlessReadFails (Refused number why) fact → fact
+  read_at_refused it = it
+
+  read_at_no_memory : UnlessReadFails NoMemory fact → fact
+  read_at_no_memory it = it
+
+  written_at_done : UnlessWriteFails Done fact → fact
+  written_at_done it = it
+
+  written_at_read_fault : UnlessWriteFails ReadFault fact → fact
+  written_at_read_fault it = it
+
+  written_at_malformed : UnlessWriteFails (Malformed fault) fact → fact
+  written_at_malformed it = it
+
+  written_at_refused : UnlessWriteFails (Refused number why) fact → fact
+  written_at_refused it = it
+
+  written_at_no_memory : UnlessWriteFails NoMemory fact → fact
+  written_at_no_memory it = it
+
+-- where words are no command, Usage is the answer or memory ran out, and Usage is no answer to a command
+module _ (command : Command) (fault : FormFault) (number : ℕ) (why : Invalid) where
+  not_done : FitsWords None Done → ⊥
+  not_done fits = fits
+
+  not_read_fault : FitsWords None ReadFault → ⊥
+  not_read_fault fits = fits
+
+  not_malformed : FitsWords None (Malformed fault) → ⊥
+  not_malformed fits = fits
+
+  not_refused : FitsWords None (Refused number why) → ⊥
+  not_refused fits = fits
+
+  not_usage : FitsWords (Some command) Usage → ⊥
+  not_usage fits = fits
+
+-- an answer is complete only where it is that of what was found
+module _ (command : Command) (bytes text left : List ℕ) (fault : FormFault) where
+  wrong : (Malformed fault ≡ Done) ⊎ (Malformed fault ≡ NoMemory) → ⊥
+  wrong (inl e) = cc
+  wrong (inr e) = cc
+
+  found_is_told : Finds command bytes (output text) left → Completes command (Some bytes) (Malformed fault) → ⊥
+  found_is_told finds completes = wrong (completes (output text) left finds)
+
+-- a prefix is a beginning
+not_any_bytes : AppendsPrefix (Some []) (Some (1 ∷ [])) (2 ∷ []) → ⊥
+not_any_bytes (zero, few, is) = cc
+not_any_bytes (suc zero, few, is) = cc
+not_any_bytes (suc (suc n), few, is) = absurd (omega (arith, few))
+
+-- ---- worked inputs
+
+-- nothing at all: the state is missing
+nothing : Finds Check [] (malformed (record { at = 0; fault = form.Short })) []
+unfolding item_at record_at
+nothing = record { items = []; rest = []; each = tt; read = refl; finds = refl }
+
+-- a tag that no record has; the byte after it is left
+no_tag : (workers : ℕ) → Finds (Replay workers) (9 ∷ 7 ∷ []) (malformed (record { at = 0; fault = form.Tag })) (7 ∷ [])
+unfolding item_at record_at
+no_tag workers = record { items = []; rest = 9 ∷ 7 ∷ []; each = tt; read = refl; finds = refl }
+
+-- a frame that ends inside its length
+short_frame : Finds Interleave (1 ∷ 0 ∷ 0 ∷ []) (malformed (record { at = 3; fault = form.Short })) []
+unfolding item_at record_at after_tag length_at
+short_frame = record { items = []; rest = 1 ∷ 0 ∷ 0 ∷ []; each = tt; read = refl; finds = refl }
+
+-- a length above the limit, told at its first byte; what comes after it is left
+too_long : Finds Check (1 ∷ 4 ∷ 0 ∷ 0 ∷ 1 ∷ 8 ∷ []) (malformed (record { at = 1; fault = form.TooLong })) (8 ∷ [])
+unfolding item_at record_at after_tag length_at
+too_long = record { items = []; rest = 1 ∷ 4 ∷ 0 ∷ 0 ∷ 1 ∷ 8 ∷ []; each = tt; read = refl; finds = refl }

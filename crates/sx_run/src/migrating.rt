@@ -1,0 +1,36 @@
+//! `migrate`: a state, and nothing more.
+
+ghost use Rattle.std.specs.Prelude.{◌≡◌, [], ◌∷◌, IsErrOf, IsTrue};
+ghost use Rattle.sx_base.specs.Outside.{Rose};
+ghost use Rattle.sx_run.specs.Answers.{ConcludesAs, Found};
+ghost use Rattle.sx_run.specs.Items as item;
+ghost use Rattle.sx_run.specs.Stream.{UnlessReadFault};
+
+use crate::head::written;
+use crate::stop::Stop;
+use crate::stream::{end, take};
+use std::alloc::Global;
+use sx_base::Source;
+use sx_bytes::Writer;
+use sx_ledger::Ledger;
+use sx_words::Command;
+
+// The record of a state in version 2.
+fn newest(alloc: Global, ledger: Ledger) -> Result<Writer, Stop>
+    ensures concludes { ConcludesAs Command.Migrate (item.state ledger ∷ []) result }
+    ensures calm { IsErrOf result Stop.ReadFault → ⊥ }
+{
+    let migrated = ledger.migrate();
+    Ok(written(alloc, &migrated, None)?)
+}
+
+// The record of the state of the input in version 2.
+pub fn migrate<S: Source>(alloc: Global, source: &mut S) -> Result<Writer, Stop>
+    ensures found { Found Command.Migrate (S.left source.old) (S.left source.new) result }
+    ensures steady { UnlessReadFault result (IsTrue (S.strict source.old) → S.faults source.new ≡ S.faults source.old) }
+    ensures read_fault { IsErrOf result Stop.ReadFault → Rose (S.faults source.old) (S.faults source.new) }
+{
+    let opening = take::<Ledger, S>(alloc, source, 0)?;
+    end(alloc, source, opening.end)?;
+    newest(alloc, opening.held)
+}

@@ -1,4 +1,0 @@
-use Rattle.sx_tests.proofs.instances.answer_of.Given as goal
-
-abbrev pub ghosts-answer : goal.ghosts-answer
-ghosts-answer a = record { name = a.blank.name; parts = a.blank.parts }

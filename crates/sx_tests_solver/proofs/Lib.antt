@@ -1,0 +1,3 @@
+pub mod SmallMarket
+pub mod Alike
+pub mod Two

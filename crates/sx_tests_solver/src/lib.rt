@@ -1,0 +1,25 @@
+//! Tests of lists, networks, bounds, circulations, curves and the price search.
+//!
+//! Each file is named after the crate that it tests; `instances` and `spans` are circulations of the plain pair
+//! `feasible` and `best`, and the bounds that they are of. They stand in a crate of their own, so that a crate with tests
+//! is not proved twice.
+#![tactic(auto)]
+
+#[cfg(test)]
+mod curve;
+#[cfg(test)]
+mod dual;
+#[cfg(test)]
+mod feas;
+#[cfg(test)]
+mod instances;
+#[cfg(test)]
+mod level;
+#[cfg(test)]
+mod links;
+#[cfg(test)]
+mod net;
+#[cfg(test)]
+mod search;
+#[cfg(test)]
+mod spans;

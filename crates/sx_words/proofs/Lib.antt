@@ -1,0 +1,4 @@
+pub mod NumberLaws
+pub mod OptionLaws
+pub mod CommandLaws
+mod Cases

@@ -1,0 +1,176 @@
+-- Options, as words spell them.
+use Rattle.std.proofs.Common.{◌≡◌, ℕ, ◌+◌, ◌<◌, true, false, List, [], ◌∷◌, ◌++◌, length, Option, Some, None, arith}
+use Rattle.std.proofs.Common.{refl}
+use Rattle.std.proofs.Common.{ap, sym, ◌∙◌, Bor, Vec, get_or, drop, append_assoc, add-one}
+use Rattle.std.proofs.lemmas.List.Elements.{All-push}
+use Rattle.std.proofs.Math.Seq.{drop-cons}
+use Rattle.std.specs.Global.{Global}
+use Rattle.std.proofs.lemmas.Bool.Decides.{nat_tests}
+use Rattle.std.specs.List.{All, list_any, position_or_len}
+use Rattle.std.specs.Prelude.{IfNone, IfSome, MatchOption, String, string_bytes, option_and_then}
+use Rattle.sx_words.specs.declared.options.Choice.{Choice}
+use Rattle.sx_words.specs.declared.setting.Setting.{Setting}
+use Rattle.sx_words.specs.Numbers.{Text, texts}
+use Rattle.sx_words.specs.Options.{◌>>=◌, Fits, Given, is_equals, parted_at_equals, and_more, given_in, choice_of}
+use Rattle.sx_words.specs.Options.{choices_of, read_options}
+
+-- the number that was found, if one was
+abbrev pub numbers_in : Option ℕ → List ℕ
+numbers_in None = []
+numbers_in (Some number) = number ∷ []
+
+-- the name that waits for its number, as words
+abbrev pub waiting : Option (Bor Text) → List Text
+waiting None = []
+waiting (Some name) = name.now ∷ []
+
+-- ---- where `=` is
+
+pub some_equals : (text : Text) → position_or_len is_equals text < length text → list_any is_equals text ≡ true
+some_equals [] within = absurd (omega arith)
+some_equals (code ∷ rest) within = grind (arith, nat_tests, some_equals rest)
+
+pub no_equals : (text : Text) → position_or_len is_equals text ≡ length text → list_any is_equals text ≡ false
+no_equals [] whole = refl
+no_equals (code ∷ rest) whole = grind (arith, nat_tests, no_equals rest)
+
+pub whole_of : {X : Type 0} (r : Option X) (text : Text) (Q : X → Type 0)
+    → MatchOption r (position_or_len is_equals text ≡ length text) Q → IfNone r (list_any is_equals text ≡ false)
+whole_of None text Q matched = no_equals text matched
+whole_of (Some x) text Q matched = tt
+
+-- ---- one option after another
+
+-- a choice before others, where both are there
+abbrev pub before : Option Choice → Option (List Choice) → Option (List Choice)
+before None more = None
+before (Some choice) None = None
+before (Some choice) (Some rest) = Some (choice ∷ rest)
+
+-- choices before others
+abbrev pub onto : List Choice → Option (List Choice) → Option (List Choice)
+onto choices None = None
+onto choices (Some rest) = Some (choices ++ rest)
+
+read_more : (settings : List Setting) (given : Given) (choice : Option Choice) (more : Option (List Given))
+    → choice_of settings given ≡ choice
+    → option_and_then (choices_of settings) (and_more given more)
+    ≡ before choice (option_and_then (choices_of settings) more)
+read_more settings given None None is = refl
+read_more settings given (Some choice) None is = refl
+read_more settings given None (Some rest) is = rw is refl
+read_more settings given (Some choice) (Some rest) is =
+    rw is (elim (choices_of settings rest) as (λ more. (more >>= λ others. Some (choice ∷ others))
+    ≡ before (Some choice) more) [
+      | None ↦ refl
+      | Some others ↦ refl
+    ])
+
+pub of_two_words : (settings : List Setting) (name word : Text) (rest : List Text) → list_any is_equals name ≡ false
+    → read_options settings (name ∷ word ∷ rest)
+    ≡ before (choice_of settings (record { name = name; number = word })) (read_options settings rest)
+of_two_words settings name word rest plain =
+    rw plain (read_more settings (record { name = name; number = word }) _ (given_in rest) refl)
+
+pub of_one_word : (settings : List Setting) (word : Text) (rest : List Text) → list_any is_equals word ≡ true
+    → read_options settings (word ∷ rest)
+    ≡ before (choice_of settings (parted_at_equals word)) (read_options settings rest)
+of_one_word settings word [] joined = rw joined (read_more settings (parted_at_equals word) _ (Some []) refl)
+of_one_word settings word (next ∷ rest) joined =
+    rw joined (read_more settings (parted_at_equals word) _ (given_in (next ∷ rest)) refl)
+
+pub of_a_name : (settings : List Setting) (name : Text) → list_any is_equals name ≡ false
+    → read_options settings (name ∷ []) ≡ None
+of_a_name settings name plain = rw plain refl
+
+-- ---- the words that are left
+
+pub words_left : (words : List (String Global)) (i : ℕ) (word : String Global) → i < length words
+    → word ≡ get_or words i word
+    → texts (drop i words) ≡ string_bytes word ∷ texts (drop (i + 1) words)
+words_left words i word within is =
+    ap texts (drop-cons words i word within) ∙ rw (← is, add-one) refl
+
+pub two_left : (settings : List Setting) (o : Option (Bor Text)) (name : Bor Text) (words : List (String Global))
+    (i : ℕ)
+    (word : String Global) (text : Text) → o ≡ Some name → IfSome o (λ n. list_any is_equals n.now ≡ false)
+    → i < length words → word ≡ get_or words i word → text ≡ string_bytes word
+    → read_options settings (waiting o ++ texts (drop i words))
+    ≡ before (choice_of settings (record {
+      name = name.now;
+      number =
+          text;
+    })) (read_options settings (texts (drop (i + 1) words)))
+two_left settings o name words i word text some plain within is spells =
+    rw (some, words_left words i word within is, spells)
+    (of_two_words settings name.now (string_bytes word) (texts (drop (i + 1) words)) (rw some at plain))
+
+pub one_left : (settings : List Setting) (o : Option (Bor Text)) (words : List (String Global)) (i : ℕ)
+    (word : String Global) (text : Text) (given : Given) → o ≡ None → i < length words → word ≡ get_or words i word
+    → text ≡ string_bytes word → (list_any is_equals text ≡ true) × (parted_at_equals text ≡ given)
+    → read_options settings (waiting o ++ texts (drop i words))
+    ≡ before (choice_of settings given) (read_options settings (texts (drop (i + 1) words)))
+one_left settings o words i word text given none within is spells parts =
+    rw (none, words_left words i word within is, ← spells, ← parts.1)
+    (of_one_word settings text (texts (drop (i + 1) words)) parts.0)
+
+pub name_left : (settings : List Setting) (o : Option (Bor Text)) (words : List (String Global)) (i : ℕ)
+    (word : String Global) (text : Bor Text) → o ≡ None → i < length words → word ≡ get_or words i word
+    → text.now ≡ string_bytes word
+    → read_options settings (waiting o ++ texts (drop i words))
+    ≡ read_options settings (waiting (Some text) ++ texts (drop (i + 1) words))
+name_left settings o words i word text none within is spells =
+    rw (none, words_left words i word within is, ← spells) refl
+
+-- one choice more
+pub onto_more : (choices : List Choice) (choice : Choice) (o : Option Choice) (more : Option (List Choice))
+    → o ≡ Some choice
+    → onto choices (before o more) ≡ onto (choices ++ choice ∷ []) more
+onto_more choices choice o None is = rw is refl
+onto_more choices choice o (Some rest) is = rw is (ap (λ (x : List Choice). Some x) (sym (append_assoc choices
+    (choice ∷ []) rest)))
+
+pub onto_none : (choices : List Choice) (o : Option Choice) (more : Option (List Choice)) → o ≡ None
+    → onto choices (before o more) ≡ None
+onto_none choices o more is = rw is refl
+
+abbrev pub items_of : Vec Choice Global → List Choice
+items_of choices = choices.items
+
+-- what has been read of the words before the one at i: the choices, and the name that waits for its number
+pub record HasRead (settings : List Setting) (words : List (String Global)) (i : ℕ) (choices : List Choice)
+    (name : Option (Bor Text)) : Type 0 where
+  pub read : read_options settings (texts words)
+      ≡ onto choices (read_options settings (waiting name ++ texts (drop i words)))
+  pub range : All Fits choices
+  pub plain : IfSome name (λ n. list_any is_equals n.now ≡ false)
+
+-- one option more
+pub and_choice : (settings : List Setting) (words : List (String Global)) (i : ℕ) (choices more : List Choice)
+    (o after : Option (Bor Text)) (given : Given) (found : Option Choice) (choice : Choice)
+    → HasRead settings words i choices o
+    → read_options settings (waiting o ++ texts (drop i words))
+    ≡ before (choice_of settings given) (read_options settings (texts (drop (i + 1) words)))
+    → found ≡ choice_of settings given → found ≡ Some choice → IfSome found Fits
+    → more ≡ choices ++ choice ∷ [] → after ≡ None
+    → HasRead settings words (i + 1) more after
+and_choice settings words i choices more o after given found choice has left is some fits grown none =
+    let fit = rw some at fits in
+    record {
+      read = has.read ∙ ap (onto choices) left ∙ onto_more choices choice _ _ (sym is ∙ some) ∙ rw (grown, none) refl;
+      range = rw grown (All-push Fits choices choice has.range fit);
+      plain = rw none tt;
+    }
+
+-- the name of an option more
+pub and_name : (settings : List Setting) (words : List (String Global)) (i : ℕ) (choices more : List Choice)
+    (o after : Option (Bor Text)) (name : Bor Text) → HasRead settings words i choices o
+    → read_options settings (waiting o ++ texts (drop i words))
+    ≡ read_options settings (waiting (Some name) ++ texts (drop (i + 1) words))
+    → list_any is_equals name.now ≡ false → more ≡ choices → after ≡ Some name
+    → HasRead settings words (i + 1) more after
+and_name settings words i choices more o after name has left plain same some = record {
+  read = has.read ∙ ap (onto choices) left ∙ rw (same, some) refl;
+  range = rw same has.range;
+  plain = rw some plain;
+}

@@ -1,0 +1,5 @@
+pub mod Numbers
+pub mod Settings
+pub mod Options
+pub mod Commands
+pub mod Laws
