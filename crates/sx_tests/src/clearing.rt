@@ -15,7 +15,7 @@ use std::sync::ledger::{self, Blank};
 use std::test::Fail;
 use std::thread::Threads;
 use sx_base::AssetId;
-use sx_block::{Block, Header, read_block};
+use sx_block::{Block, Header, read_block, validity_laws};
 use sx_check::{Checked, check};
 use sx_clear::{clear, clear_at, curves_of};
 use sx_curve::Sums;
@@ -90,16 +90,31 @@ fn pair_of(alloc: Global, case: Case) -> Option<Pair>
     }
 }
 
-// The same, where the block is valid.
+// The same, where the block is a valid one of version 1.
 fn valid_pair(alloc: Global, case: Case) -> Option<Pair>
-    ensures form { IfSome result (λ pair. IsBlock pair.block) }
     ensures valid { IfSome result (λ pair. IsValid pair.ledger pair.block) }
+    ensures first { IfSome result (λ pair. pair.block.header.version ≡ 1) }
 {
     let pair = pair_of(alloc, case)?;
+    if pair.block.header.version != 1 {
+        return None;
+    }
     match check(alloc, &pair.ledger, &pair.block) {
         Ok(_) => Some(pair),
         Err(_) => None,
     }
+}
+
+// The transactions of a valid block of version 1 can be cleared again.
+fn can_clear(ledger: &Ledger, block: &Block)
+    requires valid { IsValid ledger.now block.now }
+    requires first { block.now.header.version ≡ 1 }
+    ensures admissible { IsAdmissible ledger.now block.now.txs }
+    ensures few { length block.now.txs ≤ most_transactions }
+    ensures below_last { ledger.now.height < most_height }
+    ensures prices { length block.now.header.prices ≡ assets_of ledger.now }
+{
+    validity_laws();
 }
 
 // The block that is made of the transactions of another one.
@@ -154,8 +169,10 @@ fn again<R: Threads + Sync, L: ledger::Ledger>(
     way: Way,
     steps: &mut Steps<L>,
 ) -> Option<Checked>
-    requires { IsValid ledger.now given }
+    requires valid { IsValid ledger.now given }
+    requires first { given.header.version ≡ 1 }
 {
+    can_clear(ledger, &given);
     let Block { header, txs } = given;
     let made = cleared(rt, alloc, ledger, txs, &header, way, steps)?;
     let agrees = chains_alike(&header, &made.header) && trades_alike(&header, &made.header);
@@ -208,6 +225,7 @@ fn blocks_worked_out_by_hand_are_made_again(rt: HostRuntime) {
 // What is quoted of the first asset for the second at the rate 1.
 fn quoted(alloc: Global) -> Option<Sums> {
     let Pair { ledger, block } = valid_pair(alloc, Case::SearchedPrices)?;
+    can_clear(&ledger, &block);
     let curves = curves_of(alloc, &ledger, block.txs.items()).ok()?;
     Some(curves.below(
         AssetId::new(0).ok()?,

@@ -63,7 +63,7 @@ fn outcomes_have_a_first_fault(rt: HostRuntime) {
         (0, 1, 27, 0, Form::TooMany),
         (4, 6, 27, 4, Form::Tag),
         (6, 0, 27, 6, Form::Tag),
-        (6, 10, 27, 6, Form::Tag),
+        (6, 11, 27, 6, Form::Tag),
         // 2^62 + 40, above every amount
         (11, 64, 27, 11, Form::AmountRange),
         // as much as was seen
