@@ -1,9 +1,12 @@
 //! A block that drops its lower bounds, worked out by hand: what is told of it once a byte is changed, and
 //! what it leaves.
 
-ghost use Rattle.std.specs.Prelude.{IfSome};
+ghost use Rattle.std.specs.Prelude.{◌<◌, IfSome};
+ghost use Rattle.sx_apply.specs.Trading.{Clears};
 ghost use Rattle.sx_block.specs.Block.{IsBlock};
 ghost use Rattle.sx_block.specs.Validity.{IsValid};
+ghost use Rattle.sx_ledger.specs.Body.{IsAdmissibleIn, body_after};
+ghost use Rattle.sx_ledger.specs.Ledger.{most_height};
 
 use std::alloc::Global;
 use std::test::Fail;
@@ -137,11 +140,21 @@ fn a_valid_block_without_its_bounds(rt: HostRuntime) {
     assert_eq!(rt; is_told(rt.alloc(), &wanted), Some(true));
 }
 
+// A valid block has what its transactions and its trade ask for.
+fn can_apply(ledger: &Ledger, block: &Block)
+    requires { IsValid ledger.now block.now }
+    ensures admissible { IsAdmissibleIn 2 ledger.now block.now.txs }
+    ensures below_last { (body_after ledger.now block.now.txs).height < most_height }
+    ensures clears { Clears (body_after ledger.now block.now.txs) block.now.header }
+{
+    apply_laws();
+}
+
 // The ledger after the transactions of a block and after its trade, one after the other.
 fn applied(alloc: Global, ledger: &Ledger, block: &Block) -> Option<Ledger>
     requires { IsValid ledger.now block.now }
 {
-    apply_laws();
+    can_apply(ledger, block);
     let after_body = apply_body(alloc, ledger, block.txs.items()).ok()?;
     trade(alloc, after_body, &block.header).ok()
 }

@@ -3,15 +3,16 @@ use Rattle.sx_block.specs.Rule as rule
 use Rattle.sx_ledger.specs.Body.{IsAdmissibleIn}
 use Rattle.sx_tests.proofs.clearing.can_clear.Goals as goal
 
-pub ensures-clause-admissible : goal.ensures-clause-admissible
-ensures-clause-admissible g c =
+pub returns : goal.returns
+returns c =
     let parts = c.args.ledger.now in
     let block = c.args.block.now in
-    subst (λ (v : ℕ). IsAdmissibleIn v parts block.txs) c.requires.first
-    (c.validity_laws.ensures.admissible parts block (c.validity_laws.ensures.back parts block c.requires.valid))
-
-pub ensures-clause-below_last : goal.ensures-clause-below_last
-ensures-clause-below_last g c = c.requires.valid.rules rule.BelowLast
-
-pub ensures-clause-prices : goal.ensures-clause-prices
-ensures-clause-prices g c = c.requires.valid.rules rule.Assets
+    let laws = c.validity_laws.ensures in
+    let valid = c.requires.valid in
+    record {
+      admissible = subst (λ (version : ℕ). IsAdmissibleIn version parts block.txs) c.requires.first
+          (laws.admissible parts block (laws.back parts block valid));
+      few = valid.form.few;
+      below_last = valid.rules rule.BelowLast;
+      prices = valid.rules rule.Assets;
+    }
