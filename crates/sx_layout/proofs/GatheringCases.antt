@@ -1,10 +1,11 @@
 -- Gatherings that are worked out by hand.
-use Rattle.std.proofs.Common.{◌≡◌, ◌≢◌, ℕ, zero, suc, ◌-◌, ◌≤◌, List, [], ◌∷◌, length, Some, refl, sym, ap, subst, arith}
+use Rattle.std.proofs.Common.{◌≡◌, ◌≢◌, ℕ, zero, suc, ◌-◌, ◌≤◌, true, List, [], ◌∷◌, length, Some, refl, sym, ap}
+use Rattle.std.proofs.Common.{subst, arith}
 use Rattle.std.specs.Prelude.{slice_get}
 use Rattle.std.proofs.lemmas.Option.{same_Some}
 use Rattle.sx_event.specs.declared.marks.Claim.TheVariants.{Debit, Bit}
 use Rattle.sx_layout.specs.declared.outcome.Outcome.TheVariants.{Accepted, Static, SeqTaken, Overdraft}
-use Rattle.sx_layout.specs.Gathering.{Decision, IsFree, IsGathered, IsOverdrawn, IsSeqTaken, decisions}
+use Rattle.sx_layout.specs.Gathering.{Decision, IsFree, IsGathered, IsOverdrawn, IsSeqTaken, decisions, keeps_number}
 use Rattle.sx_layout.specs.Marks.{marks}
 use Rattle.sx_layout.specs.Plan.{plan_of, words_of}
 use Rattle.sx_layout.proofs.ScriptCases.{account, ledger, pays}
@@ -65,6 +66,18 @@ not_behind is = let why = is.shows 0 _ refl in absurd cc
 -- two candidates do not keep one number
 both_keep : IsGathered ledger (pays 1 300 ∷ pays 1 200 ∷ []) (Overdraft 100 300 ∷ Overdraft 100 200 ∷ []) [] → ⊥
 both_keep is = let one = is.once 0 1 _ _ refl refl refl refl refl refl in omega (arith, one)
+
+-- a number is taken only by a candidate that keeps it
+nobody_keeps : IsSeqTaken (decisions (pays 1 10 ∷ pays 1 20 ∷ []) (SeqTaken ∷ SeqTaken ∷ [])) 1 (pays 1 20) → ⊥
+nobody_keeps taken = keeper taken.other taken.decision taken.stands taken.another taken.keeps
+  where
+    keeper : (other : ℕ) (one : Decision)
+        → slice_get (decisions (pays 1 10 ∷ pays 1 20 ∷ []) (SeqTaken ∷ SeqTaken ∷ [])) other ≡ Some one → other ≢ 1
+        → keeps_number one.outcome ≡ true → ⊥
+    keeper zero one stands another keeps =
+        let same = ap (λ (d : Decision). keeps_number d.outcome) (same_Some _ one stands) in cc
+    keeper (suc zero) one stands another keeps = another refl
+    keeper (suc (suc other)) one stands another keeps = absurd cc
 
 -- a payment that leaves as much as it takes is free to be accepted
 free : IsFree ledger (decisions (pays 1 50 ∷ []) (Accepted ∷ [])) (pays 1 50 ∷ []) 0 (pays 1 50)

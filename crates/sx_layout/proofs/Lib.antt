@@ -13,6 +13,7 @@ pub mod SpotLaws
 pub mod PlanLaws
 mod ScriptCases
 mod GatheringCases
+mod RoomCases
 pub mod StepFits
 pub mod Openings
 pub mod NewIdLaws
