@@ -15,3 +15,4 @@ pub mod Starting
 pub mod Climbing
 pub mod WrittenBack
 pub mod SolvedCases
+pub mod DecidedCases

@@ -1,0 +1,64 @@
+-- Answers to two assets of which each may be sold for the other up to a value of 5, worked out by hand: those that do not
+-- fit, and those that are not decided.
+use Rattle.std.proofs.Common.{◌≡◌, ℕ, zero, suc, ◌<◌, ◌≤◌, [], ◌∷◌, refl, arith}
+use Rattle.std.proofs.lemmas.Int.{ints}
+use Rattle.sx_dual.specs.Circulation.{IsBalanced, IsCirculation, IsWithin}
+use Rattle.sx_dual.specs.Sums.{EachPair, sum_below}
+use Rattle.sx_dual.specs.Tables.{BoundsTable, FlowTable, high_of, low_of}
+use Rattle.sx_level.specs.declared.solving.Solved.TheVariants.{Best, Cut}
+use Rattle.sx_level.specs.Solved.{IsDecided, IsSolved}
+
+abbrev bounds : BoundsTable
+bounds = record { assets = 2; low = 0 ∷ 0 ∷ 0 ∷ 0 ∷ []; high = 0 ∷ 5 ∷ 5 ∷ 0 ∷ [] }
+
+-- nothing trades
+abbrev idle : FlowTable
+idle = record { assets = 2; values = 0 ∷ 0 ∷ 0 ∷ 0 ∷ [] }
+
+-- ---- answers that do not fit
+
+not_of_one_asset : IsSolved bounds (Best (record { assets = 1; values = 0 ∷ [] }) (0 ∷ 0 ∷ [])) → ⊥
+not_of_one_asset is = let same = is.same_assets in omega (arith, same)
+
+not_one_potential : IsSolved bounds (Best idle (0 ∷ [])) → ⊥
+not_one_potential is = let count = is.one_potential in omega (arith, count)
+
+-- with equal potentials each pair gains 1
+not_idle : IsSolved bounds (Best idle (0 ∷ 0 ∷ [])) → ⊥
+not_idle is =
+    let tight = is.fits.tight 0 1 (omega arith) (omega arith) (λ same. omega (arith, same)) in
+    let all : 0 ≡ 5 = tight.gaining (omega (arith, ints)) in omega (arith, all)
+
+-- nothing must go into the first asset
+not_cut : IsSolved bounds (Cut (record { 0 = 1 })) → ⊥
+unfolding sum_below
+not_cut is = let more : 5 < 0 = is.cut in omega (arith, more)
+
+-- ---- answers that decide nothing
+
+-- each asset may be sold for the other at one value up to 5
+within : (value : ℕ) → value ≤ 5 → EachPair 2 (IsWithin (low_of bounds) (high_of bounds) (λ sell buy. value))
+within value most zero zero s b differ = absurd (differ refl)
+within value most zero (suc zero) s b differ = record { at_least = omega arith; at_most = most }
+within value most zero (suc (suc buy)) s b differ = absurd (omega arith)
+within value most (suc zero) zero s b differ = record { at_least = omega arith; at_most = most }
+within value most (suc zero) (suc zero) s b differ = absurd (differ refl)
+within value most (suc zero) (suc (suc buy)) s b differ = absurd (omega arith)
+within value most (suc (suc sell)) buy s b differ = absurd (omega arith)
+
+balanced : (value asset : ℕ) → asset < 2 → IsBalanced 2 (λ sell buy. value) asset
+unfolding sum_below
+balanced value zero lt = refl
+balanced value (suc zero) lt = refl
+balanced value (suc (suc asset)) lt = absurd (omega arith)
+
+circulates : (value : ℕ) → value ≤ 5 → IsCirculation 2 (low_of bounds) (high_of bounds) (λ sell buy. value)
+circulates value most = record { within = within value most; balanced = balanced value }
+
+idle_is_not_greatest : IsDecided bounds (Best idle (0 ∷ 0 ∷ [])) → ⊥
+unfolding sum_below
+idle_is_not_greatest is =
+    let less : 10 ≤ 0 = is.greatest (λ sell buy. 5) (circulates 5 (omega arith)) in omega (arith, less)
+
+there_is_one : IsDecided bounds (Cut (record { 0 = 1 })) → ⊥
+there_is_one none = none (λ sell buy. 0) (circulates 0 (omega arith))
