@@ -3,7 +3,9 @@ use Rattle.std.proofs.Common.{◌≡◌, ℕ, zero, suc, ◌<◌, ◌≤◌, Lis
 use Rattle.sx_block.specs.declared.header.Block.{Block}
 use Rattle.sx_block.proofs.ValidCase.{before, block}
 use Rattle.sx_body.specs.Repeats.{IsFirstRepeat, Repeats, creates}
-use Rattle.sx_check.specs.Refusals.{IsCrowded, IsMisrounded}
+use Rattle.sx_check.specs.declared.fault.CheckFault.TheVariants as check_fault
+use Rattle.sx_check.specs.declared.invalid.Invalid.TheVariants.{WrongAfter}
+use Rattle.sx_check.specs.Refusals.{ExplainsEarly, IsCrowded, IsMisrounded}
 use Rattle.sx_ledger.specs.declared.parts.Parts.{Parts}
 use Rattle.sx_tx.specs.declared.kind.Kind.TheVariants as kind
 use Rattle.sx_tx.specs.declared.tx.Tx.{Tx}
@@ -76,3 +78,9 @@ first_asset = record {
 
 not_second_asset : IsMisrounded before wrong 1 6 1 → ⊥
 not_second_asset is = let first = is.earlier 0 (omega arith) in absurd cc
+
+-- ---- a judge that does not make the ledger after the block says nothing of its digest
+
+not_of_the_ledger_after : (parts : Parts) (said : Block) (one other : List ℕ)
+    → ExplainsEarly parts said (check_fault.Invalid (WrongAfter one other)) → ⊥
+not_of_the_ledger_after parts said one other is = is.early one other refl
