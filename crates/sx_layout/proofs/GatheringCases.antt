@@ -1,11 +1,13 @@
 -- Gatherings that are worked out by hand.
-use Rattle.std.proofs.Common.{◌≡◌, ◌≢◌, ℕ, zero, suc, ◌-◌, ◌≤◌, true, List, [], ◌∷◌, length, Some, refl, sym, ap}
+use Rattle.std.proofs.Common.{◌≡◌, ◌≢◌, ℕ, zero, suc, ◌+◌, ◌-◌, ◌≤◌, true, List, [], ◌∷◌, length, Some, refl, sym, ap}
 use Rattle.std.proofs.Common.{subst, arith}
 use Rattle.std.specs.Prelude.{slice_get}
 use Rattle.std.proofs.lemmas.Option.{same_Some}
 use Rattle.sx_event.specs.declared.marks.Claim.TheVariants.{Debit, Bit}
+use Rattle.sx_layout.specs.declared.outcome.Outcome.{Outcome}
 use Rattle.sx_layout.specs.declared.outcome.Outcome.TheVariants.{Accepted, Static, SeqTaken, Overdraft}
-use Rattle.sx_layout.specs.Gathering.{Decision, IsFree, IsGathered, IsOverdrawn, IsSeqTaken, decisions, keeps_number}
+use Rattle.sx_layout.specs.Gathering.{BodyIsNoLonger, Decision, IsFree, IsGathered, IsOverdrawn, IsSeqTaken, body_of}
+use Rattle.sx_layout.specs.Gathering.{decisions, keeps_number}
 use Rattle.sx_layout.specs.Marks.{marks}
 use Rattle.sx_layout.specs.Plan.{plan_of, words_of}
 use Rattle.sx_layout.proofs.ScriptCases.{account, ledger, pays}
@@ -96,6 +98,11 @@ free = record {
         → one.tx.account.0 ≡ 1 → one.tx.seq ≢ 1
     alone zero one stands another account seq = another refl
     alone (suc other) one stands another account seq = absurd cc
+
+-- a body never has one transaction more than there are candidates
+never_longer : BodyIsNoLonger → (candidates : List Tx) (outcomes : List Outcome)
+    → length (body_of (decisions candidates outcomes)) ≡ length candidates + 1 → ⊥
+never_longer no_longer candidates outcomes e = let few = no_longer candidates outcomes in omega (arith, few, e)
 
 -- ---- two shards: account 1 is in shard 0 and account 2 in shard 1, and so are their words. The first new id is in shard 0
 
