@@ -15,3 +15,5 @@ pub mod SomeItem
 pub mod SomeFinding
 pub mod Answering
 pub mod Cases
+pub mod AnswerCases
+pub mod SettlingCases
