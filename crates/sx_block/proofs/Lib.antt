@@ -5,6 +5,7 @@ pub mod TradeLaws
 pub mod HeaderLaws
 pub mod BlockLaws
 pub mod Lengths
+pub mod LongestBlock
 pub mod BlockFaults
 pub mod ListSums
 pub mod PairFills
