@@ -16,6 +16,7 @@ mod circulation;
 mod clear;
 mod digest;
 mod drawing;
+mod gather;
 mod instance;
 mod kind;
 mod market;
@@ -125,11 +126,16 @@ fn main(rt: HostRuntime) -> Result<()> {
                 circulation::WHAT
             )?;
             println!(rt; "{} ROUNDS: {}", clear::NAME, clear::WHAT)?;
+            println!(rt; "{} WORKERS: {}", gather::NAME, gather::WHAT)?;
             Ok(())
         }
         [name, rounds] if name.as_str() == clear::NAME => {
             let mut source = StdSource::new(rt.stdin());
             clear::measure(&rt, &mut source, number_of(rounds)?)
+        }
+        [name, workers] if name.as_str() == gather::NAME => {
+            let mut source = StdSource::new(rt.stdin());
+            gather::measure(&rt, &mut source, number_of(workers)?)
         }
         [name, rest @ ..] if name.as_str() == circulation::NAME => {
             circulation::measure(&rt, instance_of(rest)?)

@@ -19,23 +19,15 @@ mod demonstration;
 #[cfg(test)]
 mod dropped;
 #[cfg(test)]
-mod events;
-#[cfg(test)]
 mod fills;
 #[cfg(test)]
-mod layout;
-#[cfg(test)]
 mod long;
-#[cfg(test)]
-mod outcomes;
 #[cfg(test)]
 mod payment;
 #[cfg(test)]
 mod recovering;
 #[cfg(test)]
 mod replay;
-#[cfg(test)]
-mod threads;
 #[cfg(test)]
 mod words;
 #[cfg(test)]

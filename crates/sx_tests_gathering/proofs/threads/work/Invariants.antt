@@ -1,6 +1,6 @@
 use Rattle.std.proofs.Common.{◌≡◌}
 use Rattle.sx_shard.specs.Models.{IsOf}
-use Rattle.sx_tests.proofs.threads.work.Given as goal
+use Rattle.sx_tests_gathering.proofs.threads.work.Given as goal
 
 -- the seat is of the shard, with the range that it had
 abbrev pub invariant-loop-bit : goal.invariant-loop-bit

@@ -1,0 +1,14 @@
+//! Tests of gathering: events of the core, where words are, outcomes and scripts as bytes, shards on threads,
+//! and workers.
+#![tactic(auto)]
+
+#[cfg(test)]
+mod events;
+#[cfg(test)]
+mod layout;
+#[cfg(test)]
+mod outcomes;
+#[cfg(test)]
+mod threads;
+#[cfg(test)]
+mod workers;
