@@ -24,6 +24,7 @@ mod quotes;
 mod report;
 mod search;
 mod shard;
+mod show;
 mod span;
 mod state;
 
@@ -35,6 +36,7 @@ use candidates::Candidates;
 use digest::Hashed;
 use instance::Instance;
 use kind::kind_of;
+use show::ShownState;
 use state::State;
 use std::env;
 use std::io::Write;
@@ -117,6 +119,7 @@ fn main(rt: HostRuntime) -> Result<()> {
         [] => {
             println!(rt; "{} SIZE: {}", candidates::NAME, candidates::WHAT)?;
             println!(rt; "{} SIZE: {}", state::NAME, state::WHAT)?;
+            println!(rt; "{} SIZE: {}", show::NAME, show::WHAT)?;
             println!(rt; "{} SIZE: {}", digest::NAME, digest::WHAT)?;
             println!(rt; "{} THREADS PURSES: {}", shard::NAME, shard::WHAT)?;
             println!(rt; "{} SIZE ASSETS: {}", search::NAME, search::WHAT)?;
@@ -158,6 +161,11 @@ fn main(rt: HostRuntime) -> Result<()> {
             let request = request_of(size, rest)?;
             let state = State::new(rt.alloc(), request.size)?;
             serve(&rt, state::NAME, request, &state)
+        }
+        [name, size, rest @ ..] if name.as_str() == show::NAME => {
+            let request = request_of(size, rest)?;
+            let shown = ShownState::new(rt.alloc(), request.size)?;
+            serve(&rt, show::NAME, request, &shown)
         }
         [name, size, rest @ ..] if name.as_str() == digest::NAME => {
             let request = request_of(size, rest)?;

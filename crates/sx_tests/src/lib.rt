@@ -29,6 +29,8 @@ mod recovering;
 #[cfg(test)]
 mod replay;
 #[cfg(test)]
+mod texts;
+#[cfg(test)]
 mod words;
 #[cfg(test)]
 mod worked;

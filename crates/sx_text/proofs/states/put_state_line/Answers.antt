@@ -1,0 +1,4 @@
+use Rattle.sx_text.proofs.states.put_state_line.Goals as goal
+
+pub returns : goal.returns
+returns c = rw c.items.ensures at c.in_ok-write.ensures.bytes

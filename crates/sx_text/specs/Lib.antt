@@ -1,0 +1,9 @@
+pub mod Pieces
+pub mod Status
+pub mod Texts
+pub mod Transactions
+pub mod States
+pub mod Blocks
+pub mod Gathering
+pub mod Demonstration
+pub mod Shown

@@ -1,0 +1,43 @@
+//! The texts that the program prints, byte for byte.
+//!
+//! [`show`] writes what a record holds, a line for each part of it: a state, candidates, a block,
+//! outcomes or a script. [`check_line`] is the line of a valid block, [`demo_lines`] the summary of the
+//! demonstration, and [`status_line`] says how a run ended: a [`Status`], which also has the code that
+//! the program ends with. Each answers a [`Text`], which is exactly what `specs/` says, or that memory
+//! ran out.
+//!
+//!     state version 1 height 0 assets 1
+//!     asset 0 price 16777216 rounding 0
+//!     account 1 last 0 balances 100
+//!     account 2 last 0 balances 5
+//!
+//! Texts are ASCII. Each line ends with a line feed, and one space parts its words. Numbers are plain
+//! decimal, with a minus before a gain below 0; a digest is 64 hexadecimal digits with small letters,
+//! and a set of assets is 8 of them.
+//!
+//! A text is written from its first byte to its last into one buffer that doubles as it fills, so its
+//! memory is at most twice its length.
+//!
+//! Not here: reading a text, other languages, and where a text goes.
+#![tactic(auto)]
+
+mod blocks;
+mod demonstration;
+mod ending;
+mod fields;
+mod gathering;
+mod lines;
+mod reasons;
+mod shown;
+mod states;
+mod status;
+mod text;
+mod transactions;
+mod validity;
+
+pub use demonstration::demo_lines;
+pub use ending::status_line;
+pub use shown::{Shown, show};
+pub use status::Status;
+pub use text::Text;
+pub use validity::check_line;

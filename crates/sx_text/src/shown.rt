@@ -1,0 +1,55 @@
+//! The text of what a record holds.
+
+ghost use Rattle.std.specs.Prelude.{◌≡◌, ◌++◌, IfOk, OnOk, string_bytes};
+ghost use Rattle.sx_text.specs.Shown.{IsShowable, shown_text};
+
+use crate::blocks::put_block;
+use crate::gathering::{put_outcomes, put_script};
+use crate::states::put_state;
+use crate::text::Text;
+use crate::transactions::put_transactions;
+use std::alloc::Global;
+use sx_block::Block;
+use sx_bytes::NoMemory;
+use sx_layout::{Outcomes, Script};
+use sx_ledger::Ledger;
+use sx_tx::TxList;
+
+/// What a record holds, by its tag.
+#[derive(Debug, Drop)]
+pub enum Shown {
+    /// The state between two blocks.
+    State(Ledger),
+    /// Candidates, in the order in which they come.
+    Candidates(TxList),
+    /// A block that has the form of one. Whether it is valid for a ledger does not matter.
+    Block(Block),
+    /// What became of candidates.
+    Outcomes(Outcomes),
+    /// A script of gathering.
+    Script(Script),
+}
+
+fn put_shown(to: &mut String, shown: &Shown) -> Result<(), NoMemory>
+    requires { IsShowable shown.now }
+    ensures { OnOk result (string_bytes to.new ≡ string_bytes to.old ++ shown_text shown.now) }
+{
+    match shown {
+        Shown::State(ledger) => put_state(to, ledger),
+        Shown::Candidates(txs) => put_transactions(to, "candidates", txs.items()),
+        Shown::Block(block) => put_block(to, block),
+        Shown::Outcomes(outcomes) => put_outcomes(to, outcomes.items()),
+        Shown::Script(script) => put_script(to, script),
+    }
+}
+
+/// The text of what a record holds, a line for each part of it: a price, an account, an offer, a
+/// transaction, a pair that trades, an outcome, a turn.
+pub fn show(alloc: Global, shown: &Shown) -> Result<Text, NoMemory>
+    requires { IsShowable shown.now }
+    ensures { IfOk result (λ text. text ≡ shown_text shown.now) }
+{
+    let mut text = String::new(alloc);
+    put_shown(&mut text, shown)?;
+    Ok(Text::of(text))
+}
