@@ -1,2 +1,3 @@
 mod SmallMarket
 mod Spans
+mod Tables

@@ -7,4 +7,3 @@ pub mod Labelling
 pub mod Passes
 pub mod WrittenBack
 pub mod Ending
-pub mod Tables

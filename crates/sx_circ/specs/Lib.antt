@@ -1,4 +1,3 @@
 pub mod Residual
 pub mod Walks
 pub mod Labels
-pub mod Nets

@@ -28,26 +28,18 @@
 //! stay below the number of assets, and each height that rises adds at least 1 to their sum; each cycle
 //! that is cancelled adds at least 1 to the traded value, which the upper bounds limit.
 //!
-//! From a poor circulation this can take as many cycles as there are units of value. So the primal-dual
-//! method first makes a guess, in a bounded number of searches of a net. Where the guess is a
-//! circulation, as `fits` of `sx_dual` tells, it takes the place of the one that was handed in. It is then
-//! one of greatest value, unless this page's argument or the code of the guess is wrong, and the search
-//! for a cycle finds none. What `best` promises does not rest on the guess.
-//!
 //! Cost: for n assets, a search for a cycle passes over the n² pairs at most n² times, and mostly a few
-//! times; the number of cycles has no bound in n alone, but none is left after a guess of greatest value.
-//! The guess makes at most 2^20 searches, each of which looks at 2n² + 4n arcs at most, and mostly some
-//! hundred for 32 assets. Memory is taken once for a net, n walks, two flows and twice n potentials.
+//! times. The number of cycles has no bound in n alone: from a poor circulation there can be as many as
+//! units of value. `solve` of `sx_level` finds a greatest circulation in a bounded number of searches; this
+//! is the plain way, to compare with. Memory is taken once for n walks and n potentials.
 //!
-//! Source: M. Klein, "A primal method for minimal cost flows" (1967); Ford and Fulkerson, "Flows in
-//! Networks" (1962), for the guess; Ahuja, Magnanti and Orlin, "Network Flows" (1993), chapters 5 and 9.
+//! Source: M. Klein, "A primal method for minimal cost flows" (1967); Ahuja, Magnanti and Orlin, "Network
+//! Flows" (1993), chapter 9.
 //!
 //! Not here: how a first circulation is found, and which of several greatest circulations is answered.
 #![tactic(auto)]
 
-mod balancing;
 mod cancelling;
-mod network;
 mod raising;
 mod residual;
 mod searching;

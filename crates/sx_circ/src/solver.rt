@@ -1,6 +1,6 @@
 //! The circulation of greatest value.
 
-ghost use Rattle.std.specs.Prelude.{◌≡◌, ℕ, ◌<◌, ◌≤◌, length, slice_index, IfOk, IsTrue};
+ghost use Rattle.std.specs.Prelude.{◌≡◌, ℕ, ◌<◌, ◌≤◌, length, slice_index, IfOk};
 ghost use Rattle.sx_circ.specs.Labels.{AreAllLevel, AreLabels, height_of, walk_to};
 ghost use Rattle.sx_circ.specs.Residual.{KeepsBalances, KeepsBounds};
 ghost use Rattle.sx_circ.specs.Walks.{HasRoom};
@@ -8,16 +8,14 @@ ghost use Rattle.sx_dual.specs.Circulation.{IsCirculation, IsGreatest};
 ghost use Rattle.sx_dual.specs.Fit.{Fits};
 ghost use Rattle.sx_dual.specs.Tables.{AreBounds, high_of, low_of, potential_of, value_of, entry_at};
 
-use crate::balancing::{balance, flow_of};
 use crate::cancelling::cancel;
-use crate::network::network_of;
 use crate::raising::height;
 use crate::searching::gaining_cycle;
 use crate::walk::{Walk, stay};
 use std::alloc::Global;
 use std::sync::ledger::Ledger;
 use sx_bytes::NoMemory;
-use sx_dual::{Bounds, Flow, Misfit, Potentials, dual_laws, fits};
+use sx_dual::{Bounds, Flow, Potentials, dual_laws};
 use sx_net::Steps;
 
 // Cancels gaining cycles until there is none.
@@ -52,81 +50,9 @@ fn heights(alloc: Global, walks: &[Walk]) -> Result<Vec<u32>, NoMemory>
     Ok(heights)
 }
 
-// The flow at which the primal-dual method ends, mostly a circulation of greatest value, and its heights.
-fn guess<L: Ledger>(
-    alloc: Global,
-    bounds: &Bounds,
-    steps: &mut Steps<L>,
-) -> Result<(Flow, Potentials), NoMemory>
-    ensures assets { IfOk result (λ found. found.0.assets ≡ bounds.now.assets) }
-    ensures potentials { IfOk result (λ found. length found.1 ≡ bounds.now.assets) }
-{
-    let mut net = network_of(alloc, bounds)?;
-    let mut heights = vec![in alloc; 0; bounds.assets() as usize]?;
-    balance(&mut net, heights.as_mut_slice(), steps);
-    let flow = flow_of(alloc, bounds, &net)?;
-    Ok((flow, Potentials::of(heights)))
-}
-
-// Whether a flow is a circulation within the bounds: where it is, no potentials leave it out of bounds or
-// unbalanced.
-pub fn circulates(bounds: &Bounds, flow: &Flow, potentials: &Potentials) -> bool
-    requires flow { flow.now.assets ≡ bounds.now.assets }
-    requires potentials { length potentials.now ≡ bounds.now.assets }
-    ensures { IsTrue result → IsCirculation bounds.now.assets (low_of bounds.now) (high_of bounds.now) (value_of flow.now) }
-{
-    match fits(bounds, flow, potentials) {
-        Ok(()) => true,
-        Err(Misfit::Slack { .. }) => true,
-        Err(_) => false,
-    }
-}
-
-// The guess where that is a circulation, and else `start`.
-fn guess_or<L: Ledger>(
-    alloc: Global,
-    bounds: &Bounds,
-    start: Flow,
-    steps: &mut Steps<L>,
-) -> Result<Flow, NoMemory>
-    requires assets { start.assets ≡ bounds.now.assets }
-    requires start { IsCirculation bounds.now.assets (low_of bounds.now) (high_of bounds.now) (value_of start) }
-    ensures assets { IfOk result (λ flow. flow.assets ≡ bounds.now.assets) }
-    ensures circulation { IfOk result (λ flow. IsCirculation bounds.now.assets (low_of bounds.now) (high_of bounds.now) (value_of flow)) }
-{
-    let (flow, potentials) = guess(alloc, bounds, steps)?;
-    if circulates(bounds, &flow, &potentials) {
-        Ok(flow)
-    } else {
-        Ok(start)
-    }
-}
-
-// A circulation of greatest value and potentials that fit it, by cancelling cycles from any circulation.
-pub fn cancelled(
-    alloc: Global,
-    bounds: &Bounds,
-    start: Flow,
-) -> Result<(Flow, Potentials), NoMemory>
-    requires assets { start.assets ≡ bounds.now.assets }
-    requires start { IsCirculation bounds.now.assets (low_of bounds.now) (high_of bounds.now) (value_of start) }
-    ensures assets { IfOk result (λ best. best.0.assets ≡ bounds.now.assets) }
-    ensures potentials { IfOk result (λ best. length best.1 ≡ bounds.now.assets) }
-    ensures fits { IfOk result (λ best. Fits bounds.now.assets (low_of bounds.now) (high_of bounds.now) (value_of best.0) (potential_of best.1)) }
-    ensures greatest { IfOk result (λ best. IsGreatest bounds.now.assets (low_of bounds.now) (high_of bounds.now) (value_of best.0)) }
-{
-    let assets = bounds.assets();
-    let mut walks = vec![in alloc; stay(0); assets as usize]?;
-    let mut values = start.into_values();
-    cancel_all(bounds, values.as_mut_slice(), walks.as_mut_slice());
-    let potentials = heights(alloc, walks.as_slice())?;
-    dual_laws();
-    Ok((Flow::of(assets, values), Potentials::of(potentials)))
-}
-
 /// A circulation within the bounds that trades the most value, and potentials that fit it, from a
 /// circulation `start` of as many assets as the bounds. No circulation within the bounds trades more. It
-/// may answer `NoMemory` in place of the two.
+/// makes no search of a net, so `steps` stays as it is. It may answer `NoMemory` in place of the two.
 pub fn best<L: Ledger>(
     alloc: Global,
     bounds: &Bounds,
@@ -139,7 +65,13 @@ pub fn best<L: Ledger>(
     ensures potentials { IfOk result (λ best. length best.1 ≡ bounds.now.assets) }
     ensures fits { IfOk result (λ best. Fits bounds.now.assets (low_of bounds.now) (high_of bounds.now) (value_of best.0) (potential_of best.1)) }
     ensures greatest { IfOk result (λ best. IsGreatest bounds.now.assets (low_of bounds.now) (high_of bounds.now) (value_of best.0)) }
+    ensures counted { steps.new ≡ steps.old }
 {
-    let first = guess_or(alloc, bounds, start, steps)?;
-    cancelled(alloc, bounds, first)
+    let assets = bounds.assets();
+    let mut walks = vec![in alloc; stay(0); assets as usize]?;
+    let mut values = start.into_values();
+    cancel_all(bounds, values.as_mut_slice(), walks.as_mut_slice());
+    let potentials = heights(alloc, walks.as_slice())?;
+    dual_laws();
+    Ok((Flow::of(assets, values), Potentials::of(potentials)))
 }

@@ -13,7 +13,7 @@ use Rattle.sx_block.proofs.TradeTotals.{added_at, added_length}
 use Rattle.sx_block.proofs.ValidBlocks.{drops_the_impossible}
 use Rattle.sx_clear.specs.declared.trade.Trade.{Trade}
 use Rattle.sx_clear.specs.Dropping.{DropsExactly}
-use Rattle.sx_clear.specs.Solved.{IsTradeAt}
+use Rattle.sx_clear.specs.Traded.{IsTradeAt}
 use Rattle.sx_dual.specs.declared.cut.Cut.{Cut}
 use Rattle.sx_dual.specs.Circulation.{HaveNoCirculation, IsCirculation}
 use Rattle.sx_dual.specs.Tables.{value_of}

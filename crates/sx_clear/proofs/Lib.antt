@@ -2,3 +2,4 @@ pub mod OfferLaws
 pub mod TradeLaws
 pub mod BlockLaws
 pub mod PriceLaws
+pub mod SearchCounts

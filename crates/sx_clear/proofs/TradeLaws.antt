@@ -8,7 +8,7 @@ use Rattle.sx_apply.proofs.SameBounds.{cut_from, fits_from}
 use Rattle.sx_block.specs.Block.{CutFits}
 use Rattle.sx_block.specs.Validity.{CutHolds}
 use Rattle.sx_clear.specs.declared.trade.Trade.{Trade}
-use Rattle.sx_clear.specs.Solved.{HasNoLow, IsBest, IsFreeTrade, IsTrade, IsTradeAt}
+use Rattle.sx_clear.specs.Traded.{HasNoLow, IsFreeTrade, IsTrade, IsTradeAt}
 use Rattle.sx_dual.specs.declared.cut.Cut.{Cut}
 use Rattle.sx_dual.specs.Cuts.{goes_in, sum_in}
 use Rattle.sx_dual.specs.Sums.{EachPair, between, sum_below}
@@ -20,6 +20,7 @@ use Rattle.sx_ledger.specs.declared.parts.Parts.{Parts}
 use Rattle.sx_ledger.specs.Body.{body_after}
 use Rattle.sx_ledger.specs.Bounds.{high_of as high_at, low_of as low_at}
 use Rattle.sx_ledger.specs.Ledger.{assets_of}
+use Rattle.sx_level.specs.Solved.{IsBest}
 use Rattle.sx_tx.specs.declared.tx.Tx.{Tx}
 
 -- ---- bounds with no lower one

@@ -1,5 +1,6 @@
 pub mod Quotes
 pub mod Dropping
 pub mod Found
-pub mod Solved
+pub mod Traded
+pub mod Searches
 pub mod Terms

@@ -4,7 +4,7 @@ use Rattle.std.specs.List.{All}
 use Rattle.sx_block.specs.EffectLaws.{IsRounded}
 use Rattle.sx_block.specs.Validity.{digest_of_ledger}
 use Rattle.sx_clear.specs.declared.heading.Terms.{Terms}
-use Rattle.sx_clear.specs.Solved.{IsTradeAt}
+use Rattle.sx_clear.specs.Traded.{IsTradeAt}
 use Rattle.sx_dual.specs.Tables.{value_of}
 use Rattle.sx_ledger.specs.declared.parts.Parts.{Parts}
 use Rattle.sx_ledger.specs.Body.{body_after}

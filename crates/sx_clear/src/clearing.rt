@@ -1,11 +1,12 @@
 //! Blocks from bodies.
 
-ghost use Rattle.std.specs.Prelude.{◌≡◌, ◌<◌, ◌≤◌, IfOk, length};
+ghost use Rattle.std.specs.Prelude.{◌≡◌, ◌+◌, ◌<◌, ◌≤◌, IfOk, length};
 ghost use Rattle.sx_apply.specs.Bounds.{AreOffers};
 ghost use Rattle.sx_block.specs.Validity.{IsValid, flow_of_block, high_in, low_in};
 ghost use Rattle.sx_clear.specs.Dropping.{DropsExactly};
 ghost use Rattle.sx_clear.specs.Found.{IsBodyOf};
 ghost use Rattle.sx_clear.specs.Quotes.{imbalance_at, quotes_of, searched_at};
+ghost use Rattle.sx_clear.specs.Searches.{IsCounted, most_clearing_searches};
 ghost use Rattle.sx_curve.specs.Search.{searched_prices};
 ghost use Rattle.sx_dual.specs.Circulation.{IsGreatest};
 ghost use Rattle.sx_dual.specs.Tables.{IsAssetCount};
@@ -51,6 +52,9 @@ fn clear_body<L: ledger::Ledger>(
     ensures txs { IfOk result (λ block. block.txs ≡ txs) }
     ensures mu { IfOk result (λ block. block.header.mu ≡ mu) }
     ensures prices { IfOk result (λ block. block.header.prices ≡ prices) }
+    ensures counted { IfOk result (IsCounted ledger.now steps.old steps.new) }
+    ensures limited { steps.new ≤ steps.old + most_clearing_searches }
+    ensures rising { steps.old ≤ steps.new }
 {
     let height = ledger.height() + 1;
     price_ranges(&prices);
@@ -67,11 +71,21 @@ fn clear_body<L: ledger::Ledger>(
     block_of(alloc, ledger, height, txs, terms)
 }
 
+// The same prices once more.
+fn copy_of(alloc: Global, prices: &Prices) -> Result<Prices, NoMemory>
+    ensures { IfOk result (λ copy. copy ≡ prices.now) }
+{
+    Ok(Prices::of(prices.items().to_vec(alloc)?))
+}
+
 /// The block of a body at these prices, one for each asset of the ledger: a valid one, with a circulation
 /// of greatest value within the bounds of the offers after the body, at the margin `mu`. Lower bounds are
 /// dropped exactly where no circulation keeps them. The body has at most 1,000,000 transactions, and the
-/// ledger is below the last height. `steps` counts the searches that the circulation takes. `NoMemory` is
-/// the only error. It works on a copy of the ledger to know what the block leaves.
+/// ledger is below the last height. `NoMemory` is the only error. It works on a copy of the ledger to know
+/// what the block leaves.
+///
+/// `steps` counts the searches of the circulation. For n assets and upper bounds below `2^b` these are at
+/// most twice `(n + 1)(b + 1)(4n(n + 1) + 1)`, and never more than 29,000,400, whatever is answered.
 pub fn clear_at<L: ledger::Ledger>(
     alloc: Global,
     ledger: &Ledger,
@@ -91,13 +105,16 @@ pub fn clear_at<L: ledger::Ledger>(
     ensures prices { IfOk result (λ block. block.header.prices ≡ prices.now) }
     ensures greatest { IfOk result (λ block. IsGreatest (assets_of ledger.now) (low_in ledger.now block) (high_in ledger.now block) (flow_of_block block)) }
     ensures dropped { IfOk result (DropsExactly ledger.now) }
+    ensures counted { IfOk result (IsCounted ledger.now steps.old steps.new) }
+    ensures limited { steps.new ≤ steps.old + most_clearing_searches }
+    ensures rising { steps.old ≤ steps.new }
 {
     let body = body_of(alloc, ledger, txs.items())?;
-    let copy = Prices::of(prices.items().to_vec(alloc)?);
+    let copy = copy_of(alloc, prices)?;
     clear_body(alloc, ledger, txs, mu, copy, body, steps)
 }
 
-// The prices that the search from those of the ledger ends at.
+// The prices that the search from those of the ledger ends at: with no round these are the ledger's own.
 fn searched<R: Threads + Sync>(
     rt: &R,
     alloc: Global,
@@ -112,13 +129,18 @@ fn searched<R: Threads + Sync>(
     requires offers { AreOffers (assets_of ledger.now) offers.now }
     ensures exact { IfOk result (λ prices. prices ≡ searched_prices (quotes_of offers.now) ledger.now.prices mu rounds) }
 {
+    let first = &ledger.parts().prices;
+    if rounds == 0 {
+        return copy_of(alloc, first);
+    }
     let curves = offer_curves(alloc, assets, offers)?;
-    search(rt, alloc, &curves, &ledger.parts().prices, mu, rounds)
+    search(rt, alloc, &curves, first, mu, rounds)
 }
 
 /// The block of a body at the prices that the search from those of the ledger ends at, in at most so many
 /// rounds. The sum over all assets of what is wanted or sold in excess is at most that at the ledger's
-/// prices. All else is as in [`clear_at`].
+/// prices. With 0 rounds the prices are the ledger's own, and no curves are built. All else is as in
+/// [`clear_at`].
 pub fn clear<R: Threads + Sync, L: ledger::Ledger>(
     rt: &R,
     alloc: Global,
@@ -139,6 +161,9 @@ pub fn clear<R: Threads + Sync, L: ledger::Ledger>(
     ensures mends { IfOk result (λ block. imbalance_at ledger.now block.txs mu block.header.prices ≤ imbalance_at ledger.now block.txs mu ledger.now.prices) }
     ensures greatest { IfOk result (λ block. IsGreatest (assets_of ledger.now) (low_in ledger.now block) (high_in ledger.now block) (flow_of_block block)) }
     ensures dropped { IfOk result (DropsExactly ledger.now) }
+    ensures counted { IfOk result (IsCounted ledger.now steps.old steps.new) }
+    ensures limited { steps.new ≤ steps.old + most_clearing_searches }
+    ensures rising { steps.old ≤ steps.new }
 {
     let assets = ledger.assets();
     let body = body_of(alloc, ledger, txs.items())?;

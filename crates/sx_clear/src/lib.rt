@@ -8,9 +8,10 @@
 //!
 //! The method: one pass over the body finds what it credits and the offers after it. Their quotes make
 //! curves, on which prices are searched. The offers that must and that may trade at the prices are the
-//! bounds of each pair. Augmenting paths find a circulation within them, or a cut, and cycles that gain
-//! make it a greatest one. Its value is shared out among the offers of each pair in their order, rounded
-//! to whole units. What the block leaves of a copy of the ledger is hashed for its header.
+//! bounds of each pair. `solve` of `sx_level` finds a circulation of greatest value within them, or a cut.
+//! Where it finds a cut, it is asked once more, without the lower bounds: it is asked at most twice, and so
+//! the number of its searches has a bound. The value is shared out among the offers of each pair in their
+//! order, rounded to whole units. What the block leaves of a copy of the ledger is hashed for its header.
 //!
 //! ```text
 //!                  .-> curves -> prices -.                .-> fills, rounding -.
@@ -39,7 +40,6 @@ mod heading;
 mod leaving;
 mod quotes;
 mod ranges;
-mod solving;
 mod trade;
 
 pub use clearing::{clear, clear_at};

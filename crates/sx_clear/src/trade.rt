@@ -1,19 +1,21 @@
 //! What pairs trade at given prices.
 
-ghost use Rattle.std.specs.Prelude.{ℕ, false, IfOk, All, length};
+ghost use Rattle.std.specs.Prelude.{ℕ, false, ◌+◌, ◌*◌, ◌≤◌, IfOk, All, length};
 ghost use Rattle.sx_apply.specs.Bounds.{AreOffers, HasBounds};
-ghost use Rattle.sx_clear.specs.Solved.{HasNoLow, IsFreeTrade, IsTrade};
-ghost use Rattle.sx_dual.specs.Tables.{IsAssetCount};
+ghost use Rattle.sx_clear.specs.Searches.{most_clearing_searches};
+ghost use Rattle.sx_clear.specs.Traded.{HasNoLow, IsFreeTrade, IsTrade};
+ghost use Rattle.sx_dual.specs.Tables.{IsAssetCount, high_of as high_in};
 ghost use Rattle.sx_ledger.specs.Bounds.{high_of, low_of};
+ghost use Rattle.sx_level.specs.Solved.{HaveDigits, most_searches};
 ghost use Rattle.sx_price.specs.Limits.{IsPrice};
 
-use crate::solving::{Solved, solve};
 use std::alloc::Global;
 use std::sync::ledger::Ledger;
 use sx_apply::{bounds_of, without_low};
 use sx_bytes::NoMemory;
 use sx_dual::{Bounds, Cut, Flow, Potentials};
 use sx_ledger::Offer;
+use sx_level::{Solved, solve};
 use sx_net::Steps;
 use sx_price::{Mu, Prices};
 
@@ -36,6 +38,10 @@ fn trade_freely<L: Ledger>(
 ) -> Result<Trade, NoMemory>
     requires no_low { HasNoLow bounds.now }
     ensures traded { IfOk result (IsFreeTrade bounds.now cut) }
+    ensures counted { (b : ℕ) → HaveDigits bounds.now.assets (high_in bounds.now) b
+        → steps.new ≤ steps.old + most_searches bounds.now.assets b }
+    ensures limited { steps.new ≤ steps.old + most_searches 32 103 }
+    ensures rising { steps.old ≤ steps.new }
 {
     match solve(alloc, bounds, steps)? {
         Solved::Best { flow, potentials } => Ok(Trade {
@@ -53,7 +59,12 @@ fn trade_within<L: Ledger>(
     bounds: Bounds,
     steps: &mut Steps<L>,
 ) -> Result<Trade, NoMemory>
-    ensures { IfOk result (λ trade. (n : ℕ) (low high : ℕ → ℕ → ℕ) → HasBounds n low high bounds → IsTrade n low high trade) }
+    ensures traded { IfOk result (λ trade. (n : ℕ) (low high : ℕ → ℕ → ℕ) → HasBounds n low high bounds
+        → IsTrade n low high trade) }
+    ensures counted { (n : ℕ) (low high : ℕ → ℕ → ℕ) (b : ℕ) → HasBounds n low high bounds → HaveDigits n high b
+        → steps.new ≤ steps.old + 2 * most_searches n b }
+    ensures limited { steps.new ≤ steps.old + most_clearing_searches }
+    ensures rising { steps.old ≤ steps.new }
 {
     match solve(alloc, &bounds, steps)? {
         Solved::Best { flow, potentials } => Ok(Trade {
@@ -76,7 +87,11 @@ pub fn trade_at<L: Ledger>(
     requires assets { IsAssetCount (length prices.now) }
     requires prices { All IsPrice prices.now }
     requires offers { AreOffers (length prices.now) offers.now }
-    ensures { IfOk result (IsTrade (length prices.now) (low_of prices.now mu false offers.now) (high_of prices.now offers.now)) }
+    ensures traded { IfOk result (IsTrade (length prices.now) (low_of prices.now mu false offers.now) (high_of prices.now offers.now)) }
+    ensures counted { (b : ℕ) → HaveDigits (length prices.now) (high_of prices.now offers.now) b
+        → steps.new ≤ steps.old + 2 * most_searches (length prices.now) b }
+    ensures limited { steps.new ≤ steps.old + most_clearing_searches }
+    ensures rising { steps.old ≤ steps.new }
 {
     let bounds = bounds_of(alloc, offers, prices, mu)?;
     trade_within(alloc, bounds, steps)

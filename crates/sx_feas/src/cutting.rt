@@ -17,6 +17,7 @@ pub fn explore<L: Ledger>(bounds: &Bounds, net: &mut Net, asset: u32, steps: &mu
     ensures nodes { net.new.nodes ≡ net.old.nodes }
     ensures arcs { net.new.arcs ≡ net.old.arcs }
     ensures reached { (v : ℕ) → Contains net.new.reached v ↔ Reaches net.new.arcs 1 asset v }
+    ensures counted { steps.new ≡ steps.old + 1 }
 {
     net.search(asset, bounds.assets(), 1, steps);
 }

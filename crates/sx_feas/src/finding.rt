@@ -35,6 +35,7 @@ fn drain<L: Ledger>(bounds: &Bounds, net: &mut Net, asset: u32, steps: &mut Step
     ensures covered { IfNone result
         (bought_now bounds.now net.new.arcs asset ≤ sold_now bounds.now net.new.arcs asset) }
     ensures cut { IfSome result (λ cut. IsCutOf bounds.now cut.0) }
+    ensures rising { steps.old ≤ steps.new }
 {
     while surplus(bounds, net, asset) > 0 {
         explore(bounds, net, asset, steps);
@@ -57,6 +58,7 @@ fn drain_all<L: Ledger>(bounds: &Bounds, net: &mut Net, steps: &mut Steps<L>) ->
     ensures balanced { IfNone result ((asset : ℕ) → asset < bounds.now.assets
         → IsBalanced bounds.now.assets (traded bounds.now net.new.arcs) asset) }
     ensures cut { IfSome result (λ cut. IsCutOf bounds.now cut.0) }
+    ensures rising { steps.old ≤ steps.new }
 {
     for asset in 0..bounds.assets() {
         match drain(bounds, net, asset, steps) {
@@ -82,14 +84,15 @@ fn flow_of(alloc: Global, bounds: &Bounds, net: &Net) -> Result<Flow, NoMemory>
     Ok(Flow::of(assets, values))
 }
 
-/// A circulation within the bounds, or a cut where there is none. It may answer `NoMemory` in place of
-/// any other answer.
+/// A circulation within the bounds, or a cut where there is none. `steps` counts its searches, and never
+/// falls. It may answer `NoMemory` in place of any other answer.
 pub fn feasible<L: Ledger>(
     alloc: Global,
     bounds: &Bounds,
     steps: &mut Steps<L>,
 ) -> Result<Feas, NoMemory>
-    ensures { IfOk result (IsAnswer bounds.now) }
+    ensures answer { IfOk result (IsAnswer bounds.now) }
+    ensures rising { steps.old ≤ steps.new }
 {
     let mut net = network_of(alloc, bounds)?;
     match drain_all(bounds, &mut net, steps) {

@@ -1,6 +1,6 @@
 //! Pushes of what an asset is bought too much to an asset that is bought too little.
 
-ghost use Rattle.std.specs.Prelude.{◌≡◌, ◌≢◌, ◌+◌, ◌-◌, ◌<◌, ◌≤◌, ◌^◌, [], length, All, IsTrue};
+ghost use Rattle.std.specs.Prelude.{◌≡◌, ◌≢◌, ℕ, ◌+◌, ◌-◌, ◌<◌, ◌≤◌, ◌^◌, [], length, All, IsTrue};
 ghost use Rattle.std.specs.Bool.{OnTrue};
 ghost use Rattle.sx_net.specs.Arcs.{left_of, IsOpen};
 ghost use Rattle.sx_net.specs.Paths.{IsPath, Reaches};
@@ -17,6 +17,7 @@ fn bottleneck(net: &Net) -> u128
     requires some { All (λ a. 1 ≤ left_of net.now.arcs a) net.now.path }
     ensures enough { All (λ a. result ≤ left_of net.now.arcs a) net.now.path }
     ensures some { 1 ≤ result }
+    ensures most { (m : ℕ) → m < 2 ^ 128 → All (λ a. m ≤ left_of net.now.arcs a) net.now.path → m ≤ result }
 {
     let mut least = u128::MAX;
     for arc in net.path() {
@@ -36,6 +37,7 @@ fn find_path<L: Ledger>(net: &mut Net, from: u32, to: u32, steps: &mut Steps<L>)
     ensures path { IsPath net.new.arcs from net.new.path to }
     ensures passable { All (IsOpen net.new.arcs 1) net.new.path }
     ensures kept { net.new.path ≢ [] }
+    ensures counted { steps.new ≡ steps.old + 1 }
 {
     net.search(from, to, 1, steps);
 }
@@ -56,6 +58,10 @@ fn push_most(bounds: &Bounds, net: &mut Net, from: u32, to: u32) -> u128
     ensures some { 1 ≤ result }
     ensures within_surplus { result + sold_now bounds.now net.old.arcs from ≤ bought_now bounds.now net.old.arcs from }
     ensures within_shortage { result + bought_now bounds.now net.old.arcs to ≤ sold_now bounds.now net.old.arcs to }
+    ensures most { (m : ℕ)
+        → m + sold_now bounds.now net.old.arcs from ≤ bought_now bounds.now net.old.arcs from
+        → m + bought_now bounds.now net.old.arcs to ≤ sold_now bounds.now net.old.arcs to
+        → All (λ a. m ≤ left_of net.old.arcs a) net.old.path → m ≤ result }
     ensures moved { Moves bounds.now net.old.arcs net.new.arcs from to result }
 {
     let most = surplus(bounds, net, from).min(shortage(bounds, net, to));
@@ -86,6 +92,7 @@ pub fn relieve<L: Ledger>(
     ensures within_surplus { result + sold_now bounds.now net.old.arcs from ≤ bought_now bounds.now net.old.arcs from }
     ensures within_shortage { result + bought_now bounds.now net.old.arcs to ≤ sold_now bounds.now net.old.arcs to }
     ensures moved { Moves bounds.now net.old.arcs net.new.arcs from to result }
+    ensures counted { steps.new ≡ steps.old + 1 }
 {
     find_path(net, from, to, steps);
     push_most(bounds, net, from, to)
@@ -112,6 +119,7 @@ fn has_path<L: Ledger>(net: &mut Net, from: u32, to: u32, steps: &mut Steps<L>) 
     ensures path { OnTrue result (IsPath net.new.arcs from net.new.path to) }
     ensures passable { OnTrue result (All (IsOpen net.new.arcs 1) net.new.path) }
     ensures kept { OnTrue result (net.new.path ≢ []) }
+    ensures counted { steps.new ≡ steps.old + 1 }
 {
     net.search(from, to, 1, steps)
 }
@@ -134,6 +142,7 @@ pub fn relieve_more<L: Ledger>(
     ensures kept { KeepsCovered bounds.now net.old.arcs net.new.arcs }
     ensures less { bought_now bounds.now net.new.arcs from - sold_now bounds.now net.new.arcs from
         ≤ bought_now bounds.now net.old.arcs from - sold_now bounds.now net.old.arcs from }
+    ensures rising { steps.old ≤ steps.new }
 {
     while is_unequal(bounds, net, from, to) && has_path(net, from, to, steps) {
         push_most(bounds, net, from, to);

@@ -1,10 +1,12 @@
 -- How many pushes and searches there are at most.
-use Rattle.std.proofs.Common.{◌≡◌, ℕ, ◌+◌, ◌-◌, ◌*◌, ◌^◌, ◌<◌, ◌≤◌, inl, inr, ap, refl, arith}
+use Rattle.std.proofs.Common.{◌≡◌, ℕ, ◌+◌, ◌-◌, ◌*◌, ◌^◌, ◌<◌, ◌≤◌, inl, inr, ap, refl, sym, arith}
 use Rattle.std.specs.Int.Count.{count_leading_zeros}
 use Rattle.std.proofs.lemmas.Bool.{cases_eq, cases_lt}
 use Rattle.std.proofs.lemmas.Nat.{leading_length, pow-add, pow_below, pow_pos}
 use Rattle.std.proofs.Math.Nat.{mul-le-mul_left, mul-le-mul_right}
-use Rattle.sx_level.specs.Solved.{arc_count, most_searches}
+use Rattle.sx_dual.specs.Tables.{AreBounds, BoundsTable, high_of}
+use Rattle.sx_dual.proofs.Ranges.{entry_range}
+use Rattle.sx_level.specs.Solved.{HaveDigits, arc_count, most_searches}
 
 pub twice : (k : ℕ) → 2 ^ (k + 1) ≡ 2 * 2 ^ k
 twice k = omega (arith, pow-add 2 k 1)
@@ -90,10 +92,44 @@ digits_fewest width value b fits below =
 
 -- ---- all searches
 
-pub all_counted : (n most before now : ℕ) (high : ℕ → ℕ → ℕ) →
-    ((m : ℕ) → ((s b : ℕ) → s < n → b < n → high s b ≤ m) → most ≤ m) →
-    ((d : ℕ) → most < 2 ^ d → now ≤ before + n * (2 * d * arc_count n)) → (d : ℕ) →
-    ((s b : ℕ) → s < n → b < n → high s b < 2 ^ d) → now ≤ before + most_searches n d
-all_counted n most before now high least counted d below =
-    let le = least (2 ^ d - 1) (λ s b s_lt b_lt. omega (arith, below s b s_lt b_lt)) in
-    omega (arith, counted d (omega (arith, le, pow_pos d)), within_most n d)
+-- an asset's entry with itself is 0, so that it has no digits
+below_power : (bounds : BoundsTable) (d : ℕ) → AreBounds bounds → HaveDigits bounds.assets (high_of bounds) d →
+    (s b : ℕ) → s < bounds.assets → b < bounds.assets → high_of bounds s b < 2 ^ d
+below_power bounds d are digits s b s_lt b_lt =
+    elim (cases_eq s b) [
+      | inl same ↦
+          let itself : high_of bounds s b ≡ high_of bounds s s = ap (λ x. high_of bounds s x) (sym same) in
+          omega (arith, itself, are.high.diagonal s s_lt, pow_pos d)
+      | inr other ↦ digits s b s_lt b_lt other
+    ]
+
+-- each entry has at most 103 digits
+most_digits : (bounds : BoundsTable) → AreBounds bounds → HaveDigits bounds.assets (high_of bounds) 103
+most_digits bounds are s b s_lt b_lt other =
+    omega (arith, entry_range bounds.assets bounds.high are.high s b s_lt b_lt)
+
+-- and there are at most 32 assets
+most_of_few : (n : ℕ) → n ≤ 32 → most_searches n 103 ≤ most_searches 32 103
+most_of_few n few =
+    let next : n + 1 ≤ 33 = omega arith in
+    let square : n * (n + 1) ≤ 32 * 33 = omega (arith, times_le n 32 (n + 1) few, mul-le-mul_left 32 next) in
+    let arcs : 2 * arc_count n + 1 ≤ 4225 = omega (arith, square) in
+    let levels : (n + 1) * 104 ≤ 3432 = omega arith in
+    let one : (n + 1) * 104 * (2 * arc_count n + 1) ≤ 3432 * (2 * arc_count n + 1) =
+    times_le ((n + 1) * 104) 3432 (2 * arc_count n + 1) levels in
+    let two : 3432 * (2 * arc_count n + 1) ≤ 3432 * 4225 = mul-le-mul_left 3432 arcs in
+    omega (arith, one, two)
+
+module _ (bounds : BoundsTable) (are : AreBounds bounds) (most before now : ℕ)
+    (least : (m : ℕ) →
+    ((s b : ℕ) → s < bounds.assets → b < bounds.assets → high_of bounds s b ≤ m) → most ≤ m)
+    (counted : (d : ℕ) → most < 2 ^ d → now ≤ before + bounds.assets * (2 * d * arc_count bounds.assets)) where
+  pub all_counted : (d : ℕ) → HaveDigits bounds.assets (high_of bounds) d →
+      now ≤ before + most_searches bounds.assets d
+  all_counted d digits =
+      let le = least (2 ^ d - 1) (λ s b s_lt b_lt. omega (arith, below_power bounds d are digits s b s_lt b_lt)) in
+      omega (arith, counted d (omega (arith, le, pow_pos d)), within_most bounds.assets d)
+
+  pub all_limited : now ≤ before + most_searches 32 103
+  all_limited =
+      omega (arith, all_counted 103 (most_digits bounds are), most_of_few bounds.assets are.assets.few)

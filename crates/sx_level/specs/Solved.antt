@@ -1,8 +1,9 @@
 -- A greatest circulation within bounds, or a cut, and how many searches it takes at most.
-use Rattle.std.specs.Prelude.{◌≡◌, ℕ, ◌+◌, ◌*◌, List, length}
+use Rattle.std.specs.Prelude.{◌≡◌, ℕ, ◌+◌, ◌*◌, ◌^◌, ◌<◌, List, length}
 use Rattle.sx_dual.specs.Circulation.{HaveNoCirculation, IsGreatest}
 use Rattle.sx_dual.specs.Cuts.{IsCutOf}
 use Rattle.sx_dual.specs.Fit.{Fits}
+use Rattle.sx_dual.specs.Sums.{EachPair}
 use Rattle.sx_dual.specs.Tables.{BoundsTable, FlowTable, high_of, low_of, potential_of, value_of}
 use Rattle.sx_level.specs.declared.solving.Solved.{Solved}
 use Rattle.sx_level.specs.declared.solving.Solved.TheVariants.{Best, Cut}
@@ -22,6 +23,10 @@ IsSolved bounds (Cut cut) = IsCutOf bounds cut.0
 abbrev pub IsDecided : BoundsTable → Solved → Type 0
 IsDecided bounds (Best flow potentials) = IsGreatest bounds.assets (low_of bounds) (high_of bounds) (value_of flow)
 IsDecided bounds (Cut cut) = HaveNoCirculation bounds.assets (low_of bounds) (high_of bounds)
+
+-- each pair of n assets may trade less than 2 ^ b: its upper bound has at most b binary digits
+abbrev pub HaveDigits : ℕ → (ℕ → ℕ → ℕ) → ℕ → Type 0
+HaveDigits n high b = EachPair n (λ sell buy. high sell buy < 2 ^ b)
 
 -- how many arcs there are between the assets, and between them, a source and a sink, both ways
 abbrev pub arc_count : ℕ → ℕ

@@ -7,7 +7,7 @@ ghost use Rattle.sx_dual.specs.Tables.{AreBounds, high_of, low_of, potential_of}
 ghost use Rattle.sx_level.specs.Borders.{LeavesAtMost};
 ghost use Rattle.sx_level.specs.Levels.{IsLevel};
 ghost use Rattle.sx_level.specs.Shape.{AreAllowed, AreMatched, IsShaped, total_surplus, traded};
-ghost use Rattle.sx_level.specs.Solved.{IsDecided, IsSolved, arc_count, most_searches};
+ghost use Rattle.sx_level.specs.Solved.{HaveDigits, IsDecided, IsSolved, arc_count, most_searches};
 
 use crate::network::network_of;
 use crate::raising::{allow_pairs, raise};
@@ -91,8 +91,8 @@ fn climb<L: Ledger>(
 
 /// A circulation of greatest value within the bounds and potentials that fit it, or a cut, where there is no
 /// circulation. It may answer `NoMemory` in place of any other answer. For n assets and upper bounds below
-/// `2^b` it makes at most `(n + 1)(b + 1)(4n(n + 1) + 1)` searches, whatever it answers. It takes memory for
-/// the net, and for the answer.
+/// `2^b` it makes at most `(n + 1)(b + 1)(4n(n + 1) + 1)` searches, whatever it answers, and so never more than
+/// 14,500,200, for 32 assets and `2^102`. It takes memory for the net, and for the answer.
 pub fn solve<L: Ledger>(
     alloc: Global,
     bounds: &Bounds,
@@ -100,9 +100,9 @@ pub fn solve<L: Ledger>(
 ) -> Result<Solved, NoMemory>
     ensures solved { IfOk result (IsSolved bounds.now) }
     ensures decided { IfOk result (IsDecided bounds.now) }
-    ensures counted { (b : ℕ)
-        → ((s t : ℕ) → s < bounds.now.assets → t < bounds.now.assets → high_of bounds.now s t < 2 ^ b)
+    ensures counted { (b : ℕ) → HaveDigits bounds.now.assets (high_of bounds.now) b
         → steps.new ≤ steps.old + most_searches bounds.now.assets b }
+    ensures limited { steps.new ≤ steps.old + most_searches 32 103 }
     ensures rising { steps.old ≤ steps.new }
 {
     let mut net = network_of(alloc, bounds)?;

@@ -106,3 +106,33 @@ fn all_the_same(alloc: Global) -> Option<bool> {
 fn the_plain_pair_finds_the_same(rt: HostRuntime) {
     assert_eq!(rt; all_the_same(rt.alloc()), Some(true));
 }
+
+// What is found of the bounds of a kind that are drawn for this many assets.
+fn drawn(alloc: Global, kind: Kind, assets: u32) -> Option<Outcome>
+    requires some { 1 ≤ assets }
+    requires few { assets ≤ 32 }
+{
+    let mut generator = Xoshiro256PlusPlus::seed_from_u64(u64::from(assets));
+    let bounds = bounds_of(alloc, &mut generator, kind, assets)?;
+    solved::<Brand>(alloc, &bounds, Blank::new(1))
+}
+
+// Whether of the bounds drawn for each number of assets some have a circulation and some have none.
+fn answers_both(alloc: Global, kind: Kind) -> Option<bool> {
+    let mut some = false;
+    let mut none = false;
+    for assets in 1..33 {
+        match drawn(alloc, kind, assets)? {
+            Outcome::Greatest(_) => some = true,
+            Outcome::NoneWithin(_) => none = true,
+        }
+    }
+    Some(some && none)
+}
+
+#[test]
+fn bounds_drawn_from_seeds(rt: HostRuntime) {
+    for kind in [Kind::Near, Kind::Far] {
+        assert_eq!(rt; answers_both(rt.alloc(), kind), Some(true), "{kind:?}");
+    }
+}

@@ -1,6 +1,7 @@
 use Rattle.std.proofs.Common.{ap, ◌∙◌}
 use Rattle.sx_clear.proofs.BlockLaws.{can_trade, rounded_by}
 use Rattle.sx_clear.proofs.OfferLaws.{middle_is, offers_at, offers_is}
+use Rattle.sx_clear.proofs.SearchCounts.{counted_for}
 use Rattle.sx_clear.proofs.TradeLaws.{trade_as}
 use Rattle.sx_clear.proofs.clearing.clear_body.Goals as goal
 use Rattle.sx_dual.specs.Tables.{value_of}
@@ -23,7 +24,7 @@ fill-requires-clause-tradable g c =
     (middle_is parts c.args.txs c.args.body c.height-height.ensures.kept asked.admissible asked.body) asked.assets
     c.price_ranges.ensures
     (trade_as parts c.args.txs c.args.prices c.args.mu c.items.result.now c.in_ok-trade.trade asked.assets
-    (c.items.ensures ∙ is) c.in_ok-trade.ensures) c.items-2.result.now (c.items-2.ensures ∙ is)
+    (c.items.ensures ∙ is) c.in_ok-trade.ensures.traded) c.items-2.result.now (c.items-2.ensures ∙ is)
 
 pub block_of-requires-clause-terms : goal.block_of-requires-clause-terms
 block_of-requires-clause-terms g c =
@@ -37,10 +38,19 @@ block_of-requires-clause-terms g c =
       assets = asked.assets;
       in_range = c.price_ranges.ensures;
       trade = trade_as parts txs prices c.args.mu c.items.result.now c.in_ok-trade.trade asked.assets
-          (c.items.ensures ∙ is) c.in_ok-trade.ensures;
+          (c.items.ensures ∙ is) c.in_ok-trade.ensures.traded;
       rounded = rounded_by parts txs prices flow c.in_ok-fills.field-0.rounding c.items-2.result.now asked.assets
           (c.items-2.ensures ∙ is) c.in_ok-fills.ensures.one_each c.in_ok-fills.ensures.rounding;
       after = c.in_ok-after.ensures.hash txs flow asked.admissible asked.body
           (c.items-3.ensures ∙ c.in_ok-fills.ensures.fills
           ∙ ap (all_fills prices flow) (c.items-2.ensures ∙ is));
     }
+
+pub returns-clause-counted : goal.returns-clause-counted
+returns-clause-counted g c =
+    let parts = c.args.ledger.now in
+    let txs = c.args.txs in
+    let asked = c.requires in
+    counted_for parts txs c.args.prices c.items.result.now c.args.steps.now c.trade_at.new.steps c.block_of.result
+    asked.assets (c.items.ensures ∙ offers_is parts txs c.args.body asked.admissible asked.body)
+    c.trade_at.ensures.counted c.block_of.ensures.txs c.block_of.ensures.prices

@@ -7,4 +7,5 @@ invariant-loop-asset g l = record {
   nodes : l.net.nodes ≡ l.bounds.assets + 1;
   shaped : IsShaped l.bounds l.net.arcs;
   covered : (v : ℕ) → v < l.asset → bought_now l.bounds l.net.arcs v ≤ sold_now l.bounds l.net.arcs v;
+  rising : l.initial.steps ≤ l.steps;
 }

@@ -17,6 +17,14 @@ loop-arc-preserved c =
           (λ k d lt. omega (arith, c.loop-arc.invariant.enough k d lt, c.min-least.ensures))
           (omega (arith, read, c.min-least.ensures));
       some = omega (arith, read, some, c.min-least.ensures);
+      most = λ m fits all.
+          omega (
+            arith,
+            read,
+            all c.loop-arc.arc-index 0 within,
+            c.loop-arc.invariant.most m fits all,
+            c.min-least.ensures,
+          );
     }
 
 pub returns-clause-enough : goal.returns-clause-enough

@@ -9,6 +9,7 @@ invariant-loop-net g l = record {
   kept : KeepsCovered l.bounds l.initial.net.arcs l.net.arcs;
   less : bought_now l.bounds l.net.arcs l.from - sold_now l.bounds l.net.arcs l.from
       ≤ bought_now l.bounds l.initial.net.arcs l.from - sold_now l.bounds l.initial.net.arcs l.from;
+  rising : l.initial.steps ≤ l.steps;
 }
 
 abbrev pub decreases-loop-net : goal.decreases-loop-net

@@ -3,7 +3,7 @@ use Rattle.std.specs.Prelude.{replicate, slice_index}
 use Rattle.std.proofs.lemmas.List.{get_or-replicate, length-replicate}
 use Rattle.sx_dual.specs.Tables.{high_of, low_of, potential_of, value_of}
 use Rattle.sx_level.specs.Shape.{traded}
-use Rattle.sx_level.proofs.Counting.{all_counted}
+use Rattle.sx_level.proofs.Counting.{all_counted, all_limited}
 use Rattle.sx_level.proofs.Gaps.{same_fits}
 use Rattle.sx_level.proofs.Starting.{first_level}
 use Rattle.sx_level.proofs.WrittenBack.{written_back}
@@ -28,13 +28,23 @@ returns-in-Some-clause-decided g c =
 
 pub returns-in-Some-clause-counted : goal.returns-in-Some-clause-counted
 returns-in-Some-clause-counted g c =
-    all_counted c.args.bounds.now.assets c.greatest_high-most.result c.args.steps.now c.climb.new.steps
-    (high_of c.args.bounds.now) c.greatest_high-most.ensures.least c.climb.ensures.counted
+    all_counted c.args.bounds.now c.assets.ensures.bounds c.greatest_high-most.result c.args.steps.now
+    c.climb.new.steps c.greatest_high-most.ensures.least c.climb.ensures.counted
+
+pub returns-in-Some-clause-limited : goal.returns-in-Some-clause-limited
+returns-in-Some-clause-limited g c =
+    all_limited c.args.bounds.now c.assets.ensures.bounds c.greatest_high-most.result c.args.steps.now
+    c.climb.new.steps c.greatest_high-most.ensures.least c.climb.ensures.counted
 
 pub returns-in_err-flow_of-in-None-clause-counted : goal.returns-in_err-flow_of-in-None-clause-counted
 returns-in_err-flow_of-in-None-clause-counted g c =
-    all_counted c.args.bounds.now.assets c.greatest_high-most.result c.args.steps.now c.climb.new.steps
-    (high_of c.args.bounds.now) c.greatest_high-most.ensures.least c.climb.ensures.counted
+    all_counted c.args.bounds.now c.assets.ensures.bounds c.greatest_high-most.result c.args.steps.now
+    c.climb.new.steps c.greatest_high-most.ensures.least c.climb.ensures.counted
+
+pub returns-in_err-flow_of-in-None-clause-limited : goal.returns-in_err-flow_of-in-None-clause-limited
+returns-in_err-flow_of-in-None-clause-limited g c =
+    all_limited c.args.bounds.now c.assets.ensures.bounds c.greatest_high-most.result c.args.steps.now
+    c.climb.new.steps c.greatest_high-most.ensures.least c.climb.ensures.counted
 
 pub returns-clause-solved : goal.returns-clause-solved
 returns-clause-solved g c =
@@ -66,5 +76,10 @@ returns-clause-decided g c =
 
 pub returns-clause-counted : goal.returns-clause-counted
 returns-clause-counted g c =
-    all_counted c.args.bounds.now.assets c.greatest_high-most.result c.args.steps.now c.climb.new.steps
-    (high_of c.args.bounds.now) c.greatest_high-most.ensures.least c.climb.ensures.counted
+    all_counted c.args.bounds.now c.assets.ensures.bounds c.greatest_high-most.result c.args.steps.now
+    c.climb.new.steps c.greatest_high-most.ensures.least c.climb.ensures.counted
+
+pub returns-clause-limited : goal.returns-clause-limited
+returns-clause-limited g c =
+    all_limited c.args.bounds.now c.assets.ensures.bounds c.greatest_high-most.result c.args.steps.now
+    c.climb.new.steps c.greatest_high-most.ensures.least c.climb.ensures.counted

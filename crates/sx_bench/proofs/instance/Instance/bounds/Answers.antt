@@ -1,5 +1,5 @@
 use Rattle.std.proofs.Common.{arith}
-use Rattle.sx_circ.proofs.Tables.{fill_more}
+use Rattle.sx_bench.proofs.Tables.{fill_more}
 use Rattle.sx_bench.proofs.Spans.{ordered_more}
 use Rattle.sx_bench.proofs.instance.Instance.bounds.Goals as goal
 

@@ -1,5 +1,5 @@
 use Rattle.std.proofs.Common.{ℕ, ◌<◌, ◌≤◌, slice_index}
-use Rattle.sx_circ.proofs.Tables.{IsFilled}
+use Rattle.sx_bench.proofs.Tables.{IsFilled}
 use Rattle.sx_bench.proofs.instance.Instance.bounds.Given as goal
 
 abbrev pub invariant-loop-place : goal.invariant-loop-place

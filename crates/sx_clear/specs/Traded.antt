@@ -1,31 +1,17 @@
 -- What pairs trade within bounds.
-use Rattle.std.specs.Prelude.{◌≡◌, ℕ, false, List, length, Some, is_some, if◌then◌else◌}
+use Rattle.std.specs.Prelude.{◌≡◌, ℕ, false, List, Some, is_some, if◌then◌else◌}
 use Rattle.sx_block.specs.Block.{CutFits}
 use Rattle.sx_block.specs.Validity.{CutHolds}
-use Rattle.sx_clear.specs.declared.solving.Solved.{Solved}
-use Rattle.sx_clear.specs.declared.solving.Solved.TheVariants.{Best, Cut}
 use Rattle.sx_clear.specs.declared.trade.Trade.{Trade}
 use Rattle.sx_dual.specs.declared.cut.Cut.{Cut as Set}
-use Rattle.sx_dual.specs.Fit.{Fits}
 use Rattle.sx_dual.specs.Sums.{EachPair}
-use Rattle.sx_dual.specs.Tables.{BoundsTable, FlowTable, high_of, low_of, potential_of, value_of}
-use Rattle.sx_dual.specs.Cuts.{IsCutOf}
+use Rattle.sx_dual.specs.Tables.{BoundsTable, high_of, low_of}
 use Rattle.sx_ledger.specs.declared.parts.Parts.{Parts}
 use Rattle.sx_ledger.specs.Body.{body_after}
 use Rattle.sx_ledger.specs.Bounds.{high_of as high_at, low_of as low_at}
 use Rattle.sx_ledger.specs.Ledger.{assets_of}
+use Rattle.sx_level.specs.Solved.{IsBest}
 use Rattle.sx_tx.specs.declared.tx.Tx.{Tx}
-
--- a flow and potentials of n assets that fit the bounds
-pub record IsBest (n : ℕ) (low high : ℕ → ℕ → ℕ) (flow : FlowTable) (potentials : List ℕ) : Type 0 where
-  pub same_assets : flow.assets ≡ n
-  pub one_potential : length potentials ≡ n
-  pub fits : Fits n low high (value_of flow) (potential_of potentials)
-
--- they fit the bounds, or the cut is one by the bounds
-abbrev pub IsSolved : BoundsTable → Solved → Type 0
-IsSolved bounds (Best flow potentials) = IsBest bounds.assets (low_of bounds) (high_of bounds) flow potentials
-IsSolved bounds (Cut cut) = IsCutOf bounds cut.0
 
 -- the lower bounds, or 0 for each pair where there is a cut
 abbrev pub kept_low : Trade → (ℕ → ℕ → ℕ) → ℕ → ℕ → ℕ

@@ -2,17 +2,17 @@ use Rattle.std.proofs.Common.{◌≡◌, ◌∙◌, rules, arith}
 use Rattle.sx_circ.proofs.Ending.{kept_flow, level_fits}
 use Rattle.sx_circ.proofs.WrittenBack.{written_back}
 use Rattle.sx_dual.specs.Tables.{entry_at, high_of, low_of, potential_of}
-use Rattle.sx_circ.proofs.solver.cancelled.Goals as goal
+use Rattle.sx_circ.proofs.solver.best.Goals as goal
 
 pub of-requires : goal.of-requires
-of-requires c =
+of-requires g c =
     let back = written_back c.into_values-values.result.len c.cancel_all.new.values
     c.into_values-values.result.items (search rules) (search rules) in
     rw (back, c.assets-assets.ensures.assets)
     (kept_flow c.args.bounds.now c.cancel_all.new.values c.assets-assets.ensures.bounds c.cancel_all.ensures.keeps)
 
 pub returns-clause-fits : goal.returns-clause-fits
-returns-clause-fits c =
+returns-clause-fits g c =
     let bounds = c.args.bounds.now in
     let values = c.cancel_all.new.values in
     let back = written_back c.into_values-values.result.len values c.into_values-values.result.items (search rules)
@@ -33,7 +33,7 @@ returns-clause-fits c =
     (λ k lt. each k (omega (arith, c.cancel_all.ensures.count))))
 
 pub returns-clause-greatest : goal.returns-clause-greatest
-returns-clause-greatest c =
+returns-clause-greatest g c =
     let bounds = c.args.bounds.now in
     let values = c.cancel_all.new.values in
     let back = written_back c.into_values-values.result.len values c.into_values-values.result.items (search rules)
