@@ -7,8 +7,8 @@ use Rattle.sx_run.specs.declared.status.Status.{Status}
 use Rattle.sx_run.specs.declared.status.Status.TheVariants as status
 use Rattle.sx_run.specs.declared.stop.Stop.{Stop}
 use Rattle.sx_run.specs.declared.stop.Stop.TheVariants as stop
-use Rattle.sx_run.specs.Answers.{Answers, Completes, FindsIn, FitsWords, Found, IsRead, asked, if_built, status_of}
-use Rattle.sx_run.specs.Findings.{Finding, Finds, is_built, malformed, output, refused}
+use Rattle.sx_run.specs.Answers.{Answers, Completes, FitsWords, Found, IsRead, MayWriteIn, asked, if_built, status_of}
+use Rattle.sx_run.specs.Findings.{Finding, Finds, is_built, malformed, no_fault, refused}
 use Rattle.sx_run.specs.Laws.{FindsOne}
 use Rattle.sx_run.specs.Running.{IsWritten, Tells}
 use Rattle.sx_run.specs.Status.{UnlessReadFails, status_at}
@@ -21,7 +21,7 @@ use Rattle.sx_words.specs.Numbers.{texts}
 -- ---- the answer
 
 written : (command : Command) (a b old new : Option (List ℕ)) (text : List ℕ) (s : Status)
-    → FindsIn command a b (output text) → IsWritten old new text s → Answers command a b old new s
+    → MayWriteIn command a b text → IsWritten old new text s → Answers command a b old new s
 written command a b old new text status.Done finds is = (text, finds, is)
 written command a b old new text status.WriteFault finds is = (text, finds, is)
 written command a b old new text status.Usage finds is = absurd is
@@ -97,7 +97,7 @@ pub completes : FindsOne → (command : Command) (a b old new : Option (List ℕ
     → Answers command a b old new s → (s ≡ status.ReadFault → ⊥) → (s ≡ status.WriteFault → ⊥) → Completes command a s
 completes one command None b old new s answer no_read no_write = tt
 completes one command (Some bytes) b old new status.Done answer no_read no_write = λ found left finds.
-    inl (one_status one command bytes _ left (output answer.0) found answer.1.1 finds)
+    inl (one_status one command bytes _ left no_fault found answer.1.1.found finds)
 completes one command (Some bytes) b old new status.Usage answer no_read no_write = absurd answer
 completes one command (Some bytes) b old new status.ReadFault answer no_read no_write = absurd (no_read refl)
 completes one command (Some bytes) b old new status.WriteFault answer no_read no_write = absurd (no_write refl)

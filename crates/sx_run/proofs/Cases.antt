@@ -14,7 +14,7 @@ use Rattle.sx_words.specs.declared.command.Command.{Command}
 use Rattle.sx_words.specs.declared.command.Command.TheVariants.{Check, Interleave, Replay}
 use Rattle.sx_run.specs.Answers.{Answers, Completes, FitsWords}
 use Rattle.sx_run.specs.Expected.{item_at}
-use Rattle.sx_run.specs.Findings.{Finding, Finds, malformed, output, refused}
+use Rattle.sx_run.specs.Findings.{Finding, Finds, malformed, no_fault}
 use Rattle.sx_run.specs.Status.{UnlessReadFails, UnlessWriteFails, is_silent}
 
 -- ---- what holds at which answer
@@ -92,8 +92,8 @@ module _ (command : Command) (bytes text left : List ℕ) (fault : FormFault) wh
   wrong (inl e) = cc
   wrong (inr e) = cc
 
-  found_is_told : Finds command bytes (output text) left → Completes command (Some bytes) (Malformed fault) → ⊥
-  found_is_told finds completes = wrong (completes (output text) left finds)
+  found_is_told : Finds command bytes no_fault left → Completes command (Some bytes) (Malformed fault) → ⊥
+  found_is_told finds completes = wrong (completes no_fault left finds)
 
 -- a prefix is a beginning
 not_any_bytes : AppendsPrefix (Some []) (Some (1 ∷ [])) (2 ∷ []) → ⊥

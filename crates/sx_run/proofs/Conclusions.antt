@@ -11,10 +11,9 @@ use Rattle.sx_layout.specs.Room.{room_for}
 use Rattle.sx_ledger.specs.declared.parts.Parts.{Parts}
 use Rattle.sx_words.specs.declared.command.Command.{Command}
 use Rattle.sx_words.specs.declared.command.Command.TheVariants.{Check, Demo, Interleave, Migrate, Replay, Seal, Show}
-use Rattle.sx_ledger.specs.Ledger.{migrated}
-use Rattle.sx_run.specs.Findings.{Checks, Concludes, Finding, FindsInBlock, FindsInRun, Interleaves, Migrates}
-use Rattle.sx_run.specs.Findings.{RefusesNext, Replays, StopsAt, as_invalid, malformed, output, refused}
-use Rattle.sx_run.specs.Items.{Item, block, candidates, item_record, script, state}
+use Rattle.sx_run.specs.Findings.{Checks, Concludes, Finding, FindsInBlock, FindsRoom, Interleaves, Migrates}
+use Rattle.sx_run.specs.Findings.{RefusesNext, Replays, Seals, StopsAt, as_invalid, malformed, no_fault, refused}
+use Rattle.sx_run.specs.Items.{Item, block, candidates, script, state}
 use Rattle.sx_run.specs.Replays.{blocks_of, ledger_after_all}
 use Rattle.sx_tx.specs.declared.tx.Tx.{Tx}
 
@@ -24,6 +23,10 @@ module _ (items : List Item) where
   one_block : (p q : Parts) (b d : Block) → items ≡ state p ∷ block b ∷ [] → items ≡ state q ∷ block d ∷ [] →
       ◌≡◌ {A = Parts × Block} (p, b) (q, d)
   one_block p q b d x y = let same = sym x ∙ y in cc
+
+  one_gathering : (p q : Parts) (cs ds : List Tx) → items ≡ state p ∷ candidates cs ∷ []
+      → items ≡ state q ∷ candidates ds ∷ [] → ◌≡◌ {A = Parts × List Tx} (p, cs) (q, ds)
+  one_gathering p q cs ds x y = let same = sym x ∙ y in cc
 
   one_run : (p q : Parts) (cs ds : List Tx) (s t : Script) → items ≡ state p ∷ candidates cs ∷ script s ∷ []
       → items ≡ state q ∷ candidates ds ∷ script t ∷ [] → ◌≡◌ {A = Parts × List Tx × Script} (p, cs, s) (q, ds, t)
@@ -39,11 +42,11 @@ module _ (one_reason : OneReason) (not_refused : ValidIsNotRefused) where
   one_in_block : (parts : Parts) (said : Block) (f g : Finding) → FindsInBlock parts said f
       → FindsInBlock parts said g →
       f ≡ g
-  one_in_block parts said (output text) (output other) x y = ap (λ (t : List ℕ). output t) (x.1 ∙ sym y.1)
-  one_in_block parts said (output text) (malformed fault) x y = absurd y
-  one_in_block parts said (output text) (refused number why) x y = absurd (not_refused parts said why x.0 y.1)
+  one_in_block parts said no_fault no_fault x y = refl
+  one_in_block parts said no_fault (malformed fault) x y = absurd y
+  one_in_block parts said no_fault (refused number why) x y = absurd (not_refused parts said why x y.1)
   one_in_block parts said (malformed fault) g x y = absurd x
-  one_in_block parts said (refused number why) (output text) x y = absurd (not_refused parts said why y.0 x.1)
+  one_in_block parts said (refused number why) no_fault x y = absurd (not_refused parts said why y x.1)
   one_in_block parts said (refused number why) (malformed fault) x y = absurd y
   one_in_block parts said (refused number why) (refused other reason) x y =
       ap (λ (w : Invalid). refused number w) (one_reason parts said why reason x.1 y.1)
@@ -58,12 +61,9 @@ module _ (one_reason : OneReason) (not_refused : ValidIsNotRefused) where
   -- ---- replay
 
   one_replay : (items : List Item) (f g : Finding) → Replays items f → Replays items g → f ≡ g
-  one_replay items f g x y =
-      x.finds
-      ∙ ap (λ (p : Parts × List Item). output (item_record (state (ledger_after_all p.0 (blocks_of p.1)))))
-      (one_chain items x.parts y.parts x.others y.others x.are y.are) ∙ sym y.finds
+  one_replay items f g x y = x.finds ∙ sym y.finds
 
-  -- ---- interleave
+  -- ---- candidates
 
   one_room : (parts : Parts) (txs : List Tx) (why : NoRoom) → room_for parts txs ≡ Ok tt
       → room_for parts txs ≡ Err why →
@@ -74,35 +74,35 @@ module _ (one_reason : OneReason) (not_refused : ValidIsNotRefused) where
       → room_for parts txs ≡ Err other → why ≡ other
   one_no_room parts txs why other none nor = let both = sym none ∙ nor in cc
 
-  one_in_run : (parts : Parts) (txs : List Tx) (turns : Script) (f g : Finding) → FindsInRun parts txs turns f
-      → FindsInRun parts txs turns g → f ≡ g
-  one_in_run parts txs turns (output text) (output other) x y = ap (λ (t : List ℕ). output t) (x.1 ∙ sym y.1)
-  one_in_run parts txs turns (output text) (malformed fault) x y = absurd y
-  one_in_run parts txs turns (output text) (refused number why) x y = absurd (one_room parts txs y.1.0 x.0 y.1.1)
-  one_in_run parts txs turns (malformed fault) g x y = absurd x
-  one_in_run parts txs turns (refused number why) (output text) x y = absurd (one_room parts txs x.1.0 y.0 x.1.1)
-  one_in_run parts txs turns (refused number why) (malformed fault) x y = absurd y
-  one_in_run parts txs turns (refused number why) (refused other reason) x y =
+  one_for_room : (parts : Parts) (txs : List Tx) (f g : Finding) → FindsRoom parts txs f → FindsRoom parts txs g
+      → f ≡ g
+  one_for_room parts txs no_fault no_fault x y = refl
+  one_for_room parts txs no_fault (malformed fault) x y = absurd y
+  one_for_room parts txs no_fault (refused number why) x y = absurd (one_room parts txs y.1.0 x y.1.1)
+  one_for_room parts txs (malformed fault) g x y = absurd x
+  one_for_room parts txs (refused number why) no_fault x y = absurd (one_room parts txs x.1.0 y x.1.1)
+  one_for_room parts txs (refused number why) (malformed fault) x y = absurd y
+  one_for_room parts txs (refused number why) (refused other reason) x y =
       ap (λ (w : Invalid). refused number w)
       (x.1.2 ∙ ap as_invalid (one_no_room parts txs x.1.0 y.1.0 x.1.1 y.1.1) ∙ sym y.1.2)
       ∙ ap (λ (n : ℕ). refused n reason) (x.0 ∙ sym y.0)
 
+  one_seal : (items : List Item) (f g : Finding) → Seals items f → Seals items g → f ≡ g
+  one_seal items f g x y =
+      one_for_room y.parts y.txs f g
+      (subst (λ (p : Parts × List Tx). FindsRoom p.0 p.1 f)
+      (one_gathering items x.parts y.parts x.txs y.txs x.are y.are) x.finds) y.finds
+
   one_interleave : (items : List Item) (f g : Finding) → Interleaves items f → Interleaves items g → f ≡ g
   one_interleave items f g x y =
-      one_in_run y.parts y.txs y.turns f g
-      (subst (λ (p : Parts × List Tx × Script). FindsInRun p.0 p.1 p.2 f)
+      one_for_room y.parts y.txs f g
+      (subst (λ (p : Parts × List Tx × Script). FindsRoom p.0 p.1 f)
       (one_run items x.parts y.parts x.txs y.txs x.turns y.turns x.are y.are) x.finds) y.finds
 
   -- ---- migrate
 
-  one_state : (items : List Item) (p q : Parts) → items ≡ state p ∷ [] → items ≡ state q ∷ [] → p ≡ q
-  one_state items p q x y = let same = sym x ∙ y in cc
-
   one_migration : (items : List Item) (f g : Finding) → Migrates items f → Migrates items g → f ≡ g
-  one_migration items f g x y =
-      x.finds ∙ ap (λ (p : Parts). output (item_record (state (migrated p))))
-      (one_state items x.parts y.parts x.are y.are)
-      ∙ sym y.finds
+  one_migration items f g x y = x.finds ∙ sym y.finds
 
   -- ---- all commands
 
@@ -111,7 +111,7 @@ module _ (one_reason : OneReason) (not_refused : ValidIsNotRefused) where
   one_conclusion Check = one_check
   one_conclusion (Replay workers) = one_replay
   one_conclusion Interleave = one_interleave
-  one_conclusion (Seal workers shards mu rounds) = λ items f g x y. absurd x
+  one_conclusion (Seal workers shards mu rounds) = one_seal
   one_conclusion Show = λ items f g x y. absurd x
   one_conclusion Migrate = one_migration
   one_conclusion (Demo seed workers) = λ items f g x y. absurd x

@@ -6,6 +6,9 @@ pub mod Taken
 pub mod Readings
 pub mod Conclusions
 pub mod OneFinding
+pub mod Outputs
+pub mod Gathered
+pub mod Seals
 pub mod Chains
 pub mod Settlements
 pub mod Blocks

@@ -16,7 +16,7 @@ use Rattle.sx_words.specs.declared.command.Command.{Command}
 use Rattle.sx_words.specs.declared.command.Command.TheVariants.{Check, Demo, Interleave, Migrate, Replay, Seal, Show}
 use Rattle.sx_run.specs.Expected.{Expected, IsExpected, end_only, item_at, may_end, record_of}
 use Rattle.sx_run.specs.Findings.{Concludes, Finding, Finds, FindsAfter, FindsAtBlock, FindsAtEnd, IsNextValid, MayCome}
-use Rattle.sx_run.specs.Findings.{MayComeAll, RefusesNext, StopsAt, expected, malformed, output, refused}
+use Rattle.sx_run.specs.Findings.{MayComeAll, RefusesNext, StopsAt, expected, malformed, no_fault, refused}
 use Rattle.sx_run.specs.Items.{IsItem, Item, block, item_record, records, state, tag_of}
 use Rattle.sx_run.specs.Laws.{FindsOne}
 use Rattle.sx_run.specs.Replays.{blocks_of, ends_with_block, expected_in_replay, ledger_after_all, most_blocks}
@@ -163,7 +163,7 @@ module _ (one_reason : OneReason) (not_refused : ValidIsNotRefused) where
 
   stuck : (command : Command) (items : List Item) (bytes left : List ℕ) (finding : Finding)
       → FindsAfter command items bytes finding left → Stuck command items bytes
-  stuck command items bytes left (output text) finds = stuck_at_end command items bytes finds.at_end
+  stuck command items bytes left no_fault finds = stuck_at_end command items bytes finds.at_end
   stuck command items bytes left (malformed fault) finds =
       stuck_at_fault command items (length (records items)) bytes left fault finds
   stuck command items bytes left (refused number why) (inl finds) = stuck_at_end command items bytes finds.at_end
@@ -224,20 +224,20 @@ module _ (one_reason : OneReason) (not_refused : ValidIsNotRefused) where
 
     one_after : (f g : Finding) → FindsAfter command items bytes f left → FindsAfter command items bytes g right
         → (f ≡ g) × (left ≡ right)
-    one_after (output text) (output other) x y = at_end_twice (output text) (output other) x y
-    one_after (output text) (malformed fault) x y = absurd (end_or_fault (output text) fault left right x y)
-    one_after (output text) (refused number why) x (inl y) = at_end_twice (output text) (refused number why) x y
-    one_after (output text) (refused number why) x (inr y) =
-        absurd (end_or_block (output text) number why right left x y)
-    one_after (malformed fault) (output text) x y = absurd (end_or_fault (output text) fault right left y x)
+    one_after no_fault no_fault x y = at_end_twice no_fault no_fault x y
+    one_after no_fault (malformed fault) x y = absurd (end_or_fault no_fault fault left right x y)
+    one_after no_fault (refused number why) x (inl y) = at_end_twice no_fault (refused number why) x y
+    one_after no_fault (refused number why) x (inr y) =
+        absurd (end_or_block no_fault number why right left x y)
+    one_after (malformed fault) no_fault x y = absurd (end_or_fault no_fault fault right left y x)
     one_after (malformed fault) (malformed other) x y = faulty_twice fault other x y
     one_after (malformed fault) (refused number why) x (inl y) =
         absurd (end_or_fault (refused number why) fault right left y x)
     one_after (malformed fault) (refused number why) x (inr y) =
         absurd (block_or_fault number why fault right left y x)
-    one_after (refused number why) (output text) (inl x) y = at_end_twice (refused number why) (output text) x y
-    one_after (refused number why) (output text) (inr x) y =
-        absurd (end_or_block (output text) number why left right y x)
+    one_after (refused number why) no_fault (inl x) y = at_end_twice (refused number why) no_fault x y
+    one_after (refused number why) no_fault (inr x) y =
+        absurd (end_or_block no_fault number why left right y x)
     one_after (refused number why) (malformed fault) (inl x) y =
         absurd (end_or_fault (refused number why) fault left right x y)
     one_after (refused number why) (malformed fault) (inr x) y =
@@ -260,3 +260,10 @@ module _ (one_reason : OneReason) (not_refused : ValidIsNotRefused) where
       one_after command y.items y.rest left right one other
       (subst (λ (r : List ℕ). FindsAfter command y.items r one left) same.1
       (subst (λ (l : List Item). FindsAfter command l x.rest one left) same.0 x.finds)) y.finds
+
+  -- the items of an input without fault are one list
+  pub one_reading : (command : Command) (bytes left right : List ℕ) (x : Finds command bytes no_fault left)
+      (y : Finds command bytes no_fault right) → x.items ≡ y.items
+  one_reading command bytes left right x y =
+      (same_items command [] x.items y.items x.rest y.rest x.each y.each (sym x.read ∙ y.read)
+      (stuck command x.items x.rest left no_fault x.finds) (stuck command y.items y.rest right no_fault y.finds)).0

@@ -13,11 +13,12 @@ use Rattle.sx_record.specs.Tags.{state_tag}
 use Rattle.sx_run.specs.declared.stop.Stop.{Stop}
 use Rattle.sx_run.specs.declared.stop.Stop.TheVariants as stop
 use Rattle.sx_words.specs.declared.command.Command.{Command}
-use Rattle.sx_run.specs.Answers.{ConcludesAs, FindsIn, FindsInSome, Found, IsRead}
+use Rattle.sx_run.specs.Answers.{ConcludesAs, FindsIn, FindsInSome, Found, IsRead, MayWriteIn}
 use Rattle.sx_run.specs.Expected.{Expected, IsExpected, item_at, may_end, needed}
 use Rattle.sx_run.specs.Findings.{Concludes, Finding, Finds, FindsAfter, FindsAtEnd, GoesOn, MayCome, MayComeAll}
-use Rattle.sx_run.specs.Findings.{expected, malformed, output, refused}
+use Rattle.sx_run.specs.Findings.{expected, malformed, no_fault, refused}
 use Rattle.sx_run.specs.Items.{Item, item_record, records, state}
+use Rattle.sx_run.specs.Outputs.{MayWrite, Writes}
 use Rattle.sx_run.specs.Stream.{FaultsAt, Stops, WasAtEnd}
 
 -- ---- lists of items
@@ -149,15 +150,32 @@ module _ (command : Command) (items : List Item) (at : ℕ) where
     record { items = items; rest = []; each = each; read = sym (append-nil (records items)); finds = finds },
   )
 
+  may_write : (bytes rest left text : List ℕ) → MayComeAll command [] items → bytes ≡ records items ++ rest
+      → FindsAtEnd command items rest no_fault left → Writes command items text → MayWrite command bytes text left
+  may_write bytes rest left text each read at_end writes = record {
+    found = record { items = items; rest = rest; each = each; read = read; finds = at_end };
+    writes = writes;
+  }
+
   pub writes : (a b d : Option (List ℕ)) (text : List ℕ) → HasRead command a b items at → WasAtEnd b d
-      → IsTrue (may_end (expected command items)) → Concludes command items (output text)
-      → FindsIn command a d (output text)
-  writes None b d text so_far ended may concludes =
-      in_some (output text) so_far.each (ends [] [] (output text) refl refl may concludes)
-  writes (Some bytes) None d text so_far ended may concludes =
+      → IsTrue (may_end (expected command items)) → Concludes command items no_fault → Writes command items text
+      → MayWriteIn command a d text
+  writes None b d text so_far ended may concludes writes_it = (
+    records items,
+    [],
+    may_write (records items) [] [] text so_far.each (sym (append-nil (records items)))
+        (ends [] [] no_fault refl refl may concludes) writes_it,
+  )
+  writes (Some bytes) None d text so_far ended may concludes writes_it =
       absurd (let n : Some so_far.took.0 ≡ None = sym so_far.took.2 in cc)
-  writes (Some bytes) (Some rest) d text so_far ended may concludes =
-      finds_here bytes rest (output text) [] d so_far (ends rest [] (output text) ended.0 refl may concludes) ended.1
+  writes (Some bytes) (Some rest) d text so_far ended may concludes writes_it =
+      let same : rest ≡ so_far.took.0 = cc in (
+        [],
+        may_write bytes rest [] text so_far.each
+            (so_far.took.1 ∙ ap (λ (r : List ℕ). records items ++ r) (sym same))
+            (ends rest [] no_fault ended.0 refl may concludes) writes_it,
+        ended.1,
+      )
 
   refuses : (a b d : Option (List ℕ)) (number : ℕ) (why : Invalid) → HasRead command a b items at → WasAtEnd b d
       → IsTrue (may_end (expected command items)) → Concludes command items (refused number why)
@@ -172,7 +190,7 @@ module _ (command : Command) (items : List Item) (at : ℕ) where
 
   pub concludes : (a b d : Option (List ℕ)) (r : Result (List ℕ) Stop) → HasRead command a b items at → WasAtEnd b d
       → IsTrue (may_end (expected command items)) → ConcludesAs command items r → Found command a d r
-  concludes a b d (Ok text) so_far ended may finds = writes a b d text so_far ended may finds
+  concludes a b d (Ok text) so_far ended may finds = writes a b d text so_far ended may finds.0 finds.1
   concludes a b d (Err (stop.Refused number why)) so_far ended may finds =
       refuses a b d number why so_far ended may finds
   concludes a b d (Err (stop.Malformed fault)) so_far ended may finds = absurd finds
@@ -181,8 +199,8 @@ module _ (command : Command) (items : List Item) (at : ℕ) where
 
 -- ---- an output comes at the end of the input
 
-pub read_whole : (command : Command) (a b : Option (List ℕ)) (text : List ℕ) → FindsIn command a b (output text)
+pub read_whole : (command : Command) (a b : Option (List ℕ)) (text : List ℕ) → MayWriteIn command a b text
     → IsRead a b
 read_whole command None b text finds = tt
 read_whole command (Some bytes) b text finds =
-    finds.2 ∙ ap (λ (r : List ℕ). Some r) finds.1.finds.none_left
+    finds.2 ∙ ap (λ (r : List ℕ). Some r) finds.1.found.finds.none_left

@@ -21,8 +21,7 @@ use Rattle.sx_run.specs.declared.stop.Stop.TheVariants as stop
 use Rattle.sx_words.specs.declared.command.Command.TheVariants.{Replay}
 use Rattle.sx_run.specs.Answers.{FindsIn, FindsInSome, Found}
 use Rattle.sx_run.specs.Expected.{Expected, IsExpected, item_at, needed, record_of}
-use Rattle.sx_run.specs.Findings.{Finding, Finds, FindsAtBlock, IsValidOn, MayCome, MayComeAll, expected, output}
-use Rattle.sx_run.specs.Findings.{refused}
+use Rattle.sx_run.specs.Findings.{Finding, Finds, FindsAtBlock, IsValidOn, MayCome, MayComeAll, expected, refused}
 use Rattle.sx_run.specs.Head.{IsHead}
 use Rattle.sx_run.specs.Items.{Item, block, item_record, records, state, state_record, tag_of}
 use Rattle.sx_run.specs.Replaying.{HasReplayed, IsNext, RefusesNext, Steps, StepsTo, blocks_then, expected_at, is_full}
@@ -121,12 +120,10 @@ pub finishes : (input left after : Option (List ℕ)) (place : Place) (text : Li
     → (workers : ℕ) → Found (Replay workers) input after (Ok text)
 finishes input left after place text so_far ended is_record workers =
     concludes (Replay workers) (so_far_items input left place so_far) place.at input left after (Ok text)
-    (has_read input left place so_far workers) ended refl (record {
-      parts = so_far.parts;
-      others = so_far.others;
-      are = refl;
-      finds = ap (λ (t : List ℕ). output t) (is_record ∙ ap (λ (l : Parts). state_record l) so_far.ledger);
-    })
+    (has_read input left place so_far workers) ended refl (
+      record { parts = so_far.parts; others = so_far.others; are = refl; finds = refl },
+      is_record ∙ ap (λ (l : Parts). state_record l) so_far.ledger,
+    )
 
 -- ---- no record
 

@@ -12,7 +12,6 @@ use Rattle.sx_block.specs.Validity.{IsValid}
 use Rattle.sx_bytes.specs.declared.fault.FormFault.{FormFault}
 use Rattle.sx_bytes.specs.Field.{AreBytes}
 use Rattle.sx_check.specs.declared.invalid.Invalid.{Invalid}
-use Rattle.sx_check.specs.Checked.{checked_of}
 use Rattle.sx_check.specs.Laws.{EveryBlockIsJudged}
 use Rattle.sx_check.specs.Refusals.{Refuses}
 use Rattle.sx_layout.specs.declared.script.Script.{Script}
@@ -25,12 +24,11 @@ use Rattle.sx_words.specs.declared.command.Command.{Command}
 use Rattle.sx_words.specs.declared.command.Command.TheVariants.{Check, Demo, Interleave, Migrate, Replay, Seal, Show}
 use Rattle.sx_run.specs.Expected.{Expected, IsExpected, item_at, may_end}
 use Rattle.sx_run.specs.Findings.{Concludes, Finding, Finds, FindsAtEnd, GoesOn, MayCome, MayComeAll, StopsAt}
-use Rattle.sx_run.specs.Findings.{as_invalid, expected, is_built, malformed, output, refused}
+use Rattle.sx_run.specs.Findings.{as_invalid, expected, is_built, malformed, no_fault, refused}
 use Rattle.sx_run.specs.Items.{IsItem, Item, block, candidates, item_record, outcomes, payload_of, records, script}
 use Rattle.sx_run.specs.Items.{state, tag_of}
 use Rattle.sx_run.specs.Laws.{FindsSome}
 use Rattle.sx_run.specs.Replays.{blocks_of, ends_with_block, ledger_after_all, tags_after}
-use Rattle.sx_run.specs.Texts.{checked_text}
 use Rattle.sx_run.proofs.Chains.{chain_keeps_ledger, replays_chains, room_for_block}
 use Rattle.sx_run.proofs.ItemLaws.{length-record}
 use Rattle.sx_run.proofs.Readings.{come_then, records_then}
@@ -90,7 +88,9 @@ knows Interleave [] = λ tag among. inl (only_tag state_tag tag among)
 knows Interleave (one ∷ []) = λ tag among. inr (inl (only_tag candidates_tag tag among))
 knows Interleave (one ∷ other ∷ []) = λ tag among. inr (inr (inr (inr (only_tag script_tag tag among))))
 knows Interleave (one ∷ other ∷ third ∷ more) = tt
-knows (Seal workers shards mu rounds) items = tt
+knows (Seal workers shards mu rounds) [] = λ tag among. inl (only_tag state_tag tag among)
+knows (Seal workers shards mu rounds) (one ∷ []) = λ tag among. inr (inl (only_tag candidates_tag tag among))
+knows (Seal workers shards mu rounds) (one ∷ other ∷ more) = tt
 knows Show items = tt
 knows Migrate [] = λ tag among. inl (only_tag state_tag tag among)
 knows Migrate (one ∷ more) = tt
@@ -98,10 +98,10 @@ knows (Demo seed workers) items = tt
 
 -- ---- at the end
 
--- something is found of all items: an output, or a refusal
+-- something is found of all items: no fault, or a refusal
 abbrev Concluded : Command → List Item → Type 0
 Concluded command items =
-    ((text : List ℕ) × Concludes command items (output text))
+    Concludes command items no_fault
     ⊎ ((number : ℕ) × (why : Invalid) × Concludes command items (refused number why))
 
 -- the items of an input that may end, for a command that takes records in turn
@@ -131,6 +131,18 @@ interleave_items (one ∷ other ∷ third ∷ []) each may =
     (s.0, c.0, t.0, are)
 interleave_items (one ∷ other ∷ third ∷ fourth ∷ more) each may = absurd each.1.1.1.0.listed
 
+seal_items : (workers shards mu rounds : ℕ) (items : List Item) → MayComeAll (Seal workers shards mu rounds) [] items
+    → IsTrue (may_end (expected (Seal workers shards mu rounds) items))
+    → (parts : Parts) × (txs : List Tx) × (items ≡ state parts ∷ candidates txs ∷ [])
+seal_items workers shards mu rounds [] each may = absurd cc
+seal_items workers shards mu rounds (one ∷ []) each may = absurd cc
+seal_items workers shards mu rounds (one ∷ other ∷ []) each may =
+    let s = a_state one (only_tag state_tag (tag_of one) each.0.listed.0) in
+    let c = are_candidates other (only_tag candidates_tag (tag_of other) each.1.0.listed.0) in
+    let are = ap (λ (i : Item). i ∷ other ∷ []) s.1 ∙ ap (λ (i : Item). state s.0 ∷ i ∷ []) c.1 in
+    (s.0, c.0, are)
+seal_items workers shards mu rounds (one ∷ other ∷ third ∷ more) each may = absurd each.1.1.0.listed
+
 migrate_items : (items : List Item) → MayComeAll Migrate [] items → IsTrue (may_end (expected Migrate items))
     → (parts : Parts) × (items ≡ state parts ∷ [])
 migrate_items [] each may = absurd cc
@@ -153,15 +165,7 @@ module _ (judged : EveryBlockIsJudged) where
   some_check items each may =
       let is = check_items items each may in
       elim (judged is.0 is.1 is.3 is.4) [
-        | inl valid ↦ inl (
-          checked_text (checked_of is.1),
-          record {
-            parts = is.0;
-            said = is.1;
-            are = is.2;
-            finds = (valid, refl);
-          },
-        )
+        | inl valid ↦ inl (record { parts = is.0; said = is.1; are = is.2; finds = valid })
         | inr refusal ↦ inr (
           0,
           refusal.why,
@@ -178,19 +182,19 @@ module _ (judged : EveryBlockIsJudged) where
       → IsTrue (may_end (expected (Replay workers) items)) → Concluded (Replay workers) items
   some_replay workers items each may =
       let is = replay_items workers items each may in
-      inl (_, record { parts = is.0; others = is.1; are = is.2; finds = refl })
+      inl (record { parts = is.0; others = is.1; are = is.2; finds = refl })
 
   some_migrate : (items : List Item) → MayComeAll Migrate [] items → IsTrue (may_end (expected Migrate items))
       → Concluded Migrate items
   some_migrate items each may =
-      let is = migrate_items items each may in inl (_, record { parts = is.0; are = is.1; finds = refl })
+      let is = migrate_items items each may in inl (record { parts = is.0; are = is.1; finds = refl })
 
   in_room : (parts : Parts) (txs : List Tx) (turns : Script) (items : List Item)
       → items ≡ state parts ∷ candidates txs ∷ script turns ∷ [] → (r : Result (Unit {0}) NoRoom)
       → room_for parts txs ≡ r
       → Concluded Interleave items
   in_room parts txs turns items are (Ok tt) e =
-      inl (_, record { parts = parts; txs = txs; turns = turns; are = are; finds = (e, refl) })
+      inl (record { parts = parts; txs = txs; turns = turns; are = are; finds = e })
   in_room parts txs turns items are (Err why) e =
       inr (
         0,
@@ -210,12 +214,28 @@ module _ (judged : EveryBlockIsJudged) where
       let is = interleave_items items each may in
       in_room is.0 is.1 is.2 items is.3 (room_for is.0 is.1) refl
 
+  in_room_to_seal : (workers shards mu rounds : ℕ) (parts : Parts) (txs : List Tx) (items : List Item)
+      → items ≡ state parts ∷ candidates txs ∷ [] → (r : Result (Unit {0}) NoRoom) → room_for parts txs ≡ r
+      → Concluded (Seal workers shards mu rounds) items
+  in_room_to_seal workers shards mu rounds parts txs items are (Ok tt) e =
+      inl (record { parts = parts; txs = txs; are = are; finds = e })
+  in_room_to_seal workers shards mu rounds parts txs items are (Err why) e =
+      inr (0, as_invalid why, record { parts = parts; txs = txs; are = are; finds = (refl, (why, e, refl)) })
+
+  some_seal : (workers shards mu rounds : ℕ) (items : List Item) → MayComeAll (Seal workers shards mu rounds) [] items
+      → IsTrue (may_end (expected (Seal workers shards mu rounds) items))
+      → Concluded (Seal workers shards mu rounds) items
+  some_seal workers shards mu rounds items each may =
+      let is = seal_items workers shards mu rounds items each may in
+      in_room_to_seal workers shards mu rounds is.0 is.1 items is.2 (room_for is.0 is.1) refl
+
   some_conclusion : (command : Command) (items : List Item) → IsTrue (is_built command) → MayComeAll command [] items
       → IsTrue (may_end (expected command items)) → Concluded command items
   some_conclusion Check items built each may = some_check items each may
   some_conclusion (Replay workers) items built each may = some_replay workers items each may
   some_conclusion Interleave items built each may = some_interleave items each may
-  some_conclusion (Seal workers shards mu rounds) items built each may = absurd cc
+  some_conclusion (Seal workers shards mu rounds) items built each may =
+      some_seal workers shards mu rounds items each may
   some_conclusion Show items built each may = absurd cc
   some_conclusion Migrate items built each may = some_migrate items each may
   some_conclusion (Demo seed workers) items built each may = absurd cc
@@ -283,8 +303,8 @@ module _ (judged : EveryBlockIsJudged) where
     module _ (command : Command) (items : List Item) (whole : List ℕ) (each : MayComeAll command [] items) where
       at_the_end : (bytes : List ℕ) → whole ≡ records items ++ bytes → bytes ≡ []
           → IsTrue (may_end (expected command items)) → Concluded command items → SomeFinding command whole
-      at_the_end bytes read none may (inl (text, finds)) = (
-        output text,
+      at_the_end bytes read none may (inl finds) = (
+        no_fault,
         [],
         record {
           items = items;

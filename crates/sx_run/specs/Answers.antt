@@ -8,8 +8,9 @@ use Rattle.sx_run.specs.declared.status.Status.TheVariants.{Done, Usage, ReadFau
 use Rattle.sx_run.specs.declared.status.Status.TheVariants.{NoMemory}
 use Rattle.sx_run.specs.declared.stop.Stop.{Stop}
 use Rattle.sx_run.specs.declared.stop.Stop.TheVariants as stop
-use Rattle.sx_run.specs.Findings.{Concludes, Finding, Finds, is_built, malformed, output, refused}
+use Rattle.sx_run.specs.Findings.{Concludes, Finding, Finds, is_built, malformed, no_fault, refused}
 use Rattle.sx_run.specs.Items.{Item}
+use Rattle.sx_run.specs.Outputs.{MayWrite, Writes}
 use Rattle.sx_words.specs.declared.command.Command.{Command}
 use Rattle.sx_words.specs.Commands.{command_of}
 use Rattle.sx_words.specs.Numbers.{texts}
@@ -23,12 +24,17 @@ FindsInSome command finding = (bytes : List ℕ) × (left : List ℕ) × Finds c
 abbrev pub FindsIn : Command → Option (List ℕ) → Option (List ℕ) → Finding → Type 0
 FindsIn command (Some bytes) after finding = (left : List ℕ) × Finds command bytes finding left × (after ≡ Some left)
 FindsIn command None after (malformed fault) = Unit {0}
-FindsIn command None after (output text) = FindsInSome command (output text)
+FindsIn command None after no_fault = FindsInSome command no_fault
 FindsIn command None after (refused number why) = FindsInSome command (refused number why)
+
+-- the same of what may be written
+abbrev pub MayWriteIn : Command → Option (List ℕ) → Option (List ℕ) → List ℕ → Type 0
+MayWriteIn command (Some bytes) after text = (left : List ℕ) × MayWrite command bytes text left × (after ≡ Some left)
+MayWriteIn command None after text = (bytes : List ℕ) × (left : List ℕ) × MayWrite command bytes text left
 
 -- the same of a command before it writes
 abbrev pub Found : Command → Option (List ℕ) → Option (List ℕ) → Result (List ℕ) Stop → Type 0
-Found command before after (Ok text) = FindsIn command before after (output text)
+Found command before after (Ok text) = MayWriteIn command before after text
 Found command before after (Err (stop.Malformed fault)) = FindsIn command before after (malformed fault)
 Found command before after (Err (stop.Refused number why)) = FindsIn command before after (refused number why)
 Found command before after (Err stop.ReadFault) = Unit {0}
@@ -36,7 +42,7 @@ Found command before after (Err stop.NoMemory) = Unit {0}
 
 -- the same of a command whose input ended after these items
 abbrev pub ConcludesAs : Command → List Item → Result (List ℕ) Stop → Type 0
-ConcludesAs command items (Ok text) = Concludes command items (output text)
+ConcludesAs command items (Ok text) = Concludes command items no_fault × Writes command items text
 ConcludesAs command items (Err (stop.Refused number why)) = Concludes command items (refused number why)
 ConcludesAs command items (Err (stop.Malformed fault)) = ⊥
 ConcludesAs command items (Err stop.ReadFault) = ⊥
@@ -44,7 +50,7 @@ ConcludesAs command items (Err stop.NoMemory) = Unit {0}
 
 -- what is found, as an answer
 abbrev pub status_of : Finding → Status
-status_of (output text) = Done
+status_of no_fault = Done
 status_of (malformed fault) = Malformed fault
 status_of (refused number why) = Refused number why
 
@@ -52,9 +58,9 @@ status_of (refused number why) = Refused number why
 -- all of the output is written at Done, and a prefix of it at WriteFault.
 abbrev pub Answers : Command → Option (List ℕ) → Option (List ℕ) → Option (List ℕ) → Option (List ℕ) → Status → Type 0
 Answers command before after old new Done =
-    (text : List ℕ) × FindsIn command before after (output text) × Appends old new text
+    (text : List ℕ) × MayWriteIn command before after text × Appends old new text
 Answers command before after old new WriteFault =
-    (text : List ℕ) × FindsIn command before after (output text) × AppendsPrefix old new text
+    (text : List ℕ) × MayWriteIn command before after text × AppendsPrefix old new text
 Answers command before after old new (Malformed fault) = FindsIn command before after (malformed fault)
 Answers command before after old new (Refused number why) = FindsIn command before after (refused number why)
 Answers command before after old new Usage = ⊥

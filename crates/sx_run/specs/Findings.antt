@@ -1,4 +1,4 @@
--- What each command reads, and what it finds of that.
+-- What each command reads, and which fault it finds first of that, if any.
 use Rattle.std.specs.Prelude.{◌≡◌, ℕ, ◌<◌, ◌⊎◌, Bool, true, false, List, [], ◌∷◌, ◌++◌, length, IsTrue, Ok, Err}
 use Rattle.sx_block.specs.declared.header.Block.{Block}
 use Rattle.sx_block.specs.Block.{IsBlock}
@@ -6,36 +6,31 @@ use Rattle.sx_block.specs.Validity.{IsValid}
 use Rattle.sx_bytes.specs.declared.fault.FormFault.{FormFault}
 use Rattle.sx_check.specs.declared.invalid.Invalid.{Invalid}
 use Rattle.sx_check.specs.declared.invalid.Invalid.TheVariants as invalid
-use Rattle.sx_check.specs.Checked.{checked_of}
 use Rattle.sx_check.specs.Refusals.{Refuses}
-use Rattle.sx_layout.specs.declared.outcome.Outcome.{Outcome}
 use Rattle.sx_layout.specs.declared.script.Script.{Script}
 use Rattle.sx_layout.specs.declared.space.NoRoom.{NoRoom}
 use Rattle.sx_layout.specs.declared.space.NoRoom.TheVariants as no_room
 use Rattle.sx_layout.specs.Room.{room_for}
-use Rattle.sx_layout.specs.Running.{outcomes_of_run}
 use Rattle.sx_ledger.specs.declared.parts.Parts.{Parts}
-use Rattle.sx_ledger.specs.Ledger.{migrated}
 use Rattle.sx_record.specs.Tags.{block_tag, candidates_tag, script_tag, state_tag}
 use Rattle.sx_run.specs.Expected.{Expected, IsExpected, end_only, item_at, may_end, needed}
-use Rattle.sx_run.specs.Items.{IsItem, Item, block, candidates, item_record, outcomes, records, script, state, tag_of}
+use Rattle.sx_run.specs.Items.{IsItem, Item, block, candidates, item_record, records, script, state, tag_of}
 use Rattle.sx_run.specs.Replays.{blocks_of, expected_in_replay, ledger_after_all, most_blocks}
-use Rattle.sx_run.specs.Texts.{checked_text}
 use Rattle.sx_tx.specs.declared.tx.Tx.{Tx}
 use Rattle.sx_words.specs.declared.command.Command.{Command}
-use Rattle.sx_words.specs.declared.command.Command.TheVariants.{Check, Interleave, Migrate, Replay}
+use Rattle.sx_words.specs.declared.command.Command.TheVariants.{Check, Interleave, Migrate, Replay, Seal}
 
--- what is found of an input: what may be written, the first form fault, or why it is refused
+-- what is found of an input: no fault, so that an output is written, the first form fault, or why it is refused
 pub data Finding : Type 0 where
-  output : (text : List ℕ) → Finding
+  no_fault : Finding
   malformed : (fault : FormFault) → Finding
   refused : (number : ℕ) → (why : Invalid) → Finding
 
 -- ---- check
 
--- the line of a valid block, or the first reason why a block is refused
+-- the block is valid, or this is the first reason why it is refused
 abbrev pub FindsInBlock : Parts → Block → Finding → Type 0
-FindsInBlock parts said (output text) = IsValid parts said × (text ≡ checked_text (checked_of said))
+FindsInBlock parts said no_fault = IsValid parts said
 FindsInBlock parts said (malformed fault) = ⊥
 FindsInBlock parts said (refused number why) = (number ≡ 0) × Refuses parts said why
 
@@ -48,12 +43,12 @@ pub record Checks (items : List Item) (finding : Finding) : Type 0 where
 
 -- ---- replay
 
--- a state and blocks, and the record of the ledger after all of them
+-- a state and blocks, each of which was judged as it came
 pub record Replays (items : List Item) (finding : Finding) : Type 0 where
   pub parts : Parts
   pub others : List Item
   pub are : items ≡ state parts ∷ others
-  pub finds : finding ≡ output (item_record (state (ledger_after_all parts (blocks_of others))))
+  pub finds : finding ≡ no_fault
 
 -- an item that is a block is valid for this ledger
 abbrev pub IsValidOn : Parts → Item → Type 0
@@ -74,21 +69,26 @@ pub record RefusesNext (items : List Item) (said : Block) (number : ℕ) (why : 
   pub few : number < most_blocks
   pub refuses : Refuses (ledger_after_all parts (blocks_of others)) said why
 
--- ---- interleave
+-- ---- candidates
 
 -- why there is no room for candidates, as a reason why a block is refused
 abbrev pub as_invalid : NoRoom → Invalid
 as_invalid no_room.Ended = invalid.Ended
 as_invalid (no_room.Crowded have more limit) = invalid.Crowded have more limit
 
--- the record of what becomes of the candidates where the script says who makes the next step, or why there is no room
-abbrev pub FindsInRun : Parts → List Tx → Script → Finding → Type 0
-FindsInRun parts txs turns (output text) =
-    (room_for parts txs ≡ Ok tt)
-    × (text ≡ item_record (outcomes (outcomes_of_run parts txs turns.actors turns.turns)))
-FindsInRun parts txs turns (malformed fault) = ⊥
-FindsInRun parts txs turns (refused number why) =
+-- there is room for the candidates, or this is why there is none
+abbrev pub FindsRoom : Parts → List Tx → Finding → Type 0
+FindsRoom parts txs no_fault = room_for parts txs ≡ Ok tt
+FindsRoom parts txs (malformed fault) = ⊥
+FindsRoom parts txs (refused number why) =
     (number ≡ 0) × ((reason : NoRoom) × (room_for parts txs ≡ Err reason) × (why ≡ as_invalid reason))
+
+-- a state and candidates
+pub record Seals (items : List Item) (finding : Finding) : Type 0 where
+  pub parts : Parts
+  pub txs : List Tx
+  pub are : items ≡ state parts ∷ candidates txs ∷ []
+  pub finds : FindsRoom parts txs finding
 
 -- a state, candidates and a script
 pub record Interleaves (items : List Item) (finding : Finding) : Type 0 where
@@ -96,15 +96,15 @@ pub record Interleaves (items : List Item) (finding : Finding) : Type 0 where
   pub txs : List Tx
   pub turns : Script
   pub are : items ≡ state parts ∷ candidates txs ∷ script turns ∷ []
-  pub finds : FindsInRun parts txs turns finding
+  pub finds : FindsRoom parts txs finding
 
 -- ---- migrate
 
--- a state, and its record in version 2
+-- a state
 pub record Migrates (items : List Item) (finding : Finding) : Type 0 where
   pub parts : Parts
   pub are : items ≡ state parts ∷ []
-  pub finds : finding ≡ output (item_record (state (migrated parts)))
+  pub finds : finding ≡ no_fault
 
 -- ---- all commands
 
@@ -116,6 +116,7 @@ in_turn (tag ∷ tags) (item ∷ items) = in_turn tags items
 
 -- the commands that are built so far; of the others nothing is found
 abbrev pub is_built : Command → Bool
+is_built (Seal workers shards mu rounds) = true
 is_built Check = true
 is_built (Replay workers) = true
 is_built Interleave = true
@@ -124,6 +125,7 @@ is_built _ = false
 
 -- what may come after these items
 abbrev pub expected : Command → List Item → Expected
+expected (Seal workers shards mu rounds) = in_turn (state_tag ∷ candidates_tag ∷ [])
 expected Check = in_turn (state_tag ∷ block_tag ∷ [])
 expected (Replay workers) = expected_in_replay
 expected Interleave = in_turn (state_tag ∷ candidates_tag ∷ script_tag ∷ [])
@@ -132,6 +134,7 @@ expected _ = in_turn []
 
 -- what is found of these items at the end of the input
 abbrev pub Concludes : Command → List Item → Finding → Type 0
+Concludes (Seal workers shards mu rounds) = Seals
 Concludes Check = Checks
 Concludes (Replay workers) = Replays
 Concludes Interleave = Interleaves
@@ -183,7 +186,7 @@ pub record FindsAtBlock
 
 -- what is found of the bytes after these items, and what is then left of them
 abbrev pub FindsAfter : Command → List Item → List ℕ → Finding → List ℕ → Type 0
-FindsAfter command items bytes (output text) left = FindsAtEnd command items bytes (output text) left
+FindsAfter command items bytes no_fault left = FindsAtEnd command items bytes no_fault left
 FindsAfter command items bytes (malformed fault) left =
     item_at (expected command items) (length (records items)) bytes ≡ (Err fault, left)
 FindsAfter command items bytes (refused number why) left =

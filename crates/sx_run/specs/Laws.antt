@@ -6,12 +6,13 @@ use Rattle.sx_ledger.specs.declared.parts.Parts.{Parts}
 use Rattle.sx_ledger.specs.Ledger.{IsLedger, assets_of, total_of}
 use Rattle.sx_words.specs.declared.command.Command.{Command}
 use Rattle.sx_words.specs.declared.command.Command.TheVariants.{Replay}
-use Rattle.sx_run.specs.Findings.{Finding, Finds, MayComeAll, is_built}
+use Rattle.sx_run.specs.Findings.{Finding, Finds, MayComeAll, is_built, no_fault}
 use Rattle.sx_run.specs.Items.{Item, state}
+use Rattle.sx_run.specs.Outputs.{MayWrite, writes_one}
 use Rattle.sx_run.specs.Replays.{AreValid, blocks_of, ledger_after_all, most_blocks}
 
--- one thing is found of an input at most, and one list of bytes is left of it, so that the answer to it and the output
--- are functions of the input
+-- one thing is found of an input at most, and one list of bytes is left of it, so that the answer to it is a function
+-- of the input
 abbrev pub FindsOne : Type 0
 FindsOne =
     (command : Command) (bytes : List ℕ) (one other : Finding) (left right : List ℕ) → Finds command bytes one left
@@ -22,6 +23,18 @@ abbrev pub FindsSome : Type 0
 FindsSome =
     (command : Command) (bytes : List ℕ) → IsTrue (is_built command) → AreBytes bytes
     → (finding : Finding) × (left : List ℕ) × Finds command bytes finding left
+
+-- and so is the output of each command but a seal
+abbrev pub WritesOne : Type 0
+WritesOne =
+    (command : Command) (bytes one other left right : List ℕ) → IsTrue (writes_one command)
+    → MayWrite command bytes one left → MayWrite command bytes other right → one ≡ other
+
+-- which is always there where no fault is found
+abbrev pub WritesSome : Type 0
+WritesSome =
+    (command : Command) (bytes left : List ℕ) → IsTrue (writes_one command) → Finds command bytes no_fault left
+    → (text : List ℕ) × MayWrite command bytes text left
 
 -- what the blocks of a replay are: a chain of valid ones, no more than there may be
 pub record AreChain (parts : Parts) (items : List Item) : Type 0 where

@@ -5,9 +5,12 @@ pub mod Stream
 pub mod Status
 pub mod Texts
 pub mod Findings
+pub mod Sealing
+pub mod Outputs
 pub mod Answers
 pub mod Replaying
 pub mod Running
 pub mod Head
 pub mod Laws
 pub mod Settling
+pub mod SealLaws

@@ -1,16 +1,20 @@
 //! Laws of inputs, and of chains of blocks.
 
-ghost use Rattle.sx_run.specs.Laws.{ChainConserves, ChainKeepsLedger, FindsOne, FindsSome, ReplaysChains};
+ghost use Rattle.sx_run.specs.Laws.{ChainConserves, ChainKeepsLedger, FindsOne, FindsSome, ReplaysChains, WritesOne, WritesSome};
+ghost use Rattle.sx_run.specs.SealLaws.{SealsLeaveTheirMeaning};
 ghost use Rattle.sx_run.specs.Settling.{ReplaysSettle, ValidSettles};
 
 use sx_block::block_effect_laws;
 use sx_check::check_laws;
 
-/// Of each input one thing is found, for each command: an output, or one first fault, and one list of
-/// bytes is then left of the input. So the answer to an input is a function of it.
+/// Of each input one thing is found, for each command: no fault, or one first fault, and one list of
+/// bytes is then left of the input. So the answer to an input is a function of it. Where no fault is found,
+/// each command but `seal` may write one output, and there always is one.
 pub fn input_laws()
     ensures one { FindsOne }
     ensures some { FindsSome }
+    ensures one_output { WritesOne }
+    ensures some_output { WritesSome }
 {
     check_laws();
     block_effect_laws();
@@ -19,12 +23,15 @@ pub fn input_laws()
 /// The blocks of a replay are a chain of valid ones. What a chain of valid blocks leaves of a ledger is
 /// a ledger, and the total of each asset, of balances, offers and rounding, is that of the first ledger.
 /// A valid block settles, and so does each block of a replay, on the ledger that the one before it left.
+/// What a seal writes of a state is a block that a check of that state finds valid and that settles, and a
+/// replay of the state and of what was written writes the ledger after the block.
 pub fn chain_laws()
     ensures replays { ReplaysChains }
     ensures ledger { ChainKeepsLedger }
     ensures conserves { ChainConserves }
     ensures settles { ValidSettles }
     ensures each_settles { ReplaysSettle }
+    ensures seals { SealsLeaveTheirMeaning }
 {
     block_effect_laws();
 }

@@ -1,47 +1,87 @@
 //! The top call.
 
-ghost use Rattle.std.specs.Prelude.{◌≡◌, false, None, IfNone, IfSome, IsErrOf, IsTrue};
+ghost use Rattle.std.specs.Prelude.{◌≡◌, ◌+◌, ◌≤◌, false, None, IfNone, IfSome, IsErrOf, IsTrue};
 ghost use Rattle.sx_base.specs.Outside.{Rose};
+ghost use Rattle.sx_clear.specs.Searches.{most_clearing_searches};
 ghost use Rattle.sx_run.specs.Answers.{Answers, Completes, FitsWords, Found, IsRead, asked};
 ghost use Rattle.sx_run.specs.Findings.{is_built};
 ghost use Rattle.sx_run.specs.Running.{Tells};
+ghost use Rattle.sx_run.specs.SealLaws.{SealsLeaveTheirMeaning};
+ghost use Rattle.sx_run.specs.Sealing.{AreNumbers, seal_of};
 ghost use Rattle.sx_run.specs.Settling.{ReplaysSettle, ValidSettles};
 ghost use Rattle.sx_run.specs.Status.{UnlessReadFails, UnlessWriteFails, is_silent};
 ghost use Rattle.sx_run.specs.Stream.{UnlessReadFault};
+ghost use Rattle.sx_words.specs.Commands.{InRange};
 
 use crate::checking::check;
 use crate::interleaving::interleave;
 use crate::laws::{chain_laws, input_laws};
 use crate::migrating::migrate;
 use crate::replaying::replay;
+use crate::sealing::{Numbers, seal};
 use crate::status::{Status, status_of};
 use crate::stop::Stop;
 use std::alloc::Global;
+use std::sync::ledger::Ledger;
 use std::thread::Threads;
 use sx_base::{Sink, Source, put_all};
 use sx_bytes::Writer;
+use sx_net::Steps;
+use sx_price::Mu;
 use sx_words::{Command, WordsFault, parse};
+use sx_workers::Gate;
+
+// The numbers of a seal that words ask for.
+fn numbers_of(workers: u32, shards: u32, mu: u8, rounds: u32) -> Numbers
+    requires { InRange (Command.Seal workers shards mu rounds) }
+    ensures range { AreNumbers result }
+    ensures same { seal_of result ≡ Command.Seal workers shards mu rounds }
+{
+    match Mu::new(mu) {
+        Ok(mu) => Numbers {
+            workers,
+            shards,
+            mu,
+            rounds,
+        },
+        Err(_) => unreachable!(),
+    }
+}
 
 // What a command writes, or why it stops; none where the command is not built yet.
-fn output_of<R: Threads, S: Source>(
+fn output_of<R: Threads + Sync, S: Source, G: Gate + Sync, L: Ledger>(
     rt: &R,
     alloc: Global,
     command: Command,
     source: &mut S,
+    gate: &G,
+    steps: &mut Steps<L>,
 ) -> Option<Result<Writer, Stop>>
+    requires { InRange command }
     ensures built { IfSome result (λ _. IsTrue (is_built command)) }
     ensures found { IfSome result (Found command (S.left source.old) (S.left source.new)) }
     ensures steady { IfSome result (λ found. UnlessReadFault found (IsTrue (S.strict source.old) → S.faults source.new ≡ S.faults source.old)) }
     ensures read_fault { IfSome result (λ found. IsErrOf found Stop.ReadFault → Rose (S.faults source.old) (S.faults source.new)) }
     ensures unbuilt { IfNone result (is_built command ≡ false) }
     ensures unread { IfNone result (source.new ≡ source.old) }
+    ensures counted { steps.new ≤ steps.old + most_clearing_searches }
+    ensures rising { steps.old ≤ steps.new }
 {
     match command {
         Command::Check => Some(check(rt, alloc, source)),
         Command::Replay { .. } => Some(replay(rt, alloc, source)),
         Command::Interleave => Some(interleave(alloc, source)),
         Command::Migrate => Some(migrate(alloc, source)),
-        Command::Seal { .. } | Command::Show | Command::Demo { .. } => None,
+        Command::Seal {
+            workers,
+            shards,
+            mu,
+            rounds,
+        } => {
+            let numbers = numbers_of(workers, shards, mu, rounds);
+            Some(seal(rt, alloc, numbers, source, gate, steps))
+        }
+        Command::Show | Command::Demo { .. } => None,
     }
 }
 
@@ -63,32 +103,41 @@ fn conclude<K: Sink>(sink: &mut K, found: Result<Writer, Stop>) -> Status
 
 /// Runs the command that the words name, from the source to the sink.
 ///
-/// `check` reads a state and a block, and writes one line where the block is valid for the state.
-/// `replay`, to which `--workers` with a number from 1 to 64 may be added, reads a state and up to
-/// 1,000,000 blocks, each of which may have the outcomes of its candidates after it, and writes the
-/// state after all of them, where each block is valid for what the one before it left. `interleave` reads
-/// a state, candidates and a script of who makes the next step, and writes what becomes of each candidate;
-/// `Refused` says there that the state has no room for all that the candidates ask for. `migrate` reads a state and writes it in version 2. See [`Status`]
-/// for the answers and for what is written at each. What is answered of the bytes holds where the
-/// source tells those that it has left, and what is written where the sink tells those that it holds.
+/// `seal` reads a state and candidates, and writes a block of them, of version 1, and what became of each.
+/// It takes `--workers`, how many threads gather (1 to 64, else 4), `--shards`, on how many shards (1 to 64,
+/// else 16), `--mu`, the exponent of the margin (1 to 20, else 10), and `--rounds` of the search for prices
+/// (0 to 10,000, else 500). How many workers there are does not change what may be written. `check` reads a
+/// state and a block, and writes one line where the block is valid for the state. `replay`, to which
+/// `--workers` with a number from 1 to 64 may be added, reads a state and up to 1,000,000 blocks, each of which
+/// may have the outcomes of its candidates after it, and writes the state after all of them, where each block
+/// is valid for what the one before it left. `interleave` reads a state, candidates and a script of who makes
+/// the next step, and writes what becomes of each candidate. `Refused` says at `seal` and `interleave` that the
+/// state has no room for all that the candidates ask for. `migrate` reads a state and writes it in version 2.
+/// See [`Status`] for the answers and for what is written at each. What is answered of the bytes holds where
+/// the source tells those that it has left, and what is written where the sink tells those that it holds.
 ///
-/// For `check` and `replay` a state whose payload has 1 MiB or more is decoded while a thread of its own
-/// makes the digest, and the call returns where that thread returns. Where no thread can be started, the
-/// two are done in turn.
-pub fn run<R: Threads + Sync, S: Source, K: Sink>(
+/// The gate is called before each candidate of a seal, and no clause depends on it. `steps` counts the
+/// searches of circulations, which `seal` alone makes.
+///
+/// `seal` returns where its worker threads return. For `check` and `replay` a state whose payload has 1 MiB or
+/// more is decoded while a thread of its own makes the digest, and the call returns where that thread returns.
+/// Where no thread can be started, the two are done in turn.
+pub fn run<R: Threads + Sync, S: Source, K: Sink, G: Gate + Sync, L: Ledger>(
     rt: &R,
     alloc: Global,
     words: &[String],
     source: &mut S,
     sink: &mut K,
+    gate: &G,
+    steps: &mut Steps<L>,
 ) -> Status
     // Usage comes exactly where the words are no command in its plain form, but that memory may run out.
     // Nothing is read then.
     ensures usage { FitsWords (asked words.now) result }
     ensures unread { asked words.now ≡ None → source.new ≡ source.old }
 
-    // The answer is what is found of the input: the first fault, or else the output, which is written
-    // whole at Done, and up to some byte at WriteFault.
+    // The answer is what is found of the input: the first fault, or none. Then an output that the command may
+    // write of the input is written, whole at Done, and up to some byte at WriteFault.
     ensures answer { IfSome (asked words.now) (λ command.
         Answers command (S.left source.old) (S.left source.new) (K.written sink.old) (K.written sink.new) result) }
     ensures read { result ≡ Status.Done → IsRead (S.left source.old) (S.left source.new) }
@@ -110,6 +159,14 @@ pub fn run<R: Threads + Sync, S: Source, K: Sink>(
         (Rose (K.faults sink.old) (K.faults sink.new) → ⊥) →
         IfSome (asked words.now) (λ command. Completes command (S.left source.old) result) }
 
+    // What a seal writes is a block that a check finds valid and that settles, and a replay of the state and of
+    // what was written, by any number of workers, writes the ledger after the block.
+    ensures seals { SealsLeaveTheirMeaning }
+
+    // The count of searches rises by at most this, whatever the words and the input are, and never falls.
+    ensures counted { steps.new ≤ steps.old + most_clearing_searches }
+    ensures rising { steps.old ≤ steps.new }
+
     // Each block of a replay settles: no debit is more than is there, offers trade within their limits, in
     // full where they must, unless a cut shows that not all can, and no circulation trades more.
     // Balances and offers fall by the rounding that the block records, and the ledger's rises by it.
@@ -119,7 +176,7 @@ pub fn run<R: Threads + Sync, S: Source, K: Sink>(
     input_laws();
     chain_laws();
     match parse(alloc, words) {
-        Ok(command) => match output_of(rt, alloc, command, source) {
+        Ok(command) => match output_of(rt, alloc, command, source, gate, steps) {
             Some(found) => conclude(sink, found),
             None => Status::Usage,
         },

@@ -3,11 +3,12 @@
 ghost use Rattle.std.specs.Prelude.{◌≤◌};
 
 use crate::chain::{chain, chain_after};
+use crate::counting::run;
 use std::alloc::Global;
 use std::thread::Threads;
 use sx_base::{MemSink, MemSource};
 use sx_price::{Price, value};
-use sx_run::{Status, run};
+use sx_run::Status;
 
 // How a replay of the chain in pieces of this many bytes ends, and whether the right state is written.
 fn replayed<R: Threads + Sync>(rt: &R, alloc: Global, piece: usize) -> Option<(Status, bool)>

@@ -15,6 +15,8 @@ mod chains;
 #[cfg(test)]
 mod clearing;
 #[cfg(test)]
+mod counting;
+#[cfg(test)]
 mod demonstration;
 #[cfg(test)]
 mod dropped;

@@ -1,10 +1,11 @@
 //! A state of more than 1 MiB, whose digest is made on a thread of its own while it is decoded.
 
+use crate::counting::run;
 use std::alloc::Global;
 use std::thread::Threads;
 use sx_base::{MemSink, MemSource};
 use sx_bytes::{NoMemory, Writer};
-use sx_run::{Status, run, status_line};
+use sx_run::{Status, status_line};
 
 const ACCOUNTS: u32 = 50_000;
 

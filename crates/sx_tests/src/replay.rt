@@ -2,12 +2,13 @@
 
 ghost use Rattle.std.specs.Prelude.{◌≤◌};
 
+use crate::counting::run;
 use crate::payment::{input, state_after};
 use crate::recovering::{RecoveringSink, RecoveringSource};
 use std::alloc::Global;
 use std::thread::Threads;
 use sx_base::{MemSink, MemSource, Sink, Source};
-use sx_run::{Status, run};
+use sx_run::Status;
 
 // This word, this many times.
 fn words(alloc: Global, word: &str, times: usize) -> Option<Vec<String>> {

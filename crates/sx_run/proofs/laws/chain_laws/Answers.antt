@@ -1,4 +1,5 @@
 use Rattle.sx_run.proofs.Chains.{chain_conserves, chain_keeps_ledger, replays_chains}
+use Rattle.sx_run.proofs.Seals.{seals_leave_their_meaning}
 use Rattle.sx_run.proofs.Settlements.{replays_settle, valid_settles}
 use Rattle.sx_run.proofs.laws.chain_laws.Goals as goal
 
@@ -22,3 +23,10 @@ returns-clause-each_settles c =
     let laws = c.block_effect_laws.ensures in
     replays_settle laws.ledger laws.within laws.in_full laws.dropped laws.most laws.gives laws.gets laws.one_in_part
     laws.falls laws.keeps_rounding
+
+pub returns-clause-seals : goal.returns-clause-seals
+returns-clause-seals c =
+    let laws = c.block_effect_laws.ensures in
+    seals_leave_their_meaning
+    (valid_settles laws.ledger laws.within laws.in_full laws.dropped laws.most laws.gives laws.gets laws.one_in_part
+    laws.falls laws.keeps_rounding)

@@ -1,4 +1,5 @@
 use Rattle.sx_run.proofs.OneFinding.{finds_one}
+use Rattle.sx_run.proofs.Outputs.{writes_one_text, writes_some_text}
 use Rattle.sx_run.proofs.SomeFinding.{finds_some}
 use Rattle.sx_run.proofs.laws.input_laws.Goals as goal
 
@@ -7,3 +8,10 @@ returns-clause-one c = finds_one c.check_laws.ensures.one_reason c.check_laws.en
 
 pub returns-clause-some : goal.returns-clause-some
 returns-clause-some c = finds_some c.check_laws.ensures.judged c.block_effect_laws.ensures.ledger
+
+pub returns-clause-one_output : goal.returns-clause-one_output
+returns-clause-one_output c =
+    writes_one_text c.check_laws.ensures.one_reason c.check_laws.ensures.valid_is_not_refused
+
+pub returns-clause-some_output : goal.returns-clause-some_output
+returns-clause-some_output c = writes_some_text

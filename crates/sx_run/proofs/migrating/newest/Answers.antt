@@ -1,13 +1,10 @@
 use Rattle.std.proofs.Common.{ℕ, List, refl, ap, ◌∙◌}
 use Rattle.sx_ledger.specs.declared.parts.Parts.{Parts}
-use Rattle.sx_run.specs.Findings.{output}
 use Rattle.sx_run.specs.Items.{state_record}
 use Rattle.sx_run.proofs.migrating.newest.Goals as goal
 
 pub returns-clause-concludes : goal.returns-clause-concludes
-returns-clause-concludes c = record {
-  parts = c.args.ledger;
-  are = refl;
-  finds = ap (λ (t : List ℕ). output t)
-      (c.in_ok-written.ensures ∙ ap (λ (p : Parts). state_record p) c.migrate-migrated.ensures);
-}
+returns-clause-concludes c = (
+  record { parts = c.args.ledger; are = refl; finds = refl },
+  c.in_ok-written.ensures ∙ ap (λ (p : Parts). state_record p) c.migrate-migrated.ensures,
+)

@@ -1,0 +1,41 @@
+-- What each command may write, where it finds no fault.
+use Rattle.std.specs.Prelude.{◌≡◌, ℕ, Bool, true, false, List, [], ◌∷◌}
+use Rattle.sx_check.specs.Checked.{checked_of}
+use Rattle.sx_layout.specs.Running.{outcomes_of_run}
+use Rattle.sx_ledger.specs.Ledger.{migrated}
+use Rattle.sx_run.specs.Findings.{Finds, no_fault}
+use Rattle.sx_run.specs.Items.{Item, block, candidates, item_record, outcomes, script, state, state_record}
+use Rattle.sx_run.specs.Replays.{blocks_of, ledger_after_all}
+use Rattle.sx_run.specs.Sealing.{IsSealed}
+use Rattle.sx_run.specs.Texts.{checked_text}
+use Rattle.sx_words.specs.declared.command.Command.{Command}
+use Rattle.sx_words.specs.declared.command.Command.TheVariants.{Check, Interleave, Migrate, Replay, Seal}
+
+-- what may be written of the items of an input: how many workers there are is said nowhere
+abbrev pub Writes : Command → List Item → List ℕ → Type 0
+-- a block and what became of each candidate
+Writes (Seal workers shards mu rounds) (state parts ∷ candidates txs ∷ []) text = IsSealed parts txs mu rounds text
+-- the line of a valid block
+Writes Check (state parts ∷ block said ∷ []) text = text ≡ checked_text (checked_of said)
+-- the record of the ledger after all blocks
+Writes (Replay workers) (state parts ∷ others) text =
+    text ≡ state_record (ledger_after_all parts (blocks_of others))
+-- the record of what becomes of the candidates where the script says who makes the next step
+Writes Interleave (state parts ∷ candidates txs ∷ script turns ∷ []) text =
+    text ≡ item_record (outcomes (outcomes_of_run parts txs turns.actors turns.turns))
+-- the record of the state in version 2
+Writes Migrate (state parts ∷ []) text = text ≡ state_record (migrated parts)
+Writes _ items text = ⊥
+
+-- the commands whose output is a function of the input
+abbrev pub writes_one : Command → Bool
+writes_one Check = true
+writes_one (Replay workers) = true
+writes_one Interleave = true
+writes_one Migrate = true
+writes_one _ = false
+
+-- no fault is found of an input, this may be written of its items, and this is left of it
+pub record MayWrite (command : Command) (bytes text left : List ℕ) : Type 0 where
+  pub found : Finds command bytes no_fault left
+  pub writes : Writes command found.items text

@@ -1,0 +1,61 @@
+-- What a seal may write.
+use Rattle.std.specs.Prelude.{◌≡◌, ℕ, ◌≤◌, List, ◌++◌}
+use Rattle.sx_block.specs.declared.header.Block.{Block}
+use Rattle.sx_block.specs.Validity.{IsValid, flow_of_block, high_in, low_in}
+use Rattle.sx_clear.specs.Dropping.{DropsExactly}
+use Rattle.sx_clear.specs.Quotes.{searched_at}
+use Rattle.sx_dual.specs.Circulation.{IsGreatest}
+use Rattle.sx_layout.specs.declared.outcome.Outcome.{Outcome}
+use Rattle.sx_layout.specs.Gathering.{IsGathered}
+use Rattle.sx_ledger.specs.declared.parts.Parts.{Parts}
+use Rattle.sx_ledger.specs.Ledger.{assets_of}
+use Rattle.sx_check.specs.declared.invalid.Invalid.TheVariants as invalid
+use Rattle.sx_gather.specs.declared.fault.GatherFault.{GatherFault}
+use Rattle.sx_gather.specs.declared.fault.GatherFault.TheVariants as fault
+use Rattle.sx_run.specs.declared.sealing.Numbers.{Numbers}
+use Rattle.sx_run.specs.declared.stop.Stop.{Stop}
+use Rattle.sx_run.specs.declared.stop.Stop.TheVariants as stop
+use Rattle.sx_run.specs.Items.{block, item_record, outcomes}
+use Rattle.sx_tx.specs.declared.tx.Tx.{Tx}
+use Rattle.sx_words.specs.declared.command.Command.{Command}
+use Rattle.sx_words.specs.declared.command.Command.TheVariants.{Seal}
+
+-- a block of version 1 that is valid for the ledger, at this margin and these rounds of the search for prices
+pub record IsClearedFor (parts : Parts) (mu rounds : ℕ) (said : Block) : Type 0 where
+  pub valid : IsValid parts said
+  pub version : said.header.version ≡ 1
+  pub margin : said.header.mu ≡ mu
+  -- its prices are those at which the search from the ledger's prices ends
+  pub prices : said.header.prices ≡ searched_at parts said.txs mu rounds
+  -- no circulation within its bounds trades more, and bounds are dropped exactly where no circulation keeps them
+  pub greatest : IsGreatest (assets_of parts) (low_in parts said) (high_in parts said) (flow_of_block said)
+  pub dropped : DropsExactly parts said
+
+-- The record of a block, and then that of the outcomes of the candidates. It is free which of two candidates that
+-- exclude each other is accepted, and which of several greatest flows trades, with which potentials.
+pub record IsSealed (parts : Parts) (txs : List Tx) (mu rounds : ℕ) (text : List ℕ) : Type 0 where
+  pub said : Block
+  pub told : List Outcome
+  pub encoded : text ≡ item_record (block said) ++ item_record (outcomes told)
+  -- the outcomes and the transactions of the block are those of a gathering of the candidates
+  pub gathered : IsGathered parts txs told said.txs
+  pub cleared : IsClearedFor parts mu rounds said
+
+-- ---- the words and the answer of a gathering
+
+-- the numbers of a seal are in their ranges
+pub record AreNumbers (numbers : Numbers) : Type 0 where
+  pub some_worker : 1 ≤ numbers.workers
+  pub few_workers : numbers.workers ≤ 64
+  pub some_shard : 1 ≤ numbers.shards
+  pub few_shards : numbers.shards ≤ 64
+
+-- the seal of these numbers
+abbrev pub seal_of : Numbers → Command
+seal_of numbers = Seal numbers.workers numbers.shards numbers.mu numbers.rounds
+
+-- why a seal stops where candidates are not gathered
+abbrev pub IsStoppedBy : GatherFault → Stop → Type 0
+IsStoppedBy fault.NoMemory why = why ≡ stop.NoMemory
+IsStoppedBy fault.Ended why = why ≡ stop.Refused 0 invalid.Ended
+IsStoppedBy (fault.Crowded have more limit) why = why ≡ stop.Refused 0 (invalid.Crowded have more limit)
