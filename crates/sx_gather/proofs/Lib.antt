@@ -7,3 +7,4 @@ pub mod Joining
 pub mod Loops
 pub mod Bodies
 pub mod Sealing
+mod Cases
