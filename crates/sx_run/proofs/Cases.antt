@@ -6,7 +6,12 @@ use Rattle.std.specs.Prelude.{◌⊎◌}
 use Rattle.sx_base.specs.Outside.{AppendsPrefix}
 use Rattle.sx_bytes.specs.declared.fault.Form.TheVariants as form
 use Rattle.sx_bytes.specs.declared.fault.FormFault.{FormFault}
+use Rattle.sx_block.specs.Validity.{high_in, undropped_low_in}
 use Rattle.sx_check.specs.declared.invalid.Invalid.{Invalid}
+use Rattle.sx_clear.specs.Quotes.{searched_at}
+use Rattle.sx_dual.specs.Circulation.{HaveNoCirculation}
+use Rattle.sx_ledger.specs.declared.parts.Parts.{Parts}
+use Rattle.sx_ledger.specs.Ledger.{assets_of}
 use Rattle.sx_record.specs.Decoding.{after_tag, length_at, record_at}
 use Rattle.sx_run.specs.declared.status.Status.TheVariants.{Done, Usage, ReadFault, WriteFault, Malformed, Refused}
 use Rattle.sx_run.specs.declared.status.Status.TheVariants.{NoMemory}
@@ -15,7 +20,9 @@ use Rattle.sx_words.specs.declared.command.Command.TheVariants.{Check, Interleav
 use Rattle.sx_run.specs.Answers.{Answers, Completes, FitsWords}
 use Rattle.sx_run.specs.Expected.{item_at}
 use Rattle.sx_run.specs.Findings.{Finding, Finds, malformed, no_fault}
+use Rattle.sx_run.specs.Sealing.{IsSealed}
 use Rattle.sx_run.specs.Status.{UnlessReadFails, UnlessWriteFails, is_silent}
+use Rattle.sx_tx.specs.declared.tx.Tx.{Tx}
 
 -- ---- what holds at which answer
 
@@ -100,6 +107,25 @@ not_any_bytes : AppendsPrefix (Some []) (Some (1 ∷ [])) (2 ∷ []) → ⊥
 not_any_bytes (zero, few, is) = cc
 not_any_bytes (suc zero, few, is) = cc
 not_any_bytes (suc (suc n), few, is) = absurd (omega (arith, few))
+
+-- ---- seals
+
+-- what a seal writes is of version 1, at the margin and the rounds of the words, and drops no bound without need
+module _ (parts : Parts) (txs : List Tx) (mu rounds : ℕ) (text : List ℕ) (wrote : IsSealed parts txs mu rounds text) where
+  has_version_1 : wrote.said.header.version ≡ 1
+  has_version_1 = wrote.cleared.version
+
+  has_margin : wrote.said.header.mu ≡ mu
+  has_margin = wrote.cleared.margin
+
+  has_searched_prices : wrote.said.header.prices ≡ searched_at parts wrote.said.txs mu rounds
+  has_searched_prices = wrote.cleared.prices
+
+  kept_bounds_can_be_kept : HaveNoCirculation (assets_of parts) (undropped_low_in parts wrote.said)
+      (high_in parts wrote.said) → wrote.said.header.dropped ≡ None → ⊥
+  kept_bounds_can_be_kept none kept =
+      let is = wrote.cleared.dropped.1 none in
+      let wrong = rw kept at is in absurd cc
 
 -- ---- worked inputs
 

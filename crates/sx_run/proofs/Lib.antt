@@ -7,6 +7,7 @@ pub mod Readings
 pub mod Conclusions
 pub mod OneFinding
 pub mod Outputs
+pub mod AnyWorkers
 pub mod Gathered
 pub mod Seals
 pub mod Chains

@@ -30,3 +30,9 @@ abbrev pub SealsLeaveTheirMeaning : Type 0
 SealsLeaveTheirMeaning =
     (workers shards mu rounds : ℕ) (bytes text left : List ℕ) → MayWrite (Seal workers shards mu rounds) bytes text left
     → LeavesItsMeaning bytes text
+
+-- how many workers and shards there are does not change what may be written
+abbrev pub SealsAlike : Type 0
+SealsAlike =
+    (workers others shards more mu rounds : ℕ) (bytes text left : List ℕ)
+    → MayWrite (Seal workers shards mu rounds) bytes text left → MayWrite (Seal others more mu rounds) bytes text left

@@ -1,7 +1,7 @@
 //! Laws of inputs, and of chains of blocks.
 
 ghost use Rattle.sx_run.specs.Laws.{ChainConserves, ChainKeepsLedger, FindsOne, FindsSome, ReplaysChains, WritesOne, WritesSome};
-ghost use Rattle.sx_run.specs.SealLaws.{SealsLeaveTheirMeaning};
+ghost use Rattle.sx_run.specs.SealLaws.{SealsAlike, SealsLeaveTheirMeaning};
 ghost use Rattle.sx_run.specs.Settling.{ReplaysSettle, ValidSettles};
 
 use sx_block::block_effect_laws;
@@ -9,12 +9,14 @@ use sx_check::check_laws;
 
 /// Of each input one thing is found, for each command: no fault, or one first fault, and one list of
 /// bytes is then left of the input. So the answer to an input is a function of it. Where no fault is found,
-/// each command but `seal` may write one output, and there always is one.
+/// each command but `seal` may write one output, and there always is one. What a seal may write is the same for
+/// any number of workers and shards.
 pub fn input_laws()
     ensures one { FindsOne }
     ensures some { FindsSome }
     ensures one_output { WritesOne }
     ensures some_output { WritesSome }
+    ensures seals_alike { SealsAlike }
 {
     check_laws();
     block_effect_laws();

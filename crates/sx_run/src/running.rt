@@ -6,7 +6,7 @@ ghost use Rattle.sx_clear.specs.Searches.{most_clearing_searches};
 ghost use Rattle.sx_run.specs.Answers.{Answers, Completes, FitsWords, Found, IsRead, asked};
 ghost use Rattle.sx_run.specs.Findings.{is_built};
 ghost use Rattle.sx_run.specs.Running.{Tells};
-ghost use Rattle.sx_run.specs.SealLaws.{SealsLeaveTheirMeaning};
+ghost use Rattle.sx_run.specs.SealLaws.{SealsAlike, SealsLeaveTheirMeaning};
 ghost use Rattle.sx_run.specs.Sealing.{AreNumbers, seal_of};
 ghost use Rattle.sx_run.specs.Settling.{ReplaysSettle, ValidSettles};
 ghost use Rattle.sx_run.specs.Status.{UnlessReadFails, UnlessWriteFails, is_silent};
@@ -158,6 +158,9 @@ pub fn run<R: Threads + Sync, S: Source, K: Sink, G: Gate + Sync, L: Ledger>(
     ensures complete { (Rose (S.faults source.old) (S.faults source.new) → ⊥) →
         (Rose (K.faults sink.old) (K.faults sink.new) → ⊥) →
         IfSome (asked words.now) (λ command. Completes command (S.left source.old) result) }
+
+    // However many workers and shards there are, a seal may write the same.
+    ensures any_workers { SealsAlike }
 
     // What a seal writes is a block that a check finds valid and that settles, and a replay of the state and of
     // what was written, by any number of workers, writes the ledger after the block.

@@ -31,6 +31,8 @@ mod recovering;
 #[cfg(test)]
 mod replay;
 #[cfg(test)]
+mod sealing;
+#[cfg(test)]
 mod texts;
 #[cfg(test)]
 mod words;

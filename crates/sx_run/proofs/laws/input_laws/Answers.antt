@@ -1,3 +1,4 @@
+use Rattle.sx_run.proofs.AnyWorkers.{seals_alike}
 use Rattle.sx_run.proofs.OneFinding.{finds_one}
 use Rattle.sx_run.proofs.Outputs.{writes_one_text, writes_some_text}
 use Rattle.sx_run.proofs.SomeFinding.{finds_some}
@@ -15,3 +16,6 @@ returns-clause-one_output c =
 
 pub returns-clause-some_output : goal.returns-clause-some_output
 returns-clause-some_output c = writes_some_text
+
+pub returns-clause-seals_alike : goal.returns-clause-seals_alike
+returns-clause-seals_alike c = seals_alike
