@@ -1,4 +1,4 @@
-use Rattle.sx_tests.proofs.counting.run_at.Given as goal
+use Rattle.sx_tests_run.proofs.counting.run_at.Given as goal
 
 abbrev pub ghosts-run_counted : goal.ghosts-run_counted
 ghosts-run_counted g a = record { name = a.blank.name; parts = a.blank.parts }

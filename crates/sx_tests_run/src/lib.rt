@@ -1,0 +1,24 @@
+//! Tests of the top call with a source or a sink in memory.
+//!
+//! What is a row through the program is a stored case under `examples/cases/` and no test. Here is
+//! what no input of the program can show: sources and sinks that give and take their bytes in pieces
+//! of any size, that fail in mid-stream, and that overcome an interruption, and that the workers of a seal
+//! run at the same time.
+#![tactic(auto)]
+
+#[cfg(test)]
+mod chain;
+#[cfg(test)]
+mod chains;
+#[cfg(test)]
+mod counting;
+#[cfg(test)]
+mod long;
+#[cfg(test)]
+mod payment;
+#[cfg(test)]
+mod recovering;
+#[cfg(test)]
+mod replay;
+#[cfg(test)]
+mod sealing;
