@@ -3,6 +3,9 @@
 
     python3 examples/records.py write <TEXT >RECORDS
     python3 examples/records.py show <RECORDS >TEXT
+    python3 examples/records.py take block <RECORDS >RECORDS
+
+The last one writes the records of one kind, here the blocks, as they are, and leaves out all others.
 
 It is written apart from the program, from docs/FORMATS.md and docs/RULES.md, and nothing of it is proved.
 
@@ -57,6 +60,7 @@ import struct
 import sys
 
 STATE, CANDIDATES, BLOCK, OUTCOMES, SCRIPT = 1, 2, 3, 4, 5
+TAGS = {"state": STATE, "candidates": CANDIDATES, "block": BLOCK, "outcomes": OUTCOMES, "script": SCRIPT}
 KINDS = {"pay": (1, "QBQ"), "create": (2, "Q"), "offer": (3, "BBQQ"), "cancel": (4, "BBQQ")}
 RESULTS = {
     "accepted": (0, ""),
@@ -518,6 +522,17 @@ ADDS = {
 }
 
 
+def take(data, tag):
+    """The records of this tag."""
+    at = Bytes(data)
+    while at.at < len(data):
+        begin = at.at
+        one, length = at.fields("BI")
+        at.at += length
+        if one == tag:
+            yield data[begin : at.at]
+
+
 def show(data):
     at = Bytes(data)
     while at.at < len(data):
@@ -593,8 +608,10 @@ def main(words):
         sys.stdout.buffer.write(write(sys.stdin))
     elif words == ["show"]:
         show(sys.stdin.buffer.read())
+    elif len(words) == 2 and words[0] == "take" and words[1] in TAGS:
+        sys.stdout.buffer.write(b"".join(take(sys.stdin.buffer.read(), TAGS[words[1]])))
     else:
-        sys.exit("usage: python3 records.py write <TEXT >RECORDS, or python3 records.py show <RECORDS >TEXT")
+        sys.exit("usage: python3 records.py write <TEXT >RECORDS, show <RECORDS >TEXT, or take KIND <RECORDS >RECORDS")
     sys.stdout.flush()
 
 
