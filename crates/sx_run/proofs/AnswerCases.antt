@@ -1,5 +1,5 @@
 -- A state alone, which `migrate` writes in version 2, and answers that are not those of what is found of an input.
-use Rattle.std.proofs.Common.{◌≡◌, ℕ, zero, suc, ◌^◌, ◌<◌, ◌≤◌, List, [], ◌∷◌, Some, None, inl, inr, refl, arith}
+use Rattle.std.proofs.Common.{◌≡◌, ℕ, zero, suc, ◌^◌, ◌<◌, ◌≤◌, List, [], ◌∷◌, Some, None, inl, inr, refl, subst, arith}
 use Rattle.std.specs.Prelude.{◌⊎◌}
 use Rattle.std.proofs.lemmas.List.Elements.{All-from_recursion, All-nil}
 use Rattle.sx_bytes.specs.declared.fault.FormFault.{FormFault}
@@ -13,9 +13,10 @@ use Rattle.sx_run.specs.declared.status.Status.{Status}
 use Rattle.sx_run.specs.declared.status.Status.TheVariants.{Done, Usage, WriteFault, Malformed, Refused}
 use Rattle.sx_run.specs.declared.status.Status.TheVariants.{NoMemory}
 use Rattle.sx_run.specs.Answers.{Answers, Completes, IsRead, status_of}
-use Rattle.sx_run.specs.Findings.{Finding, Finds, MayCome, as_invalid, malformed, output, refused}
-use Rattle.sx_run.specs.Items.{state}
-use Rattle.sx_run.specs.Laws.{FindsOne}
+use Rattle.sx_run.specs.Findings.{Finding, Finds, MayCome, as_invalid, malformed, no_fault, refused}
+use Rattle.sx_run.specs.Items.{Item, state}
+use Rattle.sx_run.specs.Laws.{FindsOne, WritesOne}
+use Rattle.sx_run.specs.Outputs.{MayWrite, Writes}
 use Rattle.sx_words.specs.declared.command.Command.TheVariants.{Migrate}
 
 -- ---- a state of one asset, without accounts
@@ -68,7 +69,7 @@ newer =
 may_come : MayCome Migrate [] (state older)
 may_come = record { listed = ((0, omega arith, refl), refl); form = is_ledger; goes_on = tt }
 
-migrated : Finds Migrate input (output newer) []
+migrated : Finds Migrate input no_fault []
 migrated = record {
   items = state older ∷ [];
   rest = [];
@@ -82,43 +83,46 @@ migrated = record {
   };
 }
 
+may_write : MayWrite Migrate input newer []
+unfolding migrated
+may_write = record { found = migrated; writes = refl }
+
 -- ---- answers to it
 
-module _ (finds_one : FindsOne) where
-  only_newer : (text left : List ℕ) → Finds Migrate input (output text) left → text ≡ newer
-  only_newer text left finds =
-      let same = finds_one Migrate input (output text) (output newer) left [] finds migrated in
-      let e : ◌≡◌ {A = Finding} (output text) (output newer) = same.0 in cc
+module _ (writes_one_text : WritesOne) where
+  only_newer : (text left : List ℕ) → MayWrite Migrate input text left → text ≡ newer
+  only_newer text left may = writes_one_text Migrate input text newer left [] refl may may_write
 
   -- all of it is written, after what the sink has
   written : Answers Migrate (Some input) (Some []) (Some (9 ∷ [])) (Some (9 ∷ newer)) Done
-  written = (newer, ([], migrated, refl), refl)
+  written = (newer, ([], may_write, refl), refl)
 
   -- nothing is no output
   not_nothing : Answers Migrate (Some input) (Some []) (Some []) (Some []) Done → ⊥
-  not_nothing (text, (left, finds, is), appends) = let e = only_newer text left finds in cc
+  not_nothing (text, (left, may, is), appends) = let e = only_newer text left may in cc
 
   -- at a fault of writing another byte than the first was not written
   not_another : Answers Migrate (Some input) (Some []) (Some []) (Some (2 ∷ [])) WriteFault → ⊥
-  not_another (text, (left, finds, is), (zero, few, appends)) = cc
-  not_another (text, (left, finds, is), (suc n, few, appends)) = let e = only_newer text left finds in cc
+  not_another (text, (left, may, is), (zero, few, appends)) = cc
+  not_another (text, (left, may, is), (suc n, few, appends)) = let e = only_newer text left may in cc
 
+module _ (finds_one : FindsOne) where
   -- it is not malformed, and not refused
   not_malformed : (fault : FormFault) → Answers Migrate (Some input) (Some []) (Some []) (Some []) (Malformed fault) → ⊥
   not_malformed fault (left, finds, is) =
-      let same = finds_one Migrate input (malformed fault) (output newer) left [] finds migrated in
-      let e : ◌≡◌ {A = Finding} (malformed fault) (output newer) = same.0 in cc
+      let same = finds_one Migrate input (malformed fault) no_fault left [] finds migrated in
+      let e : ◌≡◌ {A = Finding} (malformed fault) no_fault = same.0 in cc
 
   not_refused : (number : ℕ) (why : Invalid)
       → Answers Migrate (Some input) (Some []) (Some []) (Some []) (Refused number why) → ⊥
   not_refused number why (left, finds, is) =
-      let same = finds_one Migrate input (refused number why) (output newer) left [] finds migrated in
-      let e : ◌≡◌ {A = Finding} (refused number why) (output newer) = same.0 in cc
+      let same = finds_one Migrate input (refused number why) no_fault left [] finds migrated in
+      let e : ◌≡◌ {A = Finding} (refused number why) no_fault = same.0 in cc
 
   -- a byte is left where none is
   all_is_read : Answers Migrate (Some input) (Some (5 ∷ [])) (Some []) (Some newer) Done → ⊥
-  all_is_read (text, (left, finds, is), appends) =
-      let same = finds_one Migrate input (output text) (output newer) left [] finds migrated in
+  all_is_read (text, (left, may, is), appends) =
+      let same = finds_one Migrate input no_fault no_fault left [] may.found migrated in
       let none : left ≡ [] = same.1 in cc
 
 not_usage : Answers Migrate (Some input) (Some input) (Some []) (Some []) Usage → ⊥
@@ -129,17 +133,19 @@ nothing_left is = cc
 
 -- a source that does not tell its bytes had some of which this is found
 some_input : Answers Migrate None None (Some []) (Some []) Done → ⊥
-some_input (text, (bytes, left, finds), appends) = let is = finds.finds.concludes.finds in cc
+some_input (text, (bytes, left, may), appends) =
+    let concludes = may.found.finds.concludes in
+    let is = subst (λ (items : List Item). Writes Migrate items text) concludes.are may.writes in cc
 
 -- ---- where nothing fails, no other answer is complete
 
 module _ (result : Status) (no_newer : result ≡ Done → ⊥) (memory : result ≡ NoMemory → ⊥) where
-  neither : (result ≡ status_of (output newer)) ⊎ (result ≡ NoMemory) → ⊥
+  neither : (result ≡ status_of no_fault) ⊎ (result ≡ NoMemory) → ⊥
   neither (inl e) = no_newer e
   neither (inr e) = memory e
 
   not_complete : Completes Migrate (Some input) result → ⊥
-  not_complete completes = neither (completes (output newer) [] migrated)
+  not_complete completes = neither (completes no_fault [] migrated)
 
 -- ---- why there is no room for candidates, as a reason
 
