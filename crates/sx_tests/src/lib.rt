@@ -1,5 +1,5 @@
 //! Tests of library calls on what was worked out by hand, over several crates: order books, fills, blocks that
-//! are checked, applied and made again from the transactions of valid ones, the demonstration, words and texts.
+//! are checked, applied and made again from the transactions of valid ones, the demonstration, and words.
 #![tactic(auto)]
 
 #[cfg(test)]
@@ -12,8 +12,6 @@ mod demonstration;
 mod dropped;
 #[cfg(test)]
 mod fills;
-#[cfg(test)]
-mod texts;
 #[cfg(test)]
 mod words;
 #[cfg(test)]
