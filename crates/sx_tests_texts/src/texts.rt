@@ -1,0 +1,219 @@
+//! The texts of worked values, beside what is written by hand.
+
+ghost use Rattle.sx_text.specs.Shown.{IsShowable};
+
+use std::alloc::{AllocError, Global};
+use std::test::Fail;
+use sx_base::{AccountId, AssetId};
+use sx_block::read_block;
+use sx_bytes::{Bytes, Form, FormFault, ListOf};
+use sx_check::{Checked, Invalid};
+use sx_dual::Cut;
+use sx_layout::{Outcome, Script};
+use sx_ledger::{Static, read_state};
+use sx_text::{Shown, Status, check_line, show, status_line};
+use sx_tx::read_candidates;
+
+// One asset. Account 1 has 100 units and account 2 has 5.
+#[rattlefmt::skip]
+fn state() -> [u8; 82] {
+    [
+        1, 0, 0, 0, 0, 0, 0, 0, 0, 1, 0, 0, 0, 0, 1, 0, 0, 0, 0, 0, 0, 0, 0, 0, 0, 0, 0, 0, 0, 2, 0, 0, 0, 0, 0,
+        0, 0, 1, 0, 0, 0, 0, 0, 0, 0, 0, 0, 0, 0, 0, 0, 0, 0, 100, 0, 0, 0, 0, 0, 0, 0, 2, 0, 0, 0, 0, 0, 0, 0,
+        0, 0, 0, 0, 0, 0, 0, 0, 5, 0, 0, 0, 0,
+    ]
+}
+
+// The same in version 2.
+#[rattlefmt::skip]
+fn state_of_version_2() -> [u8; 98] {
+    [
+        2, 0, 0, 0, 0, 0, 0, 0, 0, 1, 0, 0, 0, 0, 1, 0, 0, 0, 0, 0, 0, 0, 0, 0, 0, 0, 0, 0, 0, 2, 0, 0, 0, 0, 0,
+        0, 0, 1, 0, 0, 0, 0, 0, 0, 0, 0, 0, 0, 0, 0, 0, 0, 0, 0, 0, 0, 0, 0, 0, 0, 0, 100, 0, 0, 0, 0, 0, 0, 0,
+        2, 0, 0, 0, 0, 0, 0, 0, 0, 0, 0, 0, 0, 0, 0, 0, 0, 0, 0, 0, 0, 0, 0, 0, 5, 0, 0, 0, 0,
+    ]
+}
+
+// Account 1 pays 30 to account 2, and account 2 pays 20 to account 1.
+#[rattlefmt::skip]
+fn block() -> [u8; 202] {
+    [
+        2, 0, 0, 0, 0, 0, 0, 0, 1, 188, 209, 180, 111, 105, 91, 212, 8, 216, 157, 179, 83, 255, 4, 21, 173, 28,
+        222, 51, 214, 176, 91, 51, 68, 1, 250, 250, 24, 141, 89, 213, 236, 137, 25, 32, 113, 252, 23, 73, 102,
+        51, 77, 192, 93, 237, 105, 53, 190, 6, 140, 148, 127, 105, 180, 210, 59, 168, 58, 170, 197, 51, 221, 3,
+        33, 10, 1, 0, 0, 0, 0, 1, 0, 0, 0, 0, 0, 0, 0, 0, 0, 0, 0, 0, 0, 0, 0, 0, 0, 0, 246, 90, 125, 46, 47,
+        73, 31, 152, 226, 166, 16, 69, 95, 1, 73, 149, 198, 52, 143, 83, 53, 57, 167, 189, 50, 137, 242, 51,
+        116, 70, 95, 122, 0, 0, 0, 2, 0, 0, 0, 0, 0, 0, 0, 1, 0, 0, 0, 0, 0, 0, 0, 1, 1, 0, 0, 0, 0, 0, 0, 0, 2,
+        0, 0, 0, 0, 0, 0, 0, 0, 30, 0, 0, 0, 0, 0, 0, 0, 2, 0, 0, 0, 0, 0, 0, 0, 1, 1, 0, 0, 0, 0, 0, 0, 0, 1,
+        0, 0, 0, 0, 0, 0, 0, 0, 20,
+    ]
+}
+
+// The text of these lines.
+fn text_of(alloc: Global, lines: &[&str]) -> Result<String, AllocError> {
+    let mut text = String::new(alloc);
+    for line in lines {
+        text.push_str(*line)?;
+        text.push_str("\n")?;
+    }
+    Ok(text)
+}
+
+// Whether this is shown as these lines.
+fn shows(alloc: Global, shown: &Shown, lines: &[&str]) -> bool
+    requires { IsShowable shown.now }
+{
+    match (show(alloc, shown), text_of(alloc, lines)) {
+        (Ok(text), Ok(wanted)) => text.bytes() == wanted.as_bytes(),
+        _ => false,
+    }
+}
+
+#[test]
+fn states_are_shown_line_by_line(rt: HostRuntime) -> Result<(), Fail> {
+    let alloc = rt.alloc();
+    let first = Shown::State(read_state(alloc, state().as_slice())?);
+    let lines = [
+        "state version 1 height 0 assets 1",
+        "asset 0 price 16777216 rounding 0",
+        "account 1 last 0 balances 100",
+        "account 2 last 0 balances 5",
+    ];
+    assert!(rt; shows(alloc, &first, lines.as_slice()));
+    let second = Shown::State(read_state(alloc, state_of_version_2().as_slice())?);
+    let lines = [
+        "state version 2 height 0 assets 1",
+        "asset 0 price 16777216 rounding 0",
+        "account 1 last 0 used 0 balances 100",
+        "account 2 last 0 used 0 balances 5",
+    ];
+    assert!(rt; shows(alloc, &second, lines.as_slice()));
+    Ok(())
+}
+
+#[test]
+fn a_block_and_candidates_are_shown_line_by_line(rt: HostRuntime) -> Result<(), Fail> {
+    let alloc = rt.alloc();
+    let payload = block();
+    let block = Shown::Block(read_block(alloc, payload.as_slice())?);
+    let lines = [
+        "block version 2 height 1 mu 10 assets 1",
+        "parent bcd1b46f695bd408d89db353ff0415ad1cde33d6b05b334401fafa188d59d5ec",
+        "body 89192071fc174966334dc05ded6935be068c947f69b4d23ba83aaac533dd0321",
+        "asset 0 price 16777216 potential 0 rounding 0",
+        "dropped none",
+        "after f65a7d2e2f491f98e2a610455f014995c6348f533539a7bd3289f23374465f7a",
+        "transactions 2",
+        "tx 1 1 pay 2 0 30",
+        "tx 2 1 pay 1 0 20",
+    ];
+    assert!(rt; shows(alloc, &block, lines.as_slice()));
+    // The transactions of a block are bytes of candidates.
+    let txs = Shown::Candidates(read_candidates(alloc, &payload[130..])?);
+    let lines = ["candidates 2", "tx 1 1 pay 2 0 30", "tx 2 1 pay 1 0 20"];
+    assert!(rt; shows(alloc, &txs, lines.as_slice()));
+    Ok(())
+}
+
+#[test]
+fn outcomes_and_a_script_are_shown_line_by_line(rt: HostRuntime) -> Result<(), Fail> {
+    let alloc = rt.alloc();
+    let overdraft = Outcome::Overdraft { seen: 40, need: 60 };
+    let outcomes = ListOf::of(vec![in alloc; Outcome::Accepted, overdraft]?);
+    let lines = ["outcomes 2", "0 accepted", "1 overdraft seen 40 need 60"];
+    assert!(rt; shows(alloc, &Shown::Outcomes(outcomes), lines.as_slice()));
+    let turns = Bytes::of(vec![in alloc; 0u8, 1]?);
+    let script = Shown::Script(Script { actors: 2, turns });
+    let lines = ["script actors 2 turns 2", "turn 0", "turn 1"];
+    assert!(rt; shows(alloc, &script, lines.as_slice()));
+    Ok(())
+}
+
+// Whether this status has this line.
+fn says(alloc: Global, status: &Status, line: &str) -> bool {
+    match status_line(alloc, status) {
+        Ok(text) => text.bytes() == line.as_bytes(),
+        Err(_) => false,
+    }
+}
+
+#[test]
+fn each_status_has_its_line(rt: HostRuntime) {
+    for (status, line) in [
+        (Status::Done, ""),
+        (
+            Status::Usage,
+            "usage: speedex seal, replay, check, show, interleave, migrate or demo N\n",
+        ),
+        (Status::ReadFault, "read fault\n"),
+        (Status::WriteFault, "write fault\n"),
+        (Status::NoMemory, "out of memory\n"),
+        (
+            Status::Malformed(FormFault {
+                at: 259,
+                fault: Form::Short,
+            }),
+            "malformed at 259: 1 Short\n",
+        ),
+    ] {
+        assert!(rt; says(rt.alloc(), &status, line), "{line}");
+    }
+}
+
+#[test]
+fn refusals_have_their_fields(rt: HostRuntime) -> Result<(), Fail> {
+    let asset = AssetId::new(1)?;
+    for (block, why, line) in [
+        (0, Invalid::Ended, "refused block 0: 1 Ended\n"),
+        (
+            2,
+            Invalid::Tx {
+                index: 0,
+                why: Static::SeqBeyond,
+            },
+            "refused block 2: 6 Tx index 0 static 3\n",
+        ),
+        (
+            0,
+            Invalid::Overdrawn {
+                account: AccountId(1),
+                asset,
+                opening: 100,
+                debits: 101,
+            },
+            "refused block 0: 10 Overdrawn account 1 asset 1 opening 100 debits 101\n",
+        ),
+        (
+            0,
+            Invalid::Slack {
+                sell: asset,
+                buy: asset,
+                gain: -5,
+                y: 167_772_160,
+            },
+            "refused block 0: 13 Slack sell 1 buy 1 gain -5 y 167772160\n",
+        ),
+        (
+            0,
+            Invalid::NoCut { cut: Cut(2) },
+            "refused block 0: 14 NoCut cut 00000002\n",
+        ),
+    ] {
+        let status = Status::Refused { block, why };
+        assert!(rt; says(rt.alloc(), &status, line), "{line}");
+    }
+    Ok(())
+}
+
+#[test]
+fn a_valid_block_is_told(rt: HostRuntime) -> Result<(), Fail> {
+    let checked = Checked {
+        height: 1,
+        value: 2_013_265_920,
+        dropped: false,
+    };
+    let line = check_line(rt.alloc(), &checked)?;
+    let wanted = b"valid height 1 value 2013265920 bounds kept\n";
+    assert_eq!(rt; line.bytes(), wanted.as_slice());
+    Ok(())
+}
