@@ -5,7 +5,7 @@ pub mod Leading
 pub mod Tracing
 pub mod Shifting
 pub mod Simple
-pub mod Entering
+pub mod Listing
 pub mod Found
 pub mod Sounding
 pub mod Balance

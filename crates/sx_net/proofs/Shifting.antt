@@ -1,16 +1,16 @@
 -- A push, arc by arc.
 use Rattle.std.proofs.Common.{◌≡◌, ◌≢◌, ℕ, ◌+◌, ◌%◌, ◌<◌, ◌⊎◌, List, [], ◌∷◌, ◌++◌, length, get_or, refl, sym, ap, ◌∙◌}
-use Rattle.std.proofs.Common.{inl, inr, arith}
+use Rattle.std.proofs.Common.{set, length-set, inl, inr, arith}
 use Rattle.std.specs.List.{All}
 use Rattle.std.proofs.lemmas.Bool.{cases_eq}
 use Rattle.std.proofs.lemmas.Bool.Decides.{nat_tests}
-use Rattle.std.proofs.lemmas.List.{get_or_push, get_or_append_left, length_push}
+use Rattle.std.proofs.lemmas.List.{get_or_push, get_or_append_left, length_push, get_or-set_same, get_or-set_other}
 use Rattle.std.proofs.lemmas.List.Elements.{All-push}
 use Rattle.sx_net.specs.declared.arc.Arc.{Arc}
-use Rattle.sx_net.specs.Arcs.{tail_of, head_of, left_of, reverse_of, room_of}
-use Rattle.sx_net.specs.Leaving.{AreListed}
+use Rattle.sx_net.specs.Arcs.{no_arc, tail_of, head_of, left_of, is_allowed, reverse_of, room_of}
 use Rattle.sx_net.specs.Network.{Pushes}
 use Rattle.sx_net.specs.Sound.{HasReverse, AreSound, Shifts}
+use Rattle.sx_net.proofs.Listing.{set_keeps}
 
 pub reverse_twice : (a : ℕ) → reverse_of (reverse_of a) ≡ a
 reverse_twice a = grind (arith, nat_tests)
@@ -31,6 +31,32 @@ all_first P xs a all k d within =
 all_last : (P : ℕ → Type 0) (xs : List ℕ) (a : ℕ) → All P (xs ++ a ∷ []) → P a
 all_last P xs a all =
     rw (← get_or_push xs a 0 (length xs) refl) (all (length xs) 0 (omega (arith, length_push xs a)))
+
+-- an arc has so much less left, and its reverse so much more
+pub shift_two : (arcs : List Arc) (a back amount : ℕ) (x y : Arc) → a < length arcs → back < length arcs →
+    back ≡ reverse_of a → x.tail ≡ tail_of arcs a → x.head ≡ head_of arcs a → x.allowed ≡ is_allowed arcs a →
+    x.left + amount ≡ left_of arcs a → y.tail ≡ tail_of (set arcs a x) back → y.head ≡ head_of (set arcs a x) back →
+    y.allowed ≡ is_allowed (set arcs a x) back → y.left ≡ left_of (set arcs a x) back + amount →
+    Shifts arcs (set (set arcs a x) back y) a amount
+shift_two arcs a back amount x y within back_in is x_tail x_head x_allowed x_left y_tail y_head y_allowed y_left =
+    let inside : back < length (set arcs a x) = omega (arith, back_in, length-set arcs a x) in
+    let apart : a ≢ back = λ same. reverse_other a (sym is ∙ sym same) in
+    record {
+      count = length-set (set arcs a x) back y ∙ length-set arcs a x;
+      tails = λ b. set_keeps (λ arc. arc.tail) (set arcs a x) back y inside y_tail b (cases_eq b back)
+          ∙ set_keeps (λ arc. arc.tail) arcs a x within x_tail b (cases_eq b a);
+      heads = λ b. set_keeps (λ arc. arc.head) (set arcs a x) back y inside y_head b (cases_eq b back)
+          ∙ set_keeps (λ arc. arc.head) arcs a x within x_head b (cases_eq b a);
+      allowed = λ b. set_keeps (λ arc. arc.allowed) (set arcs a x) back y inside y_allowed b (cases_eq b back)
+          ∙ set_keeps (λ arc. arc.allowed) arcs a x within x_allowed b (cases_eq b a);
+      lowered = ap (λ arc. arc.left + amount) (get_or-set_other (set arcs a x) back a y no_arc apart
+          ∙ get_or-set_same arcs a x no_arc within) ∙ x_left;
+      raised = rw (← is) (ap (λ arc. arc.left) (get_or-set_same (set arcs a x) back y no_arc inside) ∙ y_left
+          ∙ ap (λ arc. arc.left + amount) (get_or-set_other arcs a back x no_arc (λ same. apart (sym same))));
+      others = λ b one two. ap (λ arc. arc.left)
+          (get_or-set_other (set arcs a x) back b y no_arc (λ same. two (same ∙ is))
+          ∙ get_or-set_other arcs a b x no_arc one);
+    }
 
 room_kept : (mid new : List Arc) (a amount : ℕ) → Shifts mid new a amount → (b : ℕ) → (b ≡ a) ⊎ (b ≢ a) →
     (b ≡ reverse_of a) ⊎ (b ≢ reverse_of a) → room_of new b ≡ room_of mid b
@@ -127,11 +153,4 @@ module _ (old new : List Arc) (same : SameEnds old new) where
     reverses = λ a within. HasReverse-same a (was.reverses a (omega (arith, same.count)));
     rooms = λ a within. let inside : a < length old = omega (arith, same.count) in
         omega (arith, same.rooms a inside, was.rooms a inside);
-  }
-
-  pub AreListed-same : (lists : List (List (ℕ × ℕ))) → AreListed lists old → AreListed lists new
-  AreListed-same lists was = record {
-    leaving = λ node a listed. let at = was.leaving node a listed in
-        (omega (arith, same.count, at.0), same.tails a ∙ at.1);
-    all = λ a within. rw (same.tails a) (was.all a (omega (arith, same.count)));
   }

@@ -1,23 +1,23 @@
 -- What keeps a net sound.
-use Rattle.std.proofs.Common.{◌≡◌, ◌≢◌, ℕ, ◌+◌, ◌-◌, ◌^◌, ◌<◌, ◌⊎◌, Bool, true, List, [], ◌∷◌, ◌++◌, length, get_or}
-use Rattle.std.proofs.Common.{set, refl, sym}
+use Rattle.std.proofs.Common.{◌≡◌, ◌≢◌, ℕ, ◌+◌, ◌-◌, ◌^◌, ◌*◌, ◌<◌, ◌≤◌, ◌⊎◌, true, List, [], ◌∷◌, ◌++◌, length}
+use Rattle.std.proofs.Common.{set, replicate, refl, sym}
 use Rattle.std.proofs.Common.{ap, ◌∙◌, inl, inr, arith, length-set}
 use Rattle.std.proofs.lemmas.Bool.{cases_eq}
 use Rattle.std.proofs.lemmas.Bool.Decides.{nat_tests}
-use Rattle.std.proofs.lemmas.List.{get_or_push, get_or_append_left, length_push, get_or-set_same, get_or-set_other}
-use Rattle.std.proofs.lemmas.List.{get_or_read}
+use Rattle.std.proofs.lemmas.List.{length-replicate, get_or_push, get_or_append_left, length_push}
 use Rattle.sx_links.specs.Lists.{Lists}
 use Rattle.sx_net.specs.declared.arc.Arc.{Arc}
 use Rattle.sx_net.specs.Arcs.{no_arc, arc_at, tail_of, head_of, left_of, reverse_of, room_of}
 use Rattle.sx_net.specs.Leaving.{AreListed}
 use Rattle.sx_net.specs.Sound.{HasReverse, AreSound, IsPushable, IsSound}
-use Rattle.sx_net.proofs.Shifting.{SameEnds, AreSound-same, AreListed-same}
-use Rattle.sx_net.proofs.Simple.{IsPushable-more}
+use Rattle.sx_net.proofs.Shifting.{SameEnds, AreSound-same}
+use Rattle.sx_net.proofs.Listing.{set_keeps, AreListed-none}
+use Rattle.sx_net.proofs.Simple.{IsPushable-none, IsPushable-more}
 
-module _ (links : Lists ℕ) (nodes : ℕ) (arcs : List Arc) (room spare : ℕ) (path : List ℕ) (path_room : ℕ)
-    (sound : IsSound links nodes arcs room spare path path_room) where
+module _ (leaving : Lists ℕ) (links : List ℕ) (link_room nodes : ℕ) (arcs : List Arc) (room spare : ℕ) (path : List ℕ)
+    (path_room : ℕ) (sound : IsSound leaving links link_room nodes arcs room spare path path_room) where
   pub IsSound-path : (path' : List ℕ) (path_room' : ℕ) → IsPushable (length arcs) path' → path_room' ≡ path_room →
-      IsSound links nodes arcs room spare path' path_room'
+      IsSound leaving links link_room nodes arcs room spare path' path_room'
   IsSound-path path' path_room' pushable same = record {
     lists = sound.lists;
     listed = sound.listed;
@@ -25,58 +25,59 @@ module _ (links : Lists ℕ) (nodes : ℕ) (arcs : List Arc) (room spare : ℕ) 
     pushable = pushable;
     free = sound.free;
     fits = sound.fits;
+    links_fit = sound.links_fit;
     few = sound.few;
     path_fits = omega (arith, sound.path_fits, same);
   }
 
-  pub IsSound-arcs : (arcs' : List Arc) → SameEnds arcs arcs' → IsSound links nodes arcs' room spare path path_room
-  IsSound-arcs arcs' same = record {
-    lists = sound.lists;
-    listed = AreListed-same arcs arcs' same links.lists sound.listed;
+  pub IsSound-arcs : (leaving' : Lists ℕ) (links' : List ℕ) (arcs' : List Arc) → SameEnds arcs arcs' →
+      AreListed leaving'.lists links' arcs' (length arcs') → length leaving'.lists ≡ length leaving.lists →
+      leaving'.spare ≡ leaving.spare → IsSound leaving' links' link_room nodes arcs' room spare path path_room
+  IsSound-arcs leaving' links' arcs' same listed lists free = record {
+    lists = lists ∙ sound.lists;
+    listed = listed;
     sound = AreSound-same arcs arcs' same nodes sound.sound;
     pushable = rw same.count sound.pushable;
-    free = sound.free;
+    free = free ∙ sound.free;
     fits = omega (arith, sound.fits, same.count);
+    links_fit = omega (arith, sound.links_fit, same.count);
     few = omega (arith, sound.few, same.count);
     path_fits = sound.path_fits;
   }
 
--- an arc that is allowed or forbidden keeps all else
-module _ (arcs : List Arc) (a : ℕ) (was : Arc) (on : Bool) (within : a < length arcs) (is : was ≡ get_or arcs a was)
-  where
-    put : Arc
-    put = record { tail = was.tail; head = was.head; left = was.left; allowed = on }
-
-    here : arc_at (set arcs a put) a ≡ put
-    here = get_or-set_same arcs a put no_arc within
-
-    was_there : was ≡ arc_at arcs a
-    was_there = get_or_read arcs a was within is no_arc
-
-    tails : (b : ℕ) → (b ≡ a) ⊎ (b ≢ a) → tail_of (set arcs a put) b ≡ tail_of arcs b
-    unfolding put
-    tails b (inl same) = rw same (ap (λ x. x.tail) here ∙ ap (λ x. x.tail) was_there)
-    tails b (inr other) = ap (λ x. x.tail) (get_or-set_other arcs a b put no_arc other)
-
-    heads : (b : ℕ) → (b ≡ a) ⊎ (b ≢ a) → head_of (set arcs a put) b ≡ head_of arcs b
-    unfolding put
-    heads b (inl same) = rw same (ap (λ x. x.head) here ∙ ap (λ x. x.head) was_there)
-    heads b (inr other) = ap (λ x. x.head) (get_or-set_other arcs a b put no_arc other)
-
-    lefts : (b : ℕ) → (b ≡ a) ⊎ (b ≢ a) → left_of (set arcs a put) b ≡ left_of arcs b
-    unfolding put
-    lefts b (inl same) = rw same (ap (λ x. x.left) here ∙ ap (λ x. x.left) was_there)
-    lefts b (inr other) = ap (λ x. x.left) (get_or-set_other arcs a b put no_arc other)
-
-    pub SameEnds-allowed :
-        SameEnds arcs (set arcs a (record { tail = was.tail; head = was.head; left = was.left; allowed = on }))
-    unfolding put
-    SameEnds-allowed = record {
-      count = length-set arcs a put;
-      tails = λ b. tails b (cases_eq b a);
-      heads = λ b. heads b (cases_eq b a);
-      rooms = λ b inside. omega (arith, lefts b (cases_eq b a), lefts (reverse_of b) (cases_eq (reverse_of b) a));
+-- an arc in the place of one with the same ends and as much left
+pub SameEnds-set : (arcs : List Arc) (a : ℕ) (arc : Arc) → a < length arcs → arc.tail ≡ tail_of arcs a →
+    arc.head ≡ head_of arcs a → arc.left ≡ left_of arcs a → SameEnds arcs (set arcs a arc)
+SameEnds-set arcs a arc within tail head left =
+    let lefts = λ (b : ℕ). set_keeps (λ x. x.left) arcs a arc within left b (cases_eq b a) in
+    record {
+      count = length-set arcs a arc;
+      tails = λ b. set_keeps (λ x. x.tail) arcs a arc within tail b (cases_eq b a);
+      heads = λ b. set_keeps (λ x. x.head) arcs a arc within head b (cases_eq b a);
+      rooms = λ b inside. omega (arith, lefts b, lefts (reverse_of b));
     }
+
+-- no arcs
+pub IsSound-none : (lists spare link_room nodes room arcs path_room : ℕ) → lists ≡ 2 * nodes → lists < 2 ^ 32 →
+    spare ≡ 2 * arcs → 2 * arcs ≤ link_room → 2 * arcs ≤ room → arcs < 2 ^ 31 → nodes ≤ path_room →
+    IsSound (record { lists = replicate lists []; spare = spare }) [] link_room nodes [] room arcs [] path_room
+IsSound-none lists spare link_room nodes room arcs path_room is few free links_fit fits count path_fits = record {
+  lists = length-replicate {A = List (ℕ × ℕ)} lists [] ∙ is;
+  listed = AreListed-none lists few;
+  sound = record {
+    even = refl;
+    tails = λ a within. absurd (omega arith);
+    heads = λ a within. absurd (omega arith);
+    reverses = λ a within. absurd (omega arith);
+    rooms = λ a within. absurd (omega arith);
+  };
+  pushable = IsPushable-none 0;
+  free = free;
+  fits = omega (arith, fits);
+  links_fit = omega (arith, links_fit);
+  few = omega (arith, count);
+  path_fits = path_fits;
+}
 
 -- an arc and its reverse come to an even number of arcs
 module _ (nodes : ℕ) (arcs : List Arc) (was : AreSound nodes arcs) (tail head room : ℕ) (tail_in : tail < nodes)
@@ -176,24 +177,29 @@ module _ (nodes : ℕ) (arcs : List Arc) (was : AreSound nodes arcs) (tail head 
         (omega (arith, first, second, ap (left_of two) second_reverse));
   }
 
-  pub IsSound-push : (links links' : Lists ℕ) (room' room'' spare : ℕ) (path : List ℕ) (path_room : ℕ) →
-      IsSound links nodes arcs room' spare path path_room → 0 < spare → length links'.lists ≡ length links.lists →
-      links'.spare + 2 ≡ links.spare → room'' ≡ room' →
-      AreListed links'.lists
+  pub IsSound-push : (leaving leaving' : Lists ℕ) (links links' : List ℕ) (link_room link_room' room' room'' spare : ℕ)
+      (path : List ℕ) (path_room : ℕ) → IsSound leaving links link_room nodes arcs room' spare path path_room →
+      0 < spare → length leaving'.lists ≡ length leaving.lists → leaving'.spare + 2 ≡ leaving.spare →
+      link_room' ≡ link_room → room'' ≡ room' →
+      AreListed leaving'.lists links'
       ((arcs ++ record { tail = tail; head = head; left = room; allowed = true } ∷ [])
-      ++ record { tail = head; head = tail; left = 0; allowed = true } ∷ []) →
-      IsSound links' nodes
+      ++ record { tail = head; head = tail; left = 0; allowed = true } ∷ [])
+      (length ((arcs ++ record { tail = tail; head = head; left = room; allowed = true } ∷ [])
+      ++ record { tail = head; head = tail; left = 0; allowed = true } ∷ [])) →
+      IsSound leaving' links' link_room' nodes
       ((arcs ++ record { tail = tail; head = head; left = room; allowed = true } ∷ [])
       ++ record { tail = head; head = tail; left = 0; allowed = true } ∷ [])
       room'' (spare - 1) path path_room
   unfolding two there back
-  IsSound-push links links' room' room'' spare path path_room sound some lists free same listed = record {
-    lists = lists ∙ sound.lists;
-    listed = listed;
-    sound = AreSound-two;
-    pushable = IsPushable-more (length arcs) (length two) path (omega (arith, count)) sound.pushable;
-    free = omega (arith, sound.free, free, some);
-    fits = omega (arith, sound.fits, count, same, some);
-    few = omega (arith, sound.few, count, some);
-    path_fits = sound.path_fits;
-  }
+  IsSound-push leaving leaving' links links' link_room link_room' room' room'' spare path path_room sound some lists
+      free link_same same listed = record {
+        lists = lists ∙ sound.lists;
+        listed = listed;
+        sound = AreSound-two;
+        pushable = IsPushable-more (length arcs) (length two) path (omega (arith, count)) sound.pushable;
+        free = omega (arith, sound.free, free, some);
+        fits = omega (arith, sound.fits, count, same, some);
+        links_fit = omega (arith, sound.links_fit, count, link_same, some);
+        few = omega (arith, sound.few, count, some);
+        path_fits = sound.path_fits;
+      }

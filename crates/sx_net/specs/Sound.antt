@@ -25,15 +25,16 @@ pub record IsPushable (count : ℕ) (path : List ℕ) : Type 0 where
   pub apart : (i j : ℕ) → i < j → j < length path → slice_index path i ≢ slice_index path j
   pub no_return : (i j : ℕ) → i < j → j < length path → slice_index path i ≢ reverse_of (slice_index path j)
 
--- all of it, where `room` and `path_room` are the capacities for arcs and for the path
-pub record IsSound (links : Lists ℕ) (nodes : ℕ) (arcs : List Arc) (room spare : ℕ) (path : List ℕ) (path_room : ℕ)
-    : Type 0 where
-  pub lists : length links.lists ≡ nodes
-  pub listed : AreListed links.lists arcs
+-- all of it, where `link_room`, `room` and `path_room` are the capacities for links, for arcs and for the path
+pub record IsSound (leaving : Lists ℕ) (links : List ℕ) (link_room nodes : ℕ) (arcs : List Arc) (room spare : ℕ)
+    (path : List ℕ) (path_room : ℕ) : Type 0 where
+  pub lists : length leaving.lists ≡ 2 * nodes
+  pub listed : AreListed leaving.lists links arcs (length arcs)
   pub sound : AreSound nodes arcs
   pub pushable : IsPushable (length arcs) path
-  pub free : links.spare ≡ 2 * spare
+  pub free : leaving.spare ≡ 2 * spare
   pub fits : length arcs + 2 * spare ≤ room
+  pub links_fit : length arcs + 2 * spare ≤ link_room
   pub few : length arcs + 2 * spare < 2 ^ 32 - 1
   pub path_fits : nodes ≤ path_room
 

@@ -16,10 +16,12 @@
 //!
 //! [`Net::search`] looks for a path of open arcs from one node to another: arcs that are allowed and
 //! have at least a given amount left. It visits nodes in the order of their distance, at most once
-//! each, and so looks at each arc at most once. Where it finds no path, the nodes that it reached are
-//! all that open arcs lead to, and no open arc leaves them: they are the cut that shows that there is no
-//! path. [`Net::push`] pushes an amount along the path that was found. [`Net::new`] takes all memory;
-//! the other calls take none.
+//! each, and so looks at each arc at most once. Arcs that are forbidden or have nothing left cost it
+//! nothing: each node keeps a list of those that can carry something, and an arc goes from list to list
+//! when it is allowed, forbidden or pushed through. Where a search finds no path, the nodes that it
+//! reached are all that open arcs lead to, and no open arc leaves them: they are the cut that shows that
+//! there is no path. [`Net::push`] pushes an amount along the path that was found. [`Net::new`] takes all
+//! memory; the other calls take none.
 //!
 //! [`Steps`] counts the searches, at no cost, for bounds on how often a solver searches.
 //!

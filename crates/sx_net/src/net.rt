@@ -7,7 +7,7 @@ ghost use Rattle.sx_net.specs.Network.{with_arc, with_allowed, Pushes, MovesRoom
 ghost use Rattle.sx_net.specs.Paths.{IsPath, Reaches};
 
 use crate::arc::{Arc, look_up};
-use crate::leaving::enter;
+use crate::leaving::{enter, replace};
 use crate::pushing::push_along;
 use crate::search::{grow, trace};
 use crate::steps::Steps;
@@ -22,8 +22,9 @@ use sx_links::Links;
 /// is handed in must be in range.
 #[derive(Drop)]
 pub struct Net {
-    // For each node the arcs that leave it.
+    // The arcs that leave each node, in two lists, and the link of each arc.
     leaving: Links<u32>,
+    links: Vec<u32>,
     arcs: Vec<Arc>,
     // How many arcs, each with its reverse, can still be added.
     spare: u32,
@@ -48,13 +49,13 @@ impl Model for Net {
       reached = map (λ visit. visit.node) net.tree.visits;
     } };
 
-    ghost invariant = { λ net. IsSound net.leaving net.tree.nodes net.arcs.items (vec_capacity net.arcs) net.spare
-        net.path.items (vec_capacity net.path) };
+    ghost invariant = { λ net. IsSound net.leaving net.links.items (vec_capacity net.links) net.tree.nodes
+        net.arcs.items (vec_capacity net.arcs) net.spare net.path.items (vec_capacity net.path) };
 }
 
 impl Net {
     /// A net of the nodes `0..nodes` without arcs, with room for `arcs` arcs and their reverses. It may
-    /// answer `NoMemory` in place of any other answer.
+    /// answer `NoMemory` in place of any other answer, and does so from `2^31` nodes on.
     pub fn new(alloc: Global, nodes: u32, arcs: u32) -> Result<Net, NoMemory>
         requires { arcs < 2 ^ 31 }
         ensures { IfOk result (λ net. net ≡ record {
@@ -65,10 +66,14 @@ impl Net {
           reached = [];
         }) }
     {
-        let mut leaving = Links::new(alloc, nodes)?;
+        let Some(lists) = nodes.checked_mul(2) else {
+            return Err(NoMemory);
+        };
+        let mut leaving = Links::new(alloc, lists)?;
         leaving.reserve(2 * arcs)?;
         Ok(Net {
             leaving,
+            links: Vec::with_capacity(alloc, 2 * arcs as usize)?,
             arcs: Vec::with_capacity(alloc, 2 * arcs as usize)?,
             spare: arcs,
             tree: Tree::new(alloc, nodes)?,
@@ -102,8 +107,8 @@ impl Net {
             left: 0,
             allowed: true,
         };
-        enter(&mut self.leaving, &mut self.arcs, arc);
-        enter(&mut self.leaving, &mut self.arcs, back);
+        enter(&mut self.leaving, &mut self.links, &mut self.arcs, arc);
+        enter(&mut self.leaving, &mut self.links, &mut self.arcs, back);
         self.spare -= 1;
         number
     }
@@ -122,13 +127,22 @@ impl Net {
         requires { arc < length self.old.arcs }
         ensures { self.new ≡ record self.old { arcs = with_allowed self.old.arcs arc on } }
     {
-        self.arcs[arc as usize].allowed = on;
+        let before = look_up(self.arcs.as_slice(), arc);
+        let allowed = on;
+        replace(
+            &mut self.leaving,
+            self.links.as_mut_slice(),
+            self.arcs.as_mut_slice(),
+            arc,
+            Arc { allowed, ..before },
+        );
     }
 
     /// Whether allowed arcs that have at least `least` left lead from one node to another. Where they do,
     /// a path of such arcs is kept, and it comes to no node twice. Where they do not, no path is kept, and
     /// the nodes reached are all to which such arcs lead. It counts one step. It looks at each arc at most
-    /// once and takes no memory.
+    /// once, and unless `least` is 0 at no arc that is forbidden, has nothing left or leads to the node that
+    /// it leaves. It takes no memory.
     pub fn search<L: Ledger>(
         &mut self,
         tail: u32,
@@ -151,8 +165,17 @@ impl Net {
     {
         steps.tick();
         self.path.clear();
+        let links = self.links.as_slice();
         let arcs = self.arcs.as_slice();
-        match grow(&self.leaving, arcs, least, &mut self.tree, tail, head) {
+        match grow(
+            &self.leaving,
+            links,
+            arcs,
+            least,
+            &mut self.tree,
+            tail,
+            head,
+        ) {
             Some(place) => {
                 trace(&self.tree, place, &mut self.path);
                 true
@@ -186,7 +209,13 @@ impl Net {
             → MovesRoom self.old.arcs self.new.arcs tail head amount }
         ensures rest { self.new ≡ record self.old { arcs = self.new.arcs; path = [] } }
     {
-        push_along(self.arcs.as_mut_slice(), self.path.as_slice(), amount);
+        push_along(
+            &mut self.leaving,
+            self.links.as_mut_slice(),
+            self.arcs.as_mut_slice(),
+            self.path.as_slice(),
+            amount,
+        );
         self.path.clear();
     }
 }

@@ -1,6 +1,7 @@
 //! The search of a net, breadth first.
 
-ghost use Rattle.std.specs.Prelude.{◌≡◌, ◌<◌, ◌≤◌, ℕ, length, [], IfSome, IfNone, vec_capacity};
+ghost use Rattle.std.specs.Prelude.{◌≡◌, ◌<◌, ◌≤◌, ◌*◌, ◌/◌, ℕ, length, [], IfSome, IfNone, Some, slice_get, vec_capacity};
+ghost use Rattle.sx_links.specs.Lists.{list_at};
 ghost use Rattle.sx_net.specs.Arcs.{tail_of, head_of, IsOpen};
 ghost use Rattle.sx_net.specs.Leaving.{AreListed};
 ghost use Rattle.sx_net.specs.Trees.{IsTree, Extends, IsExplored, IsClosed, LeadsBack};
@@ -28,10 +29,46 @@ fn follow(arcs: &[Arc], least: u128, tree: &mut Tree, from: u32, arc: u32)
     }
 }
 
-// Follows each arc that leaves the node of a visit.
-fn explore(leaving: &Links<u32>, arcs: &[Arc], least: u128, tree: &mut Tree, from: u32)
-    requires listed { AreListed leaving.now.lists arcs.now }
-    requires lists { length leaving.now.lists ≡ tree.old.nodes }
+// Follows each arc of a list of the node of a visit.
+fn scan(
+    leaving: &Links<u32>,
+    links: &[u32],
+    arcs: &[Arc],
+    least: u128,
+    tree: &mut Tree,
+    from: u32,
+    list: u32,
+)
+    requires listed { AreListed leaving.now.lists links.now arcs.now (length arcs.now) }
+    requires list { list < length leaving.now.lists }
+    requires heads { (a : ℕ) → a < length arcs.now → head_of arcs.now a < tree.old.nodes }
+    requires from { from < length tree.old.visits }
+    requires node { list / 2 ≡ node_at tree.old.visits from }
+    requires linked { IsTree arcs.now least tree.old.visits }
+    ensures nodes { tree.new.nodes ≡ tree.old.nodes }
+    ensures linked { IsTree arcs.now least tree.new.visits }
+    ensures more { Extends tree.old.visits tree.new.visits }
+    ensures followed { (p link a : ℕ) → slice_get (list_at leaving.now.lists list) p ≡ Some (link, a)
+        → IsOpen arcs.now least a → IsVisited tree.new.visits (head_of arcs.now a) }
+{
+    let mut link = leaving.first(list);
+    while let Some(here) = link {
+        follow(arcs, least, tree, from, *leaving.value(here));
+        link = leaving.next(here);
+    }
+}
+
+// Follows each arc that leaves the node of a visit and may be open.
+fn explore(
+    leaving: &Links<u32>,
+    links: &[u32],
+    arcs: &[Arc],
+    least: u128,
+    tree: &mut Tree,
+    from: u32,
+)
+    requires listed { AreListed leaving.now.lists links.now arcs.now (length arcs.now) }
+    requires lists { length leaving.now.lists ≡ 2 * tree.old.nodes }
     requires heads { (a : ℕ) → a < length arcs.now → head_of arcs.now a < tree.old.nodes }
     requires from { from < length tree.old.visits }
     requires node { node_at tree.old.visits from < tree.old.nodes }
@@ -41,11 +78,11 @@ fn explore(leaving: &Links<u32>, arcs: &[Arc], least: u128, tree: &mut Tree, fro
     ensures more { Extends tree.old.visits tree.new.visits }
     ensures explored { IsExplored arcs.now least tree.new.visits from }
 {
-    let node = tree.at(from).node;
-    let mut link = leaving.first(node);
-    while let Some(here) = link {
-        follow(arcs, least, tree, from, *leaving.value(here));
-        link = leaving.next(here);
+    let list = 2 * tree.at(from).node;
+    scan(leaving, links, arcs, least, tree, from, list);
+    let all = least == 0;
+    if all {
+        scan(leaving, links, arcs, least, tree, from, list + 1);
     }
 }
 
@@ -53,14 +90,15 @@ fn explore(leaving: &Links<u32>, arcs: &[Arc], least: u128, tree: &mut Tree, fro
 // answers the place of the head.
 pub fn grow(
     leaving: &Links<u32>,
+    links: &[u32],
     arcs: &[Arc],
     least: u128,
     tree: &mut Tree,
     tail: u32,
     head: u32,
 ) -> Option<u32>
-    requires listed { AreListed leaving.now.lists arcs.now }
-    requires lists { length leaving.now.lists ≡ tree.old.nodes }
+    requires listed { AreListed leaving.now.lists links.now arcs.now (length arcs.now) }
+    requires lists { length leaving.now.lists ≡ 2 * tree.old.nodes }
     requires heads { (a : ℕ) → a < length arcs.now → head_of arcs.now a < tree.old.nodes }
     requires tail { tail < tree.old.nodes }
     requires head { head < tree.old.nodes }
@@ -84,7 +122,7 @@ pub fn grow(
         if place.is_some() {
             return place;
         }
-        explore(leaving, arcs, least, tree, next);
+        explore(leaving, links, arcs, least, tree, next);
         next += 1;
     }
     tree.place(head)

@@ -1,9 +1,12 @@
 use Rattle.std.proofs.Common.{◌≡◌, refl, length, arith}
-use Rattle.sx_net.proofs.Entering.{AreListed-push}
+use Rattle.sx_net.proofs.Listing.{AreListed-enter}
 use Rattle.sx_net.proofs.leaving.enter.Goals as goal
 
 pub returns-clause-listed : goal.returns-clause-listed
 returns-clause-listed c =
-    let count : c.len.result ≡ length c.args.arcs.now.items = omega arith in
-    rw (c.push_after.ensures.front refl, c.push_reserved.ensures.items, count)
-    (AreListed-push _ _ c.requires.listed c.args.arc c.push_after.result c.requires.tail)
+    let count : c.len-number.result ≡ length c.args.arcs.now.items = omega arith in
+    let front = c.push_after-link.ensures.front refl in
+    let apart = rw (front, count) at c.push_after-link.ensures.disjoint in
+    rw (front, c.push_reserved.ensures.items, c.push_reserved-2.ensures.items, count)
+    (AreListed-enter _ _ _ c.requires.listed c.args.arc c.requires.tail c.list_number.result c.push_after-link.result
+    c.list_number.ensures apart)

@@ -10,7 +10,8 @@ invariant_of-self c =
     let spare = rw (← c.self.view_is) at c.requires.spare in
     rw (c.enter-2.ensures.arcs, c.enter.ensures.arcs)
     (IsSound-push _ _ c.self.invariant.sound c.args.tail c.args.head c.args.room tail head c.ranges.room.fits
-    c.self.inside.leaving _ _ _ _ _ _ c.self.invariant spare (c.enter-2.ensures.lists ∙ c.enter.ensures.lists)
+    c.self.inside.leaving _ _ _ _ _ _ _ _ _ _ c.self.invariant spare (c.enter-2.ensures.lists ∙ c.enter.ensures.lists)
     (omega (arith, c.enter-2.ensures.spare, c.enter.ensures.spare))
+    (c.enter-2.ensures.link_capacity ∙ c.enter.ensures.link_capacity)
     (c.enter-2.ensures.capacity ∙ c.enter.ensures.capacity)
     listed)

@@ -9,7 +9,7 @@ pub invariant_of-self : goal.invariant_of-self
 invariant_of-self g c =
     let simple = found_path _ _ c.as_slice-arcs.ensures.value _ _ _ c.grow.ensures.linked c.grow.ensures.root
     c.grow.ensures.apart c.trace.new.path.items _ _ c.trace.ensures.path c.in-Some.ensures.some.1 in
-    let kept = IsSound-path _ _ _ _ _ _ _ c.self.invariant c.trace.new.path.items _
+    let kept = IsSound-path _ _ _ _ _ _ _ _ _ c.self.invariant c.trace.new.path.items _
     (IsPath-pushable _ c.self.invariant.sound.reverses _ _ _ simple)
     (c.trace.ensures.room ∙ c.clear.ensures.capacity) in
     rw c.grow.ensures.nodes kept

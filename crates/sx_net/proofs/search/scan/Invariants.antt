@@ -3,10 +3,10 @@ use Rattle.sx_links.specs.Lists.{list_at, node_at, rest_from}
 use Rattle.sx_net.specs.Arcs.{head_of, IsOpen}
 use Rattle.sx_net.specs.Trees.{IsTree, Extends}
 use Rattle.sx_net.specs.Visits.{IsVisited}
-use Rattle.sx_net.proofs.search.explore.Given as goal
+use Rattle.sx_net.proofs.search.scan.Given as goal
 
 abbrev pub invariant-loop-link : goal.invariant-loop-link
-invariant-loop-link l = let xs = list_at l.leaving.lists l.node in record {
+invariant-loop-link l = let xs = list_at l.leaving.lists l.list in record {
   place : ℕ;
   here : l.link ≡ node_at xs place;
   rest : rest_from l.link xs ≡ drop place xs;
@@ -18,4 +18,4 @@ invariant-loop-link l = let xs = list_at l.leaving.lists l.node in record {
 }
 
 abbrev pub decreases-loop-link : goal.decreases-loop-link
-decreases-loop-link l = length (rest_from l.link (list_at l.leaving.lists l.node))
+decreases-loop-link l = length (rest_from l.link (list_at l.leaving.lists l.list))
