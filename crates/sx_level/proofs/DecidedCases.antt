@@ -1,6 +1,6 @@
 -- Answers to two assets of which each may be sold for the other up to a value of 5, worked out by hand: those that do not
 -- fit, and those that are not decided.
-use Rattle.std.proofs.Common.{◌≡◌, ℕ, zero, suc, ◌<◌, ◌≤◌, [], ◌∷◌, refl, arith}
+use Rattle.std.proofs.Common.{◌≡◌, ℕ, zero, suc, ◌^◌, ◌<◌, ◌≤◌, [], ◌∷◌, refl, arith}
 use Rattle.std.proofs.lemmas.Int.{ints}
 use Rattle.sx_dual.specs.Circulation.{IsBalanced, IsCirculation, IsWithin}
 use Rattle.sx_dual.specs.Sums.{EachPair, sum_below}
@@ -15,13 +15,28 @@ bounds = record { assets = 2; low = 0 ∷ 0 ∷ 0 ∷ 0 ∷ []; high = 0 ∷ 5 �
 abbrev idle : FlowTable
 idle = record { assets = 2; values = 0 ∷ 0 ∷ 0 ∷ 0 ∷ [] }
 
+-- each pair trades all that it may, which fits equal potentials
+abbrev full : FlowTable
+full = record { assets = 2; values = 0 ∷ 5 ∷ 5 ∷ 0 ∷ [] }
+
+-- what must be sold for the first asset is more than it may be sold for
+abbrev forced : BoundsTable
+forced = record { assets = 2; low = 0 ∷ 0 ∷ 5 ∷ 0 ∷ []; high = 0 ∷ 4 ∷ 5 ∷ 0 ∷ [] }
+
 -- ---- answers that do not fit
 
-not_of_one_asset : IsSolved bounds (Best (record { assets = 1; values = 0 ∷ [] }) (0 ∷ 0 ∷ [])) → ⊥
+-- by the places of one asset, and of three, each pair trades 5 here too
+not_of_one_asset : IsSolved bounds (Best (record { assets = 1; values = 0 ∷ 5 ∷ [] }) (0 ∷ 0 ∷ [])) → ⊥
 not_of_one_asset is = let same = is.same_assets in omega (arith, same)
 
-not_one_potential : IsSolved bounds (Best idle (0 ∷ [])) → ⊥
+not_of_three_assets : IsSolved bounds (Best (record { assets = 3; values = 0 ∷ 5 ∷ 0 ∷ 5 ∷ [] }) (0 ∷ 0 ∷ [])) → ⊥
+not_of_three_assets is = let same = is.same_assets in omega (arith, same)
+
+not_one_potential : IsSolved bounds (Best full (0 ∷ [])) → ⊥
 not_one_potential is = let count = is.one_potential in omega (arith, count)
+
+not_three_potentials : IsSolved bounds (Best full (0 ∷ 0 ∷ 0 ∷ [])) → ⊥
+not_three_potentials is = let count = is.one_potential in omega (arith, count)
 
 -- with equal potentials each pair gains 1
 not_idle : IsSolved bounds (Best idle (0 ∷ 0 ∷ [])) → ⊥
@@ -33,6 +48,10 @@ not_idle is =
 not_cut : IsSolved bounds (Cut (record { 0 = 1 })) → ⊥
 unfolding sum_below
 not_cut is = let more : 5 < 0 = is.cut in omega (arith, more)
+
+-- a sixth asset is none of theirs
+not_beyond_the_assets : IsSolved forced (Cut (record { 0 = 33 })) → ⊥
+not_beyond_the_assets is = let within : 33 < 2 ^ 2 = is.within in omega (arith, within)
 
 -- ---- answers that decide nothing
 
@@ -59,6 +78,12 @@ idle_is_not_greatest : IsDecided bounds (Best idle (0 ∷ 0 ∷ [])) → ⊥
 unfolding sum_below
 idle_is_not_greatest is =
     let less : 10 ≤ 0 = is.greatest (λ sell buy. 5) (circulates 5 (omega arith)) in omega (arith, less)
+
+-- no circulation trades more, since it is none
+too_much_is_none : IsDecided bounds (Best (record { assets = 2; values = 0 ∷ 9 ∷ 9 ∷ 0 ∷ [] }) (0 ∷ 0 ∷ [])) → ⊥
+too_much_is_none is =
+    let in_bounds = is.circulation.within 0 1 (omega arith) (omega arith) (λ same. omega (arith, same)) in
+    let less : 9 ≤ 5 = in_bounds.at_most in omega (arith, less)
 
 there_is_one : IsDecided bounds (Cut (record { 0 = 1 })) → ⊥
 there_is_one none = none (λ sell buy. 0) (circulates 0 (omega arith))
