@@ -3,3 +3,5 @@ pub mod TradeLaws
 pub mod BlockLaws
 pub mod PriceLaws
 pub mod SearchCounts
+pub mod QuoteCases
+pub mod SearchCases
