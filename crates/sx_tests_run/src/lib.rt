@@ -2,8 +2,8 @@
 //!
 //! What is a row through the program is a stored case under `examples/cases/` and no test. Here is
 //! what no input of the program can show: sources and sinks that give and take their bytes in pieces
-//! of any size, that fail in mid-stream, and that overcome an interruption, and that the workers of a seal
-//! run at the same time.
+//! of any size, that fail in mid-stream at each take and each put of every command, and that overcome an
+//! interruption, and that the workers of a seal run at the same time.
 #![tactic(auto)]
 
 #[cfg(test)]
@@ -12,6 +12,8 @@ mod chain;
 mod chains;
 #[cfg(test)]
 mod counting;
+#[cfg(test)]
+mod faults;
 #[cfg(test)]
 mod long;
 #[cfg(test)]

@@ -4,7 +4,7 @@ use std::alloc::{AllocError, Global};
 
 // The record of the state: one asset at the price 1; account 1 has 100, and account 2 has 5.
 #[rattlefmt::skip]
-fn state() -> [u8; 87] {
+pub fn state() -> [u8; 87] {
     [
         1, 0, 0, 0, 82, 1, 0, 0, 0, 0, 0, 0, 0, 0, 1, 0, 0, 0, 0, 1, 0, 0, 0, 0, 0, 0, 0, 0, 0, 0, 0, 0,
         0, 0, 2, 0, 0, 0, 0, 0, 0, 0, 1, 0, 0, 0, 0, 0, 0, 0, 0, 0, 0, 0, 0, 0, 0, 0, 100, 0, 0, 0, 0, 0,
@@ -14,7 +14,7 @@ fn state() -> [u8; 87] {
 
 // The record of a block of one payment: 30 of account 1 to account 2.
 #[rattlefmt::skip]
-fn block() -> [u8; 173] {
+pub fn block() -> [u8; 173] {
     [
         3, 0, 0, 0, 168, 1, 0, 0, 0, 0, 0, 0, 0, 1, 188, 209, 180, 111, 105, 91, 212, 8, 216, 157, 179, 83, 255, 4, 21, 173, 28, 222,
         51, 214, 176, 91, 51, 68, 1, 250, 250, 24, 141, 89, 213, 236, 78, 151, 237, 57, 5, 142, 109, 49, 163, 8, 131, 98, 80, 165, 23, 198, 208, 120,

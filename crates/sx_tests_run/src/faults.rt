@@ -1,0 +1,124 @@
+//! Each take and each put of every command but `seal`, made to fail.
+
+use crate::counting::run;
+use crate::payment::{block, state};
+use std::alloc::Global;
+use std::thread::Threads;
+use sx_base::{MemSink, MemSource};
+use sx_run::Status;
+
+// The records of no candidate, and of a script of 3 actors with two turns.
+#[rattlefmt::skip]
+fn script() -> [u8; 21] {
+    [
+        2, 0, 0, 0, 4, 0, 0, 0, 0, 5, 0, 0, 0, 7, 3, 0, 0, 0, 2, 2, 0,
+    ]
+}
+
+fn words(alloc: Global, command: &str) -> Option<Vec<String>> {
+    let mut words = Vec::new(alloc);
+    words.push(String::from_str(alloc, command).ok()?).ok()?;
+    if command == "demo" {
+        words.push(String::from_str(alloc, "1").ok()?).ok()?;
+    }
+    Some(words)
+}
+
+// The records that the command reads: a state, and what comes after it.
+fn input(alloc: Global, command: &str) -> Option<Vec<u8>> {
+    let mut input = Vec::from_slice(alloc, &state()).ok()?;
+    match command {
+        "check" | "replay" => input.extend_from_slice(&block()).ok()?,
+        "interleave" => input.extend_from_slice(&script()).ok()?,
+        _ => {}
+    }
+    Some(input)
+}
+
+// They come in pieces of 7 bytes, from a source that fails at these calls.
+fn source(alloc: Global, command: &str, fails: &[u32]) -> Option<MemSource> {
+    let fails = Vec::from_slice(alloc, fails).ok()?;
+    Some(MemSource::new(input(alloc, command)?, 7, fails))
+}
+
+// A sink that takes pieces of 7 bytes and fails at these calls.
+fn sink(alloc: Global, fails: &[u32]) -> Option<MemSink> {
+    let room = vec![in alloc; 0; 300].ok()?;
+    Some(MemSink::new(room, 7, Vec::from_slice(alloc, fails).ok()?))
+}
+
+// How the command ends, and what it was written to.
+fn ended<R: Threads + Sync>(
+    rt: &R,
+    alloc: Global,
+    command: &str,
+    source_fails: &[u32],
+    sink_fails: &[u32],
+) -> Option<(Status, MemSink)> {
+    let words = words(alloc, command)?;
+    let mut source = source(alloc, command, source_fails)?;
+    let mut sink = sink(alloc, sink_fails)?;
+    let status = run(rt, alloc, &words, &mut source, &mut sink);
+    Some((status, sink))
+}
+
+// How many takes there are: each that fails is a read fault with nothing written, and one that would come after the
+// last changes nothing.
+fn failing_takes<R: Threads + Sync>(rt: &R, alloc: Global, command: &str) -> Option<u32> {
+    let mut faults = 0u32;
+    for call in 0..45u32 {
+        let (status, sink) = ended(rt, alloc, command, &[call], &[])?;
+        match status {
+            Status::ReadFault if faults == call && sink.written().is_empty() => {
+                faults = faults.saturating_add(1);
+            }
+            Status::Done => {}
+            _ => return None,
+        }
+    }
+    Some(faults)
+}
+
+// Whether these are so many bytes, and the first of those.
+fn is_start(start: &[u8], count: usize, whole: &[u8]) -> bool {
+    start.len() == count && whole.starts_with(start)
+}
+
+// How many puts there are: each that fails is a write fault after all that those before it wrote, and one that would
+// come after the last changes nothing.
+fn failing_puts<R: Threads + Sync>(rt: &R, alloc: Global, command: &str) -> Option<u32> {
+    let (_, whole) = ended(rt, alloc, command, &[], &[])?;
+    let mut faults = 0u32;
+    for call in 0..30u32 {
+        let (status, sink) = ended(rt, alloc, command, &[], &[call])?;
+        let before = 7 * call as usize;
+        match status {
+            Status::WriteFault
+                if faults == call && is_start(sink.written(), before, whole.written()) => {
+                faults = faults.saturating_add(1);
+            }
+            Status::Done if sink.written() == whole.written() => {}
+            _ => return None,
+        }
+    }
+    Some(faults)
+}
+
+// A state has 87 bytes in 14 takes, and a block 173 in 26; the take after them finds the end.
+#[test]
+fn each_take_and_each_put_may_fail(rt: HostRuntime) {
+    for (command, takes, puts) in [
+        ("check", 41, 5),
+        ("replay", 41, 13),
+        ("interleave", 21, 2),
+        ("migrate", 15, 15),
+        ("show", 15, 18),
+        ("demo", 0, 26),
+    ] {
+        let failing = (
+            failing_takes(&rt, rt.alloc(), command),
+            failing_puts(&rt, rt.alloc(), command),
+        );
+        assert_eq!(rt; failing, (Some(takes), Some(puts)));
+    }
+}
