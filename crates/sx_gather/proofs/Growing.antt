@@ -49,7 +49,8 @@ grow_one seats at old seat claims notes stands is shard =
           ap (view_at (slice_set seats at seat)) e
           ∙ view_set seats at seat (slice_get_within seats at old stands)
           ∙ is
-          ∙ ap (λ (view : View). grown view claims notes) (sym (view_is seats at old stands) ∙ ap (view_at seats) (sym e))
+          ∙ ap (λ (view : View). grown view claims notes)
+          (sym (view_is seats at old stands) ∙ ap (view_at seats) (sym e))
           ∙ ap₂ (grown (view_at seats shard)) (sym (here at shard claims e)) (sym (here at shard notes e))
       | inr apart ↦
           view_other seats at shard seat apart

@@ -3,7 +3,8 @@ use Rattle.std.proofs.Common.{◌≡◌, ℕ, ◌<◌, ◌≤◌, List, [], ◌+
 use Rattle.std.proofs.Common.{subst, ◌∙◌, inl, inr, arith, length-append}
 use Rattle.std.specs.List.{Contains}
 use Rattle.std.proofs.lemmas.Bool.{cases_lt}
-use Rattle.std.proofs.lemmas.List.Elements.{All-append, All-nil, All-weaker, Contains-append_left, Contains-append_right}
+use Rattle.std.proofs.lemmas.List.Elements.{All-append, All-nil, All-weaker, Contains-append_left}
+use Rattle.std.proofs.lemmas.List.Elements.{Contains-append_right}
 use Rattle.sx_event.specs.declared.marks.Claim.{Claim}
 use Rattle.sx_event.specs.View.{View, opened}
 use Rattle.sx_layout.specs.declared.outcome.Outcome.{Outcome}
@@ -188,7 +189,8 @@ pub joined_as : (gather : Gathering) (pass other : Passing) (spare : ℕ) (seats
     → pass.outcomes ++ other.outcomes ≡ outcomes
     → IsPassOf gather (record (with_other pass other spare after) { outcomes = outcomes })
 joined_as gather pass other spare seats after outcomes is too done meets are join same more =
-    subst (λ (list : List Outcome). IsPassOf gather (record (with_other pass other spare after) { outcomes = list })) more
+    subst (λ (list : List Outcome). IsPassOf gather (record (with_other pass other spare after) { outcomes = list }))
+    more
     (subst (λ (list : List Seated). IsPassOf gather (with_other pass other spare list)) same
     (joined_is gather pass other spare seats is too done meets are join))
 

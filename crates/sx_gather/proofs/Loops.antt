@@ -1,6 +1,6 @@
 -- Lists of seats that grow at the end, or shrink, one by one, in step with the shards.
-use Rattle.std.proofs.Common.{◌≡◌, ◌≢◌, ◌⊎◌, ℕ, zero, suc, ◌+◌, ◌<◌, ◌≤◌, List, [], ◌∷◌, ◌++◌, length, get_or, map, Some, inl}
-use Rattle.std.proofs.Common.{inr, refl, sym, ap, ap₂, subst, ◌∙◌, arith, length-append}
+use Rattle.std.proofs.Common.{◌≡◌, ◌≢◌, ◌⊎◌, ℕ, zero, suc, ◌+◌, ◌<◌, ◌≤◌, List, [], ◌∷◌, ◌++◌, length, get_or, map}
+use Rattle.std.proofs.Common.{Some, inl, inr, refl, sym, ap, ap₂, subst, ◌∙◌, arith, length-append}
 use Rattle.std.specs.Prelude.{slice_get}
 use Rattle.std.proofs.lemmas.Bool.{cases_eq}
 use Rattle.std.proofs.lemmas.List.{get_or_append_left, get_or_push, length-map, map-append}
@@ -203,12 +203,13 @@ joins_more shards first others seats after before left seat joins is are last he
 -- ---- the end
 
 -- the shards from one on have ended
-pub record Finishes (first : List Shown) (places : List Seated) (shards : List Shown) (seats : List Seated) : Type 0 where
-  pub one_each : length seats ≡ length shards
-  pub front_shards : (k : ℕ) → k < length shards → slice_get shards k ≡ slice_get first k
-  pub front_seats : (k : ℕ) → k < length seats → slice_get seats k ≡ slice_get places k
-  pub ended : (k : ℕ) (shard : Shown) → length shards ≤ k → slice_get first k ≡ Some shard
-      → HasEnded shard (view_at places k)
+pub record Finishes (first : List Shown) (places : List Seated) (shards : List Shown) (seats : List Seated) : Type 0
+  where
+    pub one_each : length seats ≡ length shards
+    pub front_shards : (k : ℕ) → k < length shards → slice_get shards k ≡ slice_get first k
+    pub front_seats : (k : ℕ) → k < length seats → slice_get seats k ≡ slice_get places k
+    pub ended : (k : ℕ) (shard : Shown) → length shards ≤ k → slice_get first k ≡ Some shard
+        → HasEnded shard (view_at places k)
 
 pub finishes_more : (first : List Shown) (places : List Seated) (shards left : List Shown) (seats rest : List Seated)
     (shard : Shown) (seat : Seated) → Finishes first places shards seats → shards ≡ left ++ shard ∷ []

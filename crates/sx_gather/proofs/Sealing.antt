@@ -41,8 +41,8 @@ module _ (view : View) where
   words_from None ended = ([], [])
   words_from (Some shard) ended = ((ended shard refl).purses, (ended shard refl).bits)
 
-  words_end : (found : Option Shown) (ended : (shard : Shown) → found ≡ Some shard → HasEnded shard view) (shard : Shown)
-      → found ≡ Some shard → Ends shard view (words_from found ended).0 (words_from found ended).1
+  words_end : (found : Option Shown) (ended : (shard : Shown) → found ≡ Some shard → HasEnded shard view)
+      (shard : Shown) → found ≡ Some shard → Ends shard view (words_from found ended).0 (words_from found ended).1
   words_end None ended shard is = absurd cc
   words_end (Some one) ended shard is =
       subst (λ (s : Shown). Ends s view (words_from (Some one) ended).0 (words_from (Some one) ended).1)

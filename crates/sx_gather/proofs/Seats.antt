@@ -17,7 +17,8 @@ seen seat = seat.view
 
 -- ---- views
 
-pub view_is : (seats : List Seated) (k : ℕ) (seat : Seated) → slice_get seats k ≡ Some seat → view_at seats k ≡ seat.view
+pub view_is : (seats : List Seated) (k : ℕ) (seat : Seated) → slice_get seats k ≡ Some seat
+    → view_at seats k ≡ seat.view
 view_is seats k seat at =
     get_or-map (λ (s : Seated). s.view) seats k seat spent (slice_get_within seats k seat at)
     ∙ ap (λ (s : Seated). s.view) (get_or_from_slice_get seats k seat seat at)
@@ -55,8 +56,9 @@ get_other (x ∷ xs) (suc k) zero y apart = refl
 get_other (x ∷ xs) (suc k) (suc j) y apart = get_other xs k j y (λ e. apart (ap suc e))
 
 -- the seat at one shard is changed, and is still one of that shard
-pub seats_set : (shards : List Shown) (seats : List Seated) (k : ℕ) (shard : Shown) (seat : Seated) → AreSeats shards seats
-    → slice_get shards k ≡ Some shard → IsOf shard seat → AreSeats shards (slice_set seats k seat)
+pub seats_set : (shards : List Shown) (seats : List Seated) (k : ℕ) (shard : Shown) (seat : Seated)
+    → AreSeats shards seats → slice_get shards k ≡ Some shard → IsOf shard seat
+    → AreSeats shards (slice_set seats k seat)
 seats_set shards seats k shard seat are at of = record {
   one_each = length-set seats k seat ∙ are.one_each;
   of = λ j one new there put.

@@ -30,8 +30,8 @@ pub record Gathering : Type 0 where
   pub plan : Plan
   pub shards : List Shown
 
--- a range of candidates, from the first up to the end, of which those before `next` are decided; their outcomes; for how
--- many more outcomes there is memory; and a seat at each shard
+-- a range of candidates, from the first up to the end, of which those before `next` are decided; their outcomes; for
+-- how many more outcomes there is memory; and a seat at each shard
 pub record Passing : Type 0 where
   pub from : ℕ
   pub next : ℕ

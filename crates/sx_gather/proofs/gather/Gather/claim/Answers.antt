@@ -21,7 +21,8 @@ returns-clause-ok c =
     slice_get_read seats (length seats) at.shard old refl lt c.index-seats-k.is in
     on_ok c.claim.result _ _
     (λ is. grow_claims seats at.shard old c.claim.new.seat (claim ∷ []) stands
-    (is ∙ ap (λ (s : Seated). with_claim s.view claim) (c.at_shard.view_is ∙ sym c.index-seats-k.is) ∙ claimed old.view claim))
+    (is ∙ ap (λ (s : Seated). with_claim s.view claim) (c.at_shard.view_is ∙ sym c.index-seats-k.is)
+    ∙ claimed old.view claim))
     c.claim.ensures.ok
 
 pub returns-clause-err : goal.returns-clause-err
@@ -36,5 +37,6 @@ returns-clause-err c =
     slice_get_read seats (length seats) at.shard old refl lt c.index-seats-k.is in
     on_err c.claim.result _ _
     (λ is. grow_notes seats at.shard old c.claim.new.seat (note ∷ []) stands
-    (is ∙ ap (λ (s : Seated). with_note s.view note) (c.at_shard.view_is ∙ sym c.index-seats-k.is) ∙ noted old.view note))
+    (is ∙ ap (λ (s : Seated). with_note s.view note) (c.at_shard.view_is ∙ sym c.index-seats-k.is)
+    ∙ noted old.view note))
     c.claim.ensures.err

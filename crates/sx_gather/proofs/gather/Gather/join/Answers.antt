@@ -22,7 +22,8 @@ returns-clause-of c =
     let done : pass.next ≡ pass.end =
     subst (λ (p : Passing). p.next ≡ p.end) (sym c.pass.view_is) c.requires.done in
     let meets : other.from ≡ pass.end =
-    ap (λ (p : Passing). p.from) c.other.view_is ∙ c.requires.meets ∙ ap (λ (p : Passing). p.end) (sym c.pass.view_is) in
+    ap (λ (p : Passing). p.from) c.other.view_is ∙ c.requires.meets
+    ∙ ap (λ (p : Passing). p.end) (sym c.pass.view_is) in
     joined_as g pass other (vec_capacity outcomes - vec_len outcomes) seats
     (with_items c.pass.inside.seats seats).items outcomes.items is too done meets c.join_seats.ensures.seats
     (subst (λ (before : List Seated). AreJoined before other.seats seats) c.deref_mut.ensures.value

@@ -17,7 +17,8 @@ returns-clause-ok c =
     slice_get_read seats (length seats) at.shard old refl lt c.index-seats-k.is in
     on_ok c.reserve.result _ _
     (λ is. reserved_is seats old c.reserve.new.seat at c.args.need stands
-    (subst (λ (s : Seated). Reserves s.view at.word c.args.need c.reserve.new.seat.view) (c.at_shard.view_is ∙ sym c.index-seats-k.is) is))
+    (subst (λ (s : Seated). Reserves s.view at.word c.args.need c.reserve.new.seat.view)
+    (c.at_shard.view_is ∙ sym c.index-seats-k.is) is))
     c.reserve.ensures.ok
 
 pub returns-clause-err : goal.returns-clause-err

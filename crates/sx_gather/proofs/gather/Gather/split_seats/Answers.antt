@@ -11,9 +11,9 @@ loop-k-preserved c =
       splits =
           subst (λ (new : List Seated). Splits shards c.args.seats.now one.new.seats new c.args.at (c.loop-k.k + 1))
           (sym c.push_reserved.ensures.items)
-          (splits_more shards c.args.seats.now c.loop-k.seats one.new.seats c.loop-k.new_seats.items c.args.at c.loop-k.k
-          one.result c.loop-k.invariant.splits one.ensures.seats one.ensures.left one.ensures.others one.ensures.of
-          one.ensures.right);
+          (splits_more shards c.args.seats.now c.loop-k.seats one.new.seats c.loop-k.new_seats.items c.args.at
+          c.loop-k.k one.result c.loop-k.invariant.splits one.ensures.seats one.ensures.left one.ensures.others
+          one.ensures.of one.ensures.right);
       room =
           omega (
             arith,

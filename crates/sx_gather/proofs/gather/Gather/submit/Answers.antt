@@ -61,7 +61,8 @@ returns-clause-decides c =
     subst (λ (before : List Seated). Decides g.parts g.plan before seats one) c.deref_mut.ensures.value
     c.judge-outcome.ensures.decides in
     let same : seats ≡ after =
-    sym (with_items_is c.pass.inside.seats seats (omega (arith, c.judge-outcome.auto.seats, c.deref_mut.ensures.len))) in
+    sym (with_items_is c.pass.inside.seats seats
+    (omega (arith, c.judge-outcome.auto.seats, c.deref_mut.ensures.len))) in
     if_some (slice_get g.candidates c.args.pass.now.next) tx
     (λ t. Decides g.parts g.plan c.args.pass.now.seats after (record { tx = t; outcome = said }))
     (ap (λ (p : Passing). slice_get g.candidates p.next) (sym c.pass.view_is) ∙ at)
