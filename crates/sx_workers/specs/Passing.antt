@@ -8,8 +8,8 @@ abbrev pub IsHeld : (Passing → Type 0) → Option Passing → Type 0
 IsHeld Such None = ⊥
 IsHeld Such (Some pass) = Such pass
 
--- the pass of worker k among n has the part of that worker, and memory for the outcomes to come; the first pass has memory
--- for those of all candidates
+-- the pass of worker k among n has the part of that worker, and memory for the outcomes to come; the first pass has
+-- memory for those of all candidates
 pub record HasPart (gather : Gathering) (n k : ℕ) (pass : Passing) : Type 0 where
   pub of : IsPassOf gather pass
   pub from : pass.from ≡ part_begin (length gather.candidates) n k
@@ -27,7 +27,8 @@ IsDone gather n k pass = HasPart gather n k pass × (pass.next ≡ pass.end)
 -- the passes stand on a stack, that of worker 0 on top
 abbrev pub AreHeld : (ℕ → Passing → Type 0) → ℕ → List (Option Passing) → Type 0
 AreHeld Such n slots =
-    (place : ℕ) (d : Option Passing) → place < length slots → IsHeld (Such (n - 1 - place)) (slice_index_or slots place d)
+    (place : ℕ) (d : Option Passing) → place < length slots
+    → IsHeld (Such (n - 1 - place)) (slice_index_or slots place d)
 
 -- all that the pass had left is decided, and its range is the same
 pub record DecidesRest (gather : Gathering) (before after : Passing) : Type 0 where
