@@ -62,46 +62,35 @@ fn ended<R: Threads + Sync>(
     Some((status, sink))
 }
 
-// How many takes there are: each that fails is a read fault with nothing written, and one that would come after the
-// last changes nothing.
-fn failing_takes<R: Threads + Sync>(rt: &R, alloc: Global, command: &str) -> Option<u32> {
-    let mut faults = 0u32;
-    for call in 0..45u32 {
+// Whether each of so many takes is a read fault with nothing written where it fails, and no other take is made.
+fn takes_fail<R: Threads + Sync>(rt: &R, alloc: Global, command: &str, takes: u32) -> Option<bool> {
+    for call in 0..takes {
         let (status, sink) = ended(rt, alloc, command, &[call], &[])?;
-        match status {
-            Status::ReadFault if faults == call && sink.written().is_empty() => {
-                faults = faults.saturating_add(1);
-            }
-            Status::Done => {}
-            _ => return None,
+        if status != Status::ReadFault || !sink.written().is_empty() {
+            return Some(false);
         }
     }
-    Some(faults)
+    let (status, _) = ended(rt, alloc, command, &[takes], &[])?;
+    Some(status == Status::Done)
 }
 
-// Whether these are so many bytes, and the first of those.
-fn is_start(start: &[u8], count: usize, whole: &[u8]) -> bool {
-    start.len() == count && whole.starts_with(start)
+// Whether this is what so many puts of 7 bytes wrote, the first of all that is to be written.
+fn is_written_by(puts: u32, written: &[u8], whole: &[u8]) -> bool {
+    written.len() % 7 == 0 && written.len() / 7 == puts as usize && whole.starts_with(written)
 }
 
-// How many puts there are: each that fails is a write fault after all that those before it wrote, and one that would
-// come after the last changes nothing.
-fn failing_puts<R: Threads + Sync>(rt: &R, alloc: Global, command: &str) -> Option<u32> {
+// Whether each of so many puts is a write fault where it fails, after what those before it wrote, and no other put is
+// made.
+fn puts_fail<R: Threads + Sync>(rt: &R, alloc: Global, command: &str, puts: u32) -> Option<bool> {
     let (_, whole) = ended(rt, alloc, command, &[], &[])?;
-    let mut faults = 0u32;
-    for call in 0..30u32 {
+    for call in 0..puts {
         let (status, sink) = ended(rt, alloc, command, &[], &[call])?;
-        let before = 7 * call as usize;
-        match status {
-            Status::WriteFault
-                if faults == call && is_start(sink.written(), before, whole.written()) => {
-                faults = faults.saturating_add(1);
-            }
-            Status::Done if sink.written() == whole.written() => {}
-            _ => return None,
+        if status != Status::WriteFault || !is_written_by(call, sink.written(), whole.written()) {
+            return Some(false);
         }
     }
-    Some(faults)
+    let (status, sink) = ended(rt, alloc, command, &[], &[puts])?;
+    Some(status == Status::Done && sink.written() == whole.written())
 }
 
 // A state has 87 bytes in 14 takes, and a block 173 in 26; the take after them finds the end.
@@ -115,10 +104,7 @@ fn each_take_and_each_put_may_fail(rt: HostRuntime) {
         ("show", 15, 18),
         ("demo", 0, 26),
     ] {
-        let failing = (
-            failing_takes(&rt, rt.alloc(), command),
-            failing_puts(&rt, rt.alloc(), command),
-        );
-        assert_eq!(rt; failing, (Some(takes), Some(puts)));
+        assert_eq!(rt; takes_fail(&rt, rt.alloc(), command, takes), Some(true));
+        assert_eq!(rt; puts_fail(&rt, rt.alloc(), command, puts), Some(true));
     }
 }
