@@ -9,9 +9,9 @@ use Rattle.sx_layout.specs.declared.space.NoRoom.TheVariants as no_room
 use Rattle.sx_ledger.specs.declared.parts.Parts.{Parts}
 use Rattle.sx_ledger.specs.Ledger.{IsAccount, IsLedger, IsOffer, total_of}
 use Rattle.sx_price.specs.Limits.{IsPrice}
-use Rattle.sx_run.specs.declared.status.Status.{Status}
-use Rattle.sx_run.specs.declared.status.Status.TheVariants.{Done, Usage, WriteFault, Malformed, Refused}
-use Rattle.sx_run.specs.declared.status.Status.TheVariants.{NoMemory}
+use Rattle.sx_text.specs.declared.status.Status.{Status}
+use Rattle.sx_text.specs.declared.status.Status.TheVariants.{Done, Usage, WriteFault, Malformed, Refused}
+use Rattle.sx_text.specs.declared.status.Status.TheVariants.{NoMemory}
 use Rattle.sx_run.specs.Answers.{Answers, Completes, IsRead, status_of}
 use Rattle.sx_run.specs.Findings.{Finding, Finds, MayCome, as_invalid, malformed, no_fault, refused}
 use Rattle.sx_run.specs.Items.{Item, state}
@@ -76,8 +76,7 @@ migrated = record {
   each = (may_come, tt);
   read = refl;
   finds = record {
-    at_end = refl;
-    none_left = refl;
+    done = (refl, refl);
     may = refl;
     concludes = record { parts = older; are = refl; finds = refl };
   };
@@ -128,7 +127,7 @@ module _ (finds_one : FindsOne) where
 not_usage : Answers Migrate (Some input) (Some input) (Some []) (Some []) Usage → ⊥
 not_usage answers = answers
 
-nothing_left : IsRead (Some input) (Some (5 ∷ [])) → ⊥
+nothing_left : IsRead Migrate (Some input) (Some (5 ∷ [])) → ⊥
 nothing_left is = cc
 
 -- a source that does not tell its bytes had some of which this is found

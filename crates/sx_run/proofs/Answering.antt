@@ -1,22 +1,19 @@
 -- From what a command found to the answer.
-use Rattle.std.proofs.Common.{◌≡◌, ℕ, Bool, false, List, Option, Some, None, Result, Ok, Err, inl, inr, refl, sym, ap}
-use Rattle.std.proofs.Common.{◌∙◌}
-use Rattle.std.specs.Global.{Global}
-use Rattle.std.specs.Prelude.{IfSome, IsTrue, String, if◌then◌else◌}
-use Rattle.sx_run.specs.declared.status.Status.{Status}
-use Rattle.sx_run.specs.declared.status.Status.TheVariants as status
+use Rattle.std.proofs.Common.{◌≡◌, ℕ, List, Option, Some, None, Result, Ok, Err, inl, inr, refl, ap}
+use Rattle.std.specs.Prelude.{IfSome, IsTrue}
+use Rattle.sx_text.specs.declared.status.Status.{Status}
+use Rattle.sx_text.specs.declared.status.Status.TheVariants as status
 use Rattle.sx_run.specs.declared.stop.Stop.{Stop}
 use Rattle.sx_run.specs.declared.stop.Stop.TheVariants as stop
-use Rattle.sx_run.specs.Answers.{Answers, Completes, FitsWords, Found, IsRead, MayWriteIn, asked, if_built, status_of}
-use Rattle.sx_run.specs.Findings.{Finding, Finds, is_built, malformed, no_fault, refused}
+use Rattle.sx_run.specs.Answers.{Answers, Completes, FitsWords, Found, IsRead, MayWriteIn, reads_nothing, status_of}
+use Rattle.sx_run.specs.Answers.{takes_no_input}
+use Rattle.sx_run.specs.Findings.{Finding, Finds, malformed, no_fault, refused}
 use Rattle.sx_run.specs.Laws.{FindsOne}
 use Rattle.sx_run.specs.Running.{IsWritten, Tells}
 use Rattle.sx_run.specs.Status.{UnlessReadFails, status_at}
 use Rattle.sx_run.specs.Stream.{UnlessReadFault}
 use Rattle.sx_run.proofs.Readings.{read_whole}
 use Rattle.sx_words.specs.declared.command.Command.{Command}
-use Rattle.sx_words.specs.Commands.{command_of}
-use Rattle.sx_words.specs.Numbers.{texts}
 
 -- ---- the answer
 
@@ -53,12 +50,13 @@ never_usage (Err (stop.Refused number why)) old new tells = absurd cc
 -- ---- the input
 
 pub was_read : (command : Command) (a b old new : Option (List ℕ)) (r : Result (List ℕ) Stop) (s : Status)
-    → Found command a b r → Tells r old new s → s ≡ status.Done → IsRead a b
-was_read command a b old new (Ok text) s found tells done = read_whole command a b text found
-was_read command a b old new (Err stop.NoMemory) s found tells done = absurd cc
-was_read command a b old new (Err stop.ReadFault) s found tells done = absurd cc
-was_read command a b old new (Err (stop.Malformed fault)) s found tells done = absurd cc
-was_read command a b old new (Err (stop.Refused number why)) s found tells done = absurd cc
+    → (IsTrue (takes_no_input command) → b ≡ a) → Found command a b r → Tells r old new s → s ≡ status.Done
+    → IsRead command a b
+was_read command a b old new (Ok text) s same found tells done = read_whole command a b text same found
+was_read command a b old new (Err stop.NoMemory) s same found tells done = absurd cc
+was_read command a b old new (Err stop.ReadFault) s same found tells done = absurd cc
+was_read command a b old new (Err (stop.Malformed fault)) s same found tells done = absurd cc
+was_read command a b old new (Err (stop.Refused number why)) s same found tells done = absurd cc
 
 read_failed : (r : Result (List ℕ) Stop) (old new : Option (List ℕ)) → Tells r old new status.ReadFault
     → r ≡ Err stop.ReadFault
@@ -109,28 +107,6 @@ completes one command (Some bytes) b old new status.NoMemory answer no_read no_w
 
 -- ---- words
 
-module _ (words : List (String Global)) where
-  built_first : (o : Option Command) (command : Command) → o ≡ Some command → IsTrue (is_built command)
-      → if_built o ≡ Some command
-  built_first o command is built =
-      ap if_built is ∙ ap (λ (b : Bool). if b then Some command else None) built
-
-  unbuilt_first : (o : Option Command) (command : Command) → o ≡ Some command → is_built command ≡ false
-      → if_built o ≡ None
-  unbuilt_first o command is unbuilt =
-      ap if_built is ∙ ap (λ (b : Bool). if b then Some command else None) unbuilt
-
-  pub asked_is : (command : Command) → command_of (texts words) ≡ Some command → IsTrue (is_built command)
-      → asked words ≡ Some command
-  asked_is command is built = built_first (command_of (texts words)) command is built
-
-  pub asked_unbuilt : (command : Command) → command_of (texts words) ≡ Some command → is_built command ≡ false
-      → asked words ≡ None
-  asked_unbuilt command is unbuilt = unbuilt_first (command_of (texts words)) command is unbuilt
-
-  pub asked_none : command_of (texts words) ≡ None → asked words ≡ None
-  asked_none is = ap if_built is
-
 pub for_command : (o : Option Command) (command : Command) (Fact : Command → Type 0) → o ≡ Some command → Fact command
     → IfSome o Fact
 for_command o command Fact is fact = rw is fact
@@ -138,8 +114,10 @@ for_command o command Fact is fact = rw is fact
 pub for_none : (o : Option Command) (Fact : Command → Type 0) → o ≡ None → IfSome o Fact
 for_none o Fact is = rw is tt
 
-pub never_none : (o : Option Command) (command : Command) (Fact : Type 0) → o ≡ Some command → o ≡ None → Fact
-never_none o command Fact is none = absurd (let e = sym is ∙ none in cc)
+-- where words are this command, they read nothing only as it does
+pub unread_then : (o : Option Command) (command : Command) (Fact : Type 0) → o ≡ Some command
+    → (IsTrue (takes_no_input command) → Fact) → IsTrue (reads_nothing o) → Fact
+unread_then o command Fact is fact none = fact (rw is at none)
 
 fits_command : (command : Command) (s : Status) → (s ≡ status.Usage → ⊥) → FitsWords (Some command) s
 fits_command command status.Done never = tt

@@ -1,10 +1,10 @@
--- How many workers and shards there are does not change what a seal may write.
+-- How many workers and shards there are does not change what a seal or a demonstration may write.
 use Rattle.std.proofs.Common.{◌≡◌, ℕ, List, [], ◌∷◌, ◌++◌, sym, subst}
-use Rattle.sx_words.specs.declared.command.Command.TheVariants.{Seal}
+use Rattle.sx_words.specs.declared.command.Command.TheVariants.{Demo, Seal}
 use Rattle.sx_run.specs.Findings.{FindsAtEnd, MayComeAll, no_fault}
 use Rattle.sx_run.specs.Items.{Item}
 use Rattle.sx_run.specs.Outputs.{MayWrite, Writes}
-use Rattle.sx_run.specs.SealLaws.{SealsAlike}
+use Rattle.sx_run.specs.SealLaws.{DemosAlike, SealsAlike}
 
 module _ (workers others shards more mu rounds : ℕ) where
   may_come : (before items : List Item) → MayComeAll (Seal workers shards mu rounds) before items
@@ -27,7 +27,29 @@ seals_alike workers others shards more mu rounds bytes text left x =
         rest = found.rest;
         each = may_come workers others shards more mu rounds [] found.items found.each;
         read = found.read;
-        finds = record { at_end = end.at_end; none_left = end.none_left; may = end.may; concludes = c };
+        finds = record { done = end.done; may = end.may; concludes = c };
       };
       writes = subst (λ (l : List Item). Writes (Seal others more mu rounds) l text) (sym c.are) wrote;
+    }
+
+none_come : (number workers others : ℕ) (items : List Item) → MayComeAll (Demo number workers) [] items
+    → MayComeAll (Demo number others) [] items
+none_come number workers others [] each = tt
+none_come number workers others (one ∷ items) each = absurd each.0.listed
+
+pub demos_alike : DemosAlike
+demos_alike number workers others bytes text left x =
+    let found = x.found in
+    let end : FindsAtEnd (Demo number workers) found.items found.rest no_fault left = found.finds in
+    let c = end.concludes in
+    let wrote = subst (λ (l : List Item). Writes (Demo number workers) l text) c.are x.writes in
+    record {
+      found = record {
+        items = found.items;
+        rest = found.rest;
+        each = none_come number workers others found.items found.each;
+        read = found.read;
+        finds = record { done = end.done; may = end.may; concludes = c };
+      };
+      writes = subst (λ (l : List Item). Writes (Demo number others) l text) (sym c.are) wrote;
     }

@@ -13,8 +13,8 @@ use Rattle.sx_dual.specs.Circulation.{HaveNoCirculation}
 use Rattle.sx_ledger.specs.declared.parts.Parts.{Parts}
 use Rattle.sx_ledger.specs.Ledger.{assets_of}
 use Rattle.sx_record.specs.Decoding.{after_tag, length_at, record_at}
-use Rattle.sx_run.specs.declared.status.Status.TheVariants.{Done, Usage, ReadFault, WriteFault, Malformed, Refused}
-use Rattle.sx_run.specs.declared.status.Status.TheVariants.{NoMemory}
+use Rattle.sx_text.specs.declared.status.Status.TheVariants.{Done, Usage, ReadFault, WriteFault, Malformed, Refused}
+use Rattle.sx_text.specs.declared.status.Status.TheVariants.{NoMemory}
 use Rattle.sx_words.specs.declared.command.Command.{Command}
 use Rattle.sx_words.specs.declared.command.Command.TheVariants.{Check, Interleave, Replay}
 use Rattle.sx_run.specs.Answers.{Answers, Completes, FitsWords}
@@ -111,20 +111,21 @@ not_any_bytes (suc (suc n), few, is) = absurd (omega (arith, few))
 -- ---- seals
 
 -- what a seal writes is of version 1, at the margin and the rounds of the words, and drops no bound without need
-module _ (parts : Parts) (txs : List Tx) (mu rounds : ℕ) (text : List ℕ) (wrote : IsSealed parts txs mu rounds text) where
+module _ (parts : Parts) (txs : List Tx) (mu rounds : ℕ) (text : List ℕ)
+    (wrote : IsSealed parts txs mu rounds text) where
   has_version_1 : wrote.said.header.version ≡ 1
-  has_version_1 = wrote.cleared.version
+  has_version_1 = wrote.made.cleared.version
 
   has_margin : wrote.said.header.mu ≡ mu
-  has_margin = wrote.cleared.margin
+  has_margin = wrote.made.cleared.margin
 
   has_searched_prices : wrote.said.header.prices ≡ searched_at parts wrote.said.txs mu rounds
-  has_searched_prices = wrote.cleared.prices
+  has_searched_prices = wrote.made.cleared.prices
 
   kept_bounds_can_be_kept : HaveNoCirculation (assets_of parts) (undropped_low_in parts wrote.said)
       (high_in parts wrote.said) → wrote.said.header.dropped ≡ None → ⊥
   kept_bounds_can_be_kept none kept =
-      let is = wrote.cleared.dropped.1 none in
+      let is = wrote.made.cleared.dropped.1 none in
       let wrong = rw kept at is in absurd cc
 
 -- ---- worked inputs

@@ -11,8 +11,9 @@ use Rattle.sx_layout.specs.Room.{room_for}
 use Rattle.sx_ledger.specs.declared.parts.Parts.{Parts}
 use Rattle.sx_words.specs.declared.command.Command.{Command}
 use Rattle.sx_words.specs.declared.command.Command.TheVariants.{Check, Demo, Interleave, Migrate, Replay, Seal, Show}
-use Rattle.sx_run.specs.Findings.{Checks, Concludes, Finding, FindsInBlock, FindsRoom, Interleaves, Migrates}
-use Rattle.sx_run.specs.Findings.{RefusesNext, Replays, Seals, StopsAt, as_invalid, malformed, no_fault, refused}
+use Rattle.sx_run.specs.Findings.{Checks, Concludes, Demonstrates, Finding, FindsInBlock, FindsRoom, Interleaves}
+use Rattle.sx_run.specs.Findings.{Migrates, RefusesNext, Replays, Seals, Shows, StopsAt, as_invalid, malformed}
+use Rattle.sx_run.specs.Findings.{no_fault, refused}
 use Rattle.sx_run.specs.Items.{Item, block, candidates, script, state}
 use Rattle.sx_run.specs.Replays.{blocks_of, ledger_after_all}
 use Rattle.sx_tx.specs.declared.tx.Tx.{Tx}
@@ -104,6 +105,14 @@ module _ (one_reason : OneReason) (not_refused : ValidIsNotRefused) where
   one_migration : (items : List Item) (f g : Finding) → Migrates items f → Migrates items g → f ≡ g
   one_migration items f g x y = x.finds ∙ sym y.finds
 
+  -- ---- show and demo
+
+  one_show : (items : List Item) (f g : Finding) → Shows items f → Shows items g → f ≡ g
+  one_show items f g x y = x.finds ∙ sym y.finds
+
+  one_demo : (items : List Item) (f g : Finding) → Demonstrates items f → Demonstrates items g → f ≡ g
+  one_demo items f g x y = x.finds ∙ sym y.finds
+
   -- ---- all commands
 
   pub one_conclusion : (command : Command) (items : List Item) (f g : Finding) → Concludes command items f
@@ -112,9 +121,9 @@ module _ (one_reason : OneReason) (not_refused : ValidIsNotRefused) where
   one_conclusion (Replay workers) = one_replay
   one_conclusion Interleave = one_interleave
   one_conclusion (Seal workers shards mu rounds) = one_seal
-  one_conclusion Show = λ items f g x y. absurd x
+  one_conclusion Show = one_show
   one_conclusion Migrate = one_migration
-  one_conclusion (Demo seed workers) = λ items f g x y. absurd x
+  one_conclusion (Demo number workers) = one_demo
 
 -- ---- a block at which a command stops
 

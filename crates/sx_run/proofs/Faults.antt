@@ -1,6 +1,6 @@
 -- Where reading finds a fault, the next item has it.
 use Rattle.std.proofs.Common.{◌≡◌, ℕ, Bool, true, false, List, [], ◌∷◌, Option, Some, None, Result, Ok, Err, refl, sym}
-use Rattle.std.proofs.Common.{ap, ◌∙◌}
+use Rattle.std.proofs.Common.{ap, subst, ◌∙◌}
 use Rattle.sx_bytes.specs.declared.fault.Form.TheVariants as form
 use Rattle.sx_bytes.specs.declared.fault.FormFault.{FormFault}
 use Rattle.sx_record.specs.declared.frame.Record.{Record}
@@ -77,16 +77,23 @@ module _ (full : Bool) (at : ℕ) (found : Record) (left : List ℕ) where
       (shifted found.at (payload_at found.tag found.payload), left)) is
       ∙ ap (λ (d : Result Item FormFault). (d, left)) bad
 
+-- where one of these records has to be there
+pub listed_stops : (tags : List ℕ) (at : ℕ) (a b : Option (List ℕ)) (found : Record) (s : Stop)
+    → Reads (record_at tags at) a b (Some found)
+    → FailsAs (shifted found.at (payload_at found.tag found.payload)) s
+    → Stops (item_at (record_of tags false false) at) a b s
+listed_stops tags at a b found (stop.Malformed fault) reads fails =
+    bad_record tags false false at a b found fault reads (λ left. bad_payload false at found left fault refl fails)
+listed_stops tags at a b found (stop.Refused number why) reads fails = absurd fails
+listed_stops tags at a b found stop.ReadFault reads fails = tt
+listed_stops tags at a b found stop.NoMemory reads fails = tt
+
 pub payload_stops : (tag at : ℕ) (a b : Option (List ℕ)) (found : Record) (s : Stop)
     → Reads (record_at (tag ∷ []) at) a b (Some found) → found.tag ≡ tag
     → FailsAs (shifted found.at (payload_at tag found.payload)) s → Stops (item_at (needed tag) at) a b s
-payload_stops tag at a b found (stop.Malformed fault) reads tagged fails =
-    bad_record (tag ∷ []) false false at a b found fault reads (λ left.
-    bad_payload false at found left fault refl
-    (ap (λ (t : ℕ). shifted found.at (payload_at t found.payload)) tagged ∙ fails))
-payload_stops tag at a b found (stop.Refused number why) reads tagged fails = absurd fails
-payload_stops tag at a b found stop.ReadFault reads tagged fails = tt
-payload_stops tag at a b found stop.NoMemory reads tagged fails = tt
+payload_stops tag at a b found s reads tagged fails =
+    listed_stops (tag ∷ []) at a b found s reads
+    (subst (λ (t : ℕ). FailsAs (shifted found.at (payload_at t found.payload)) s) (sym tagged) fails)
 
 -- ---- the end
 

@@ -19,6 +19,7 @@ use Rattle.sx_record.specs.Frame.{frame_bytes, most_bytes, record_bytes}
 use Rattle.sx_record.specs.Tags.{block_tag}
 use Rattle.sx_record.proofs.Encoding.{decodes_every_record}
 use Rattle.sx_run.specs.Expected.{Expected, IsExpected, as_some, end_only, item_at, item_in, item_of, record_of}
+use Rattle.sx_run.specs.Expected.{unread}
 use Rattle.sx_run.specs.Expected.{shifted}
 use Rattle.sx_run.specs.Items.{IsItem, Item, as_item, block, candidates, item_record, outcomes, payload_at, payload_of}
 use Rattle.sx_run.specs.Items.{script, state, tag_of}
@@ -78,6 +79,7 @@ in_again full at item left is fits =
 pub item_again : (e : Expected) (at : ℕ) (item : Item) (more : List ℕ) → IsExpected e (tag_of item) → IsItem item
     → item_at e at (item_record item ++ more) ≡ (Ok (Some item), more)
 unfolding item_at
+item_again unread at item more may is = absurd may
 item_again end_only at item more may is = absurd may
 item_again (record_of tags end_too full) at item more may is =
     ap (λ (p : Result (Option Record) FormFault × List ℕ). go_on p (item_of end_too full at))

@@ -3,6 +3,7 @@ pub mod Encodings
 pub mod ItemLaws
 pub mod Faults
 pub mod Taken
+pub mod Ends
 pub mod Readings
 pub mod Conclusions
 pub mod OneFinding
@@ -18,6 +19,8 @@ pub mod Steps
 pub mod SomeItem
 pub mod SomeFinding
 pub mod Answering
+pub mod Demonstrations
+pub mod Shown
 pub mod Cases
 pub mod AnswerCases
 pub mod SettlingCases

@@ -14,7 +14,7 @@ use Rattle.sx_record.specs.Decoding.{record_at}
 use Rattle.sx_record.specs.Tags.{block_tag}
 use Rattle.sx_words.specs.declared.command.Command.{Command}
 use Rattle.sx_words.specs.declared.command.Command.TheVariants.{Check, Demo, Interleave, Migrate, Replay, Seal, Show}
-use Rattle.sx_run.specs.Expected.{Expected, IsExpected, end_only, item_at, may_end, record_of}
+use Rattle.sx_run.specs.Expected.{Expected, IsDoneWith, IsExpected, end_only, item_at, may_end, record_of, unread}
 use Rattle.sx_run.specs.Findings.{Concludes, Finding, Finds, FindsAfter, FindsAtBlock, FindsAtEnd, IsNextValid, MayCome}
 use Rattle.sx_run.specs.Findings.{MayComeAll, RefusesNext, StopsAt, expected, malformed, no_fault, refused}
 use Rattle.sx_run.specs.Items.{IsItem, Item, block, item_record, records, state, tag_of}
@@ -22,7 +22,8 @@ use Rattle.sx_run.specs.Laws.{FindsOne}
 use Rattle.sx_run.specs.Replays.{blocks_of, ends_with_block, expected_in_replay, ledger_after_all, most_blocks}
 use Rattle.sx_run.specs.Replays.{tags_after}
 use Rattle.sx_run.proofs.Conclusions.{one_conclusion, one_stop}
-use Rattle.sx_run.proofs.ItemLaws.{item_again, not_nothing}
+use Rattle.sx_run.proofs.Ends.{done_once, done_without}
+use Rattle.sx_run.proofs.ItemLaws.{item_again}
 
 -- ---- two items at the beginning of one text
 
@@ -77,19 +78,29 @@ same_items command before (i ∷ items) (j ∷ others) rest left a b e stuck oth
 
 -- ---- what is found where nothing more may come
 
--- at the end of the input there is no fault where it may end
+-- there is no fault where no more comes and that may be
 ends : (e : Expected) (at : ℕ) → IsTrue (may_end e) → item_at e at [] ≡ (Ok None, [])
 unfolding item_at record_at
+ends unread at may = refl
 ends end_only at may = refl
 ends (record_of tags true full) at may = refl
 ends (record_of tags false full) at may = absurd cc
 
-faultless_end : (e : Expected) (at : ℕ) (bytes left : List ℕ) (fault : FormFault) → bytes ≡ [] → IsTrue (may_end e)
-    → item_at e at bytes ≡ (Err fault, left) → ⊥
-faultless_end e at bytes left fault none may faulty =
-    let both = ap (λ (p : Result (Option Item) FormFault × List ℕ). p.0)
-    (sym (ends e at may) ∙ ap (item_at e at) (sym none) ∙ faulty) in
-    let wrong : ◌≡◌ {A = Result (Option Item) FormFault} (Ok None) (Err fault) = both in cc
+not_both : (x y : List ℕ) (fault : FormFault)
+    → ◌≡◌ {A = Result (Option Item) FormFault × List ℕ} (Ok None, x) (Err fault, y) → ⊥
+not_both x y fault e =
+    let wrong : ◌≡◌ {A = Result (Option Item) FormFault} (Ok None) (Err fault) =
+    ap (λ (p : Result (Option Item) FormFault × List ℕ). p.0) e in cc
+
+faultless_end : (e : Expected) (at : ℕ) (bytes here left : List ℕ) (fault : FormFault) → IsDoneWith e bytes here
+    → IsTrue (may_end e) → item_at e at bytes ≡ (Err fault, left) → ⊥
+unfolding item_at
+faultless_end unread at bytes here left fault done may faulty = not_both bytes left fault faulty
+faultless_end end_only at bytes here left fault done may faulty =
+    not_both [] left fault (sym (ends end_only at may) ∙ ap (item_at end_only at) (sym done.0) ∙ faulty)
+faultless_end (record_of tags end_too full) at bytes here left fault done may faulty =
+    not_both [] left fault (sym (ends (record_of tags end_too full) at may)
+    ∙ ap (item_at (record_of tags end_too full) at) (sym done.0) ∙ faulty)
 
 faultless_item : (e : Expected) (at : ℕ) (item : Item) (bytes more left : List ℕ) (fault : FormFault)
     → IsExpected e (tag_of item) → IsItem item → bytes ≡ item_record item ++ more
@@ -126,8 +137,10 @@ stops_where_expected Show items said number why stops = absurd stops
 stops_where_expected Migrate items said number why stops = absurd stops
 stops_where_expected (Demo seed workers) items said number why stops = absurd stops
 
-stuck_at_end : (command : Command) (items : List Item) (bytes : List ℕ) → bytes ≡ [] → Stuck command items bytes
-stuck_at_end command items bytes none item more may e = not_nothing item more (sym e ∙ none)
+stuck_at_end : (command : Command) (items : List Item) (bytes left : List ℕ)
+    → IsDoneWith (expected command items) bytes left → Stuck command items bytes
+stuck_at_end command items bytes left done item more may e =
+    done_without (expected command items) bytes left more item done may.listed e
 
 stuck_at_fault : (command : Command) (items : List Item) (at : ℕ) (bytes left : List ℕ) (fault : FormFault)
     → item_at (expected command items) at bytes ≡ (Err fault, left) → Stuck command items bytes
@@ -163,10 +176,11 @@ module _ (one_reason : OneReason) (not_refused : ValidIsNotRefused) where
 
   stuck : (command : Command) (items : List Item) (bytes left : List ℕ) (finding : Finding)
       → FindsAfter command items bytes finding left → Stuck command items bytes
-  stuck command items bytes left no_fault finds = stuck_at_end command items bytes finds.at_end
+  stuck command items bytes left no_fault finds = stuck_at_end command items bytes left finds.done
   stuck command items bytes left (malformed fault) finds =
       stuck_at_fault command items (length (records items)) bytes left fault finds
-  stuck command items bytes left (refused number why) (inl finds) = stuck_at_end command items bytes finds.at_end
+  stuck command items bytes left (refused number why) (inl finds) =
+      stuck_at_end command items bytes left finds.done
   stuck command items bytes left (refused number why) (inr finds) =
       stuck_at_block command items bytes left number why finds
 
@@ -177,19 +191,21 @@ module _ (one_reason : OneReason) (not_refused : ValidIsNotRefused) where
         → (f ≡ g) × (left ≡ right)
     at_end_twice f g x y = (
       one_conclusion one_reason not_refused command items f g x.concludes y.concludes,
-      x.none_left ∙ sym y.none_left,
+      done_once (expected command items) bytes left right x.done y.done,
     )
 
     end_or_block : (finding : Finding) (number : ℕ) (why : Invalid) (more : List ℕ)
         → (here : List ℕ) → FindsAtEnd command items bytes finding here
         → FindsAtBlock command items bytes number why more → ⊥
-    end_or_block finding number why more here x y = not_nothing (block y.said) more (sym y.read ∙ x.at_end)
+    end_or_block finding number why more here x y =
+        done_without (expected command items) bytes here more (block y.said) x.done
+        (stops_where_expected command items y.said number why y.stops) y.read
 
     end_or_fault : (finding : Finding) (fault : FormFault) (here more : List ℕ) →
         FindsAtEnd command items bytes finding here
         → item_at (expected command items) (length (records items)) bytes ≡ (Err fault, more) → ⊥
     end_or_fault finding fault here more x y =
-        faultless_end (expected command items) (length (records items)) bytes more fault x.at_end x.may y
+        faultless_end (expected command items) (length (records items)) bytes here more fault x.done x.may y
 
     block_or_fault : (number : ℕ) (why : Invalid) (fault : FormFault) (here more : List ℕ)
         → FindsAtBlock command items bytes number why here

@@ -1,18 +1,19 @@
--- The output of each command but a seal is one.
+-- The output of each command but a seal and a demonstration is one.
 use Rattle.std.proofs.Common.{◌≡◌, ℕ, List, ◌∷◌, [], refl, sym, subst, ◌∙◌}
 use Rattle.std.specs.Prelude.{IsTrue}
 use Rattle.sx_check.specs.Checked.{checked_of}
 use Rattle.sx_check.specs.Laws.{OneReason, ValidIsNotRefused}
 use Rattle.sx_layout.specs.Running.{outcomes_of_run}
 use Rattle.sx_ledger.specs.Ledger.{migrated}
+use Rattle.sx_text.specs.Shown.{shown_text}
+use Rattle.sx_text.specs.Texts.{checked_text}
 use Rattle.sx_words.specs.declared.command.Command.{Command}
 use Rattle.sx_words.specs.declared.command.Command.TheVariants.{Check, Demo, Interleave, Migrate, Replay, Seal, Show}
 use Rattle.sx_run.specs.Findings.{Concludes, Finds, FindsAtEnd, no_fault}
 use Rattle.sx_run.specs.Items.{Item, item_record, outcomes, state_record}
 use Rattle.sx_run.specs.Laws.{WritesOne, WritesSome}
-use Rattle.sx_run.specs.Outputs.{MayWrite, Writes, writes_one}
+use Rattle.sx_run.specs.Outputs.{MayWrite, Writes, shown_of, writes_one}
 use Rattle.sx_run.specs.Replays.{blocks_of, ledger_after_all}
-use Rattle.sx_run.specs.Texts.{checked_text}
 use Rattle.sx_run.proofs.OneFinding.{one_reading}
 
 -- ---- of the same items
@@ -20,7 +21,8 @@ use Rattle.sx_run.proofs.OneFinding.{one_reading}
 one_text : (command : Command) (items : List Item) (one other : List ℕ) → IsTrue (writes_one command)
     → Concludes command items no_fault → Writes command items one → Writes command items other → one ≡ other
 one_text Check items one other is c x y =
-    subst (λ (l : List Item). Writes Check l one) c.are x ∙ sym (subst (λ (l : List Item). Writes Check l other) c.are y)
+    subst (λ (l : List Item). Writes Check l one) c.are x
+    ∙ sym (subst (λ (l : List Item). Writes Check l other) c.are y)
 one_text (Replay workers) items one other is c x y =
     subst (λ (l : List Item). Writes (Replay workers) l one) c.are x
     ∙ sym (subst (λ (l : List Item). Writes (Replay workers) l other) c.are y)
@@ -31,7 +33,9 @@ one_text Migrate items one other is c x y =
     subst (λ (l : List Item). Writes Migrate l one) c.are x
     ∙ sym (subst (λ (l : List Item). Writes Migrate l other) c.are y)
 one_text (Seal workers shards mu rounds) items one other is c x y = absurd cc
-one_text Show items one other is c x y = absurd cc
+one_text Show items one other is c x y =
+    subst (λ (l : List Item). Writes Show l one) c.are x
+    ∙ sym (subst (λ (l : List Item). Writes Show l other) c.are y)
 one_text (Demo seed workers) items one other is c x y = absurd cc
 
 some_text : (command : Command) (items : List Item) → IsTrue (writes_one command) → Concludes command items no_fault
@@ -49,7 +53,9 @@ some_text Migrate items is c =
     let text = state_record (migrated c.parts) in
     (text, subst (λ (l : List Item). Writes Migrate l text) (sym c.are) refl)
 some_text (Seal workers shards mu rounds) items is c = absurd cc
-some_text Show items is c = absurd cc
+some_text Show items is c =
+    let text = shown_text (shown_of c.item) in
+    (text, subst (λ (l : List Item). Writes Show l text) (sym c.are) refl)
 some_text (Demo seed workers) items is c = absurd cc
 
 -- ---- of an input

@@ -1,6 +1,6 @@
 -- What was read so far of an input, and what is found where no more is read.
 use Rattle.std.proofs.Common.{◌≡◌, ℕ, ◌+◌, List, [], ◌∷◌, ◌++◌, length, Option, Some, None, Result, Ok, Err, inl}
-use Rattle.std.proofs.Common.{refl, sym, ap, subst, ◌∙◌, append_assoc, arith}
+use Rattle.std.proofs.Common.{false, refl, sym, ap, subst, ◌∙◌, append_assoc, arith}
 use Rattle.std.proofs.lemmas.List.{append-nil, length-append}
 use Rattle.std.specs.Prelude.{IsTrue}
 use Rattle.std.specs.List.{flat_map}
@@ -13,13 +13,16 @@ use Rattle.sx_record.specs.Tags.{state_tag}
 use Rattle.sx_run.specs.declared.stop.Stop.{Stop}
 use Rattle.sx_run.specs.declared.stop.Stop.TheVariants as stop
 use Rattle.sx_words.specs.declared.command.Command.{Command}
-use Rattle.sx_run.specs.Answers.{ConcludesAs, FindsIn, FindsInSome, Found, IsRead, MayWriteIn}
+use Rattle.sx_words.specs.declared.command.Command.TheVariants.{Check, Demo, Interleave, Migrate, Replay, Seal, Show}
+use Rattle.sx_run.specs.Answers.{ConcludesAs, FindsIn, FindsInSome, Found, IsRead, IsReadWhole, MayWriteIn}
+use Rattle.sx_run.specs.Answers.{takes_no_input}
 use Rattle.sx_run.specs.Expected.{Expected, IsExpected, item_at, may_end, needed}
 use Rattle.sx_run.specs.Findings.{Concludes, Finding, Finds, FindsAfter, FindsAtEnd, GoesOn, MayCome, MayComeAll}
 use Rattle.sx_run.specs.Findings.{expected, malformed, no_fault, refused}
 use Rattle.sx_run.specs.Items.{Item, item_record, records, state}
 use Rattle.sx_run.specs.Outputs.{MayWrite, Writes}
 use Rattle.sx_run.specs.Stream.{FaultsAt, Stops, WasAtEnd}
+use Rattle.sx_run.proofs.Ends.{done_at_end, reads_to_end}
 
 -- ---- lists of items
 
@@ -140,7 +143,11 @@ module _ (command : Command) (items : List Item) (at : ℕ) where
   ends : (bytes left : List ℕ) (finding : Finding) → bytes ≡ [] → left ≡ [] → IsTrue (may_end (expected command items))
       → Concludes command items finding → FindsAtEnd command items bytes finding left
   ends bytes left finding none none_left may concludes =
-      record { at_end = none; none_left = none_left; may = may; concludes = concludes }
+      record {
+        done = done_at_end (expected command items) bytes left none none_left;
+        may = may;
+        concludes = concludes;
+      }
 
   in_some : (finding : Finding) → MayComeAll command [] items → FindsAfter command items [] finding [] →
       FindsInSome command finding
@@ -199,8 +206,22 @@ module _ (command : Command) (items : List Item) (at : ℕ) where
 
 -- ---- an output comes at the end of the input
 
-pub read_whole : (command : Command) (a b : Option (List ℕ)) (text : List ℕ) → MayWriteIn command a b text
-    → IsRead a b
-read_whole command None b text finds = tt
-read_whole command (Some bytes) b text finds =
-    finds.2 ∙ ap (λ (r : List ℕ). Some r) finds.1.found.finds.none_left
+read_to_end : (command : Command) (a b : Option (List ℕ)) (text : List ℕ) → takes_no_input command ≡ false
+    → MayWriteIn command a b text → IsReadWhole a b
+read_to_end command None b text takes finds = tt
+read_to_end command (Some bytes) b text takes finds =
+    let found = finds.1.found in
+    let none = reads_to_end command found.items found.rest finds.0 takes found.finds.done in
+    finds.2 ∙ ap (λ (r : List ℕ). Some r) none.1
+
+-- of a source that was not touched where the command takes no input
+pub read_whole : (command : Command) (a b : Option (List ℕ)) (text : List ℕ)
+    → (IsTrue (takes_no_input command) → b ≡ a) → MayWriteIn command a b text → IsRead command a b
+read_whole Check a b text same finds = read_to_end Check a b text refl finds
+read_whole (Replay workers) a b text same finds = read_to_end (Replay workers) a b text refl finds
+read_whole Interleave a b text same finds = read_to_end Interleave a b text refl finds
+read_whole (Seal workers shards mu rounds) a b text same finds =
+    read_to_end (Seal workers shards mu rounds) a b text refl finds
+read_whole Show a b text same finds = read_to_end Show a b text refl finds
+read_whole Migrate a b text same finds = read_to_end Migrate a b text refl finds
+read_whole (Demo number workers) a b text same finds = same refl

@@ -1,23 +1,26 @@
--- What a seal writes is accepted by a check and by a replay.
+-- What a seal writes is accepted by a check and by a replay, and the block of a demonstration settles.
 use Rattle.std.proofs.Common.{◌≡◌, ℕ, List, [], ◌∷◌, ◌++◌, refl, sym, ap, subst, ◌∙◌, arith}
 use Rattle.std.proofs.lemmas.List.{append-nil}
 use Rattle.sx_block.specs.declared.header.Block.{Block}
 use Rattle.sx_block.specs.Block.{IsBlock}
 use Rattle.sx_block.specs.Validity.{IsValid, ledger_after}
 use Rattle.sx_check.specs.Checked.{checked_of}
+use Rattle.sx_gen.specs.State.{demo_parts}
+use Rattle.sx_gen.proofs.Market.{is_ledger}
 use Rattle.sx_layout.specs.declared.outcome.Outcome.{Outcome}
 use Rattle.sx_layout.specs.Outcomes.{AreOutcomes}
 use Rattle.sx_ledger.specs.declared.parts.Parts.{Parts}
 use Rattle.sx_ledger.specs.Ledger.{IsLedger}
 use Rattle.sx_record.specs.Tags.{block_tag, state_tag}
-use Rattle.sx_words.specs.declared.command.Command.TheVariants.{Check, Replay, Seal}
+use Rattle.sx_words.specs.declared.command.Command.TheVariants.{Check, Demo, Replay, Seal}
 use Rattle.sx_run.specs.Findings.{FindsAtEnd, MayComeAll, no_fault}
 use Rattle.sx_run.specs.Items.{Item, block, candidates, item_record, outcomes, records, state, state_record}
 use Rattle.sx_run.specs.Outputs.{MayWrite, Writes}
-use Rattle.sx_run.specs.SealLaws.{LeavesItsMeaning, SealsLeaveTheirMeaning}
-use Rattle.sx_run.specs.Sealing.{IsSealed}
+use Rattle.sx_run.specs.SealLaws.{DemosSettle, LeavesItsMeaning, SealsLeaveTheirMeaning}
+use Rattle.sx_run.specs.Sealing.{IsDemonstrated, IsSealed}
 use Rattle.sx_run.specs.Settling.{ValidSettles}
-use Rattle.sx_run.specs.Texts.{checked_text}
+use Rattle.sx_text.specs.Texts.{checked_text}
+use Rattle.sx_run.proofs.Ends.{reads_to_end}
 use Rattle.sx_run.proofs.Gathered.{gathered_form}
 use Rattle.sx_run.proofs.Readings.{needed_listed}
 use Rattle.sx_tx.specs.declared.tx.Tx.{Tx}
@@ -34,8 +37,7 @@ module _ (parts : Parts) (said : Block) (is : IsLedger parts) (valid : IsValid p
       );
       read = sym (append-nil (records (state parts ∷ block said ∷ [])));
       finds = record {
-        at_end = refl;
-        none_left = refl;
+        done = (refl, refl);
         may = refl;
         concludes = record { parts = parts; said = said; are = refl; finds = valid };
       };
@@ -67,8 +69,7 @@ module _ (parts : Parts) (said : Block) (is : IsLedger parts) (valid : IsValid p
       );
       read = whole_input told text is_text;
       finds = record {
-        at_end = refl;
-        none_left = refl;
+        done = (refl, refl);
         may = refl;
         concludes = record { parts = parts; others = block said ∷ outcomes told ∷ []; are = refl; finds = refl };
       };
@@ -84,14 +85,24 @@ seals_leave_their_meaning settles workers shards mu rounds bytes text left x =
     let each = subst (λ (l : List Item). MayComeAll (Seal workers shards mu rounds) [] l) c.are found.each in
     let wrote : IsSealed c.parts c.txs mu rounds text =
     subst (λ (l : List Item). Writes (Seal workers shards mu rounds) l text) c.are x.writes in
-    let told = gathered_form c.parts c.txs wrote.told wrote.said.txs each.1.0.form wrote.gathered in
+    let told = gathered_form c.parts c.txs wrote.told wrote.said.txs each.1.0.form wrote.made.gathered in
     record {
       parts = c.parts;
       txs = c.txs;
-      read = found.read ∙ ap (λ (r : List ℕ). records found.items ++ r) end.at_end
+      read = found.read ∙ ap (λ (r : List ℕ). records found.items ++ r)
+          (reads_to_end (Seal workers shards mu rounds) found.items found.rest left refl end.done).0
           ∙ append-nil (records found.items) ∙ ap (λ (l : List Item). records l) c.are;
       said = wrote.said;
-      checks = checks c.parts wrote.said each.0.form wrote.cleared.valid;
-      replays = replays c.parts wrote.said each.0.form wrote.cleared.valid wrote.told text told wrote.encoded;
-      settles = settles c.parts wrote.said each.0.form wrote.cleared.valid;
+      told = wrote.told;
+      encoded = wrote.encoded;
+      checks = checks c.parts wrote.said each.0.form wrote.made.cleared.valid;
+      replays = replays c.parts wrote.said each.0.form wrote.made.cleared.valid wrote.told text told wrote.encoded;
+      settles = settles c.parts wrote.said each.0.form wrote.made.cleared.valid;
     }
+
+pub demos_settle : ValidSettles → DemosSettle
+demos_settle settles number workers bytes text left x =
+    let end : FindsAtEnd (Demo number workers) x.found.items x.found.rest no_fault left = x.found.finds in
+    let wrote : IsDemonstrated number text =
+    subst (λ (l : List Item). Writes (Demo number workers) l text) end.concludes.are x.writes in
+    (wrote, settles demo_parts wrote.said is_ledger wrote.made.cleared.valid)

@@ -22,9 +22,9 @@ use Rattle.sx_ledger.specs.Ledger.{IsLedger}
 use Rattle.sx_record.specs.Tags.{block_tag, candidates_tag, outcomes_tag, script_tag, state_tag}
 use Rattle.sx_words.specs.declared.command.Command.{Command}
 use Rattle.sx_words.specs.declared.command.Command.TheVariants.{Check, Demo, Interleave, Migrate, Replay, Seal, Show}
-use Rattle.sx_run.specs.Expected.{Expected, IsExpected, item_at, may_end}
+use Rattle.sx_run.specs.Expected.{Expected, IsDoneWith, IsExpected, item_at, may_end}
 use Rattle.sx_run.specs.Findings.{Concludes, Finding, Finds, FindsAtEnd, GoesOn, MayCome, MayComeAll, StopsAt}
-use Rattle.sx_run.specs.Findings.{as_invalid, expected, is_built, malformed, no_fault, refused}
+use Rattle.sx_run.specs.Findings.{all_tags, as_invalid, expected, malformed, no_fault, refused}
 use Rattle.sx_run.specs.Items.{IsItem, Item, block, candidates, item_record, outcomes, payload_of, records, script}
 use Rattle.sx_run.specs.Items.{state, tag_of}
 use Rattle.sx_run.specs.Laws.{FindsSome}
@@ -78,6 +78,14 @@ known_after true tag (suc (suc i), lt, same) = absurd (omega arith)
 known_after false tag (zero, lt, same) = inr (inr (inl (sym same)))
 known_after false tag (suc i, lt, same) = absurd (omega arith)
 
+known_any : (tag : ℕ) → Contains all_tags tag → IsKnown tag
+known_any tag (zero, lt, same) = inl (sym same)
+known_any tag (suc zero, lt, same) = inr (inl (sym same))
+known_any tag (suc (suc zero), lt, same) = inr (inr (inl (sym same)))
+known_any tag (suc (suc (suc zero)), lt, same) = inr (inr (inr (inl (sym same))))
+known_any tag (suc (suc (suc (suc zero))), lt, same) = inr (inr (inr (inr (sym same))))
+known_any tag (suc (suc (suc (suc (suc i)))), lt, same) = absurd (omega arith)
+
 knows : (command : Command) (items : List Item) → KnowsTags (expected command items)
 knows Check [] = λ tag among. inl (only_tag state_tag tag among)
 knows Check (one ∷ []) = λ tag among. inr (inr (inl (only_tag block_tag tag among)))
@@ -91,7 +99,8 @@ knows Interleave (one ∷ other ∷ third ∷ more) = tt
 knows (Seal workers shards mu rounds) [] = λ tag among. inl (only_tag state_tag tag among)
 knows (Seal workers shards mu rounds) (one ∷ []) = λ tag among. inr (inl (only_tag candidates_tag tag among))
 knows (Seal workers shards mu rounds) (one ∷ other ∷ more) = tt
-knows Show items = tt
+knows Show [] = known_any
+knows Show (one ∷ more) = tt
 knows Migrate [] = λ tag among. inl (only_tag state_tag tag among)
 knows Migrate (one ∷ more) = tt
 knows (Demo seed workers) items = tt
@@ -150,6 +159,16 @@ migrate_items (one ∷ []) each may =
     let s = a_state one (only_tag state_tag (tag_of one) each.0.listed.0) in
     (s.0, ap (λ (i : Item). i ∷ []) s.1)
 migrate_items (one ∷ other ∷ more) each may = absurd each.1.0.listed
+
+show_items : (items : List Item) → MayComeAll Show [] items → IsTrue (may_end (expected Show items))
+    → (item : Item) × (items ≡ item ∷ [])
+show_items [] each may = absurd cc
+show_items (one ∷ []) each may = (one, refl)
+show_items (one ∷ other ∷ more) each may = absurd each.1.0.listed
+
+demo_items : (number workers : ℕ) (items : List Item) → MayComeAll (Demo number workers) [] items → items ≡ []
+demo_items number workers [] each = refl
+demo_items number workers (one ∷ more) each = absurd each.0.listed
 
 replay_items : (workers : ℕ) (items : List Item) → MayComeAll (Replay workers) [] items
     → IsTrue (may_end (expected (Replay workers) items)) → (parts : Parts) × (others : List Item)
@@ -229,16 +248,18 @@ module _ (judged : EveryBlockIsJudged) where
       let is = seal_items workers shards mu rounds items each may in
       in_room_to_seal workers shards mu rounds is.0 is.1 items is.2 (room_for is.0 is.1) refl
 
-  some_conclusion : (command : Command) (items : List Item) → IsTrue (is_built command) → MayComeAll command [] items
+  some_conclusion : (command : Command) (items : List Item) → MayComeAll command [] items
       → IsTrue (may_end (expected command items)) → Concluded command items
-  some_conclusion Check items built each may = some_check items each may
-  some_conclusion (Replay workers) items built each may = some_replay workers items each may
-  some_conclusion Interleave items built each may = some_interleave items each may
-  some_conclusion (Seal workers shards mu rounds) items built each may =
+  some_conclusion Check items each may = some_check items each may
+  some_conclusion (Replay workers) items each may = some_replay workers items each may
+  some_conclusion Interleave items each may = some_interleave items each may
+  some_conclusion (Seal workers shards mu rounds) items each may =
       some_seal workers shards mu rounds items each may
-  some_conclusion Show items built each may = absurd cc
-  some_conclusion Migrate items built each may = some_migrate items each may
-  some_conclusion (Demo seed workers) items built each may = absurd cc
+  some_conclusion Show items each may =
+      let is = show_items items each may in inl (record { item = is.0; are = is.1; finds = refl })
+  some_conclusion Migrate items each may = some_migrate items each may
+  some_conclusion (Demo number workers) items each may =
+      inl (record { are = demo_items number workers items each; finds = refl })
 
   -- ---- after an item
 
@@ -301,28 +322,29 @@ module _ (judged : EveryBlockIsJudged) where
     SomeFinding command whole = (finding : Finding) × (left : List ℕ) × Finds command whole finding left
 
     module _ (command : Command) (items : List Item) (whole : List ℕ) (each : MayComeAll command [] items) where
-      at_the_end : (bytes : List ℕ) → whole ≡ records items ++ bytes → bytes ≡ []
-          → IsTrue (may_end (expected command items)) → Concluded command items → SomeFinding command whole
-      at_the_end bytes read none may (inl finds) = (
+      at_the_end : (bytes left : List ℕ) → whole ≡ records items ++ bytes
+          → IsDoneWith (expected command items) bytes left → IsTrue (may_end (expected command items))
+          → Concluded command items → SomeFinding command whole
+      at_the_end bytes left read done may (inl finds) = (
         no_fault,
-        [],
+        left,
         record {
           items = items;
           rest = bytes;
           each = each;
           read = read;
-          finds = record { at_end = none; none_left = refl; may = may; concludes = finds };
+          finds = record { done = done; may = may; concludes = finds };
         },
       )
-      at_the_end bytes read none may (inr (number, why, finds)) = (
+      at_the_end bytes left read done may (inr (number, why, finds)) = (
         refused number why,
-        [],
+        left,
         record {
           items = items;
           rest = bytes;
           each = each;
           read = read;
-          finds = inl (record { at_end = none; none_left = refl; may = may; concludes = finds });
+          finds = inl (record { done = done; may = may; concludes = finds });
         },
       )
 
@@ -359,7 +381,7 @@ module _ (judged : EveryBlockIsJudged) where
     FromHere fuel command whole = (items : List Item) (bytes : List ℕ) → AreBytes bytes → length bytes < fuel →
         MayComeAll command [] items → whole ≡ records items ++ bytes → SomeFinding command whole
 
-    module _ (fuel : ℕ) (command : Command) (whole : List ℕ) (built : IsTrue (is_built command))
+    module _ (fuel : ℕ) (command : Command) (whole : List ℕ)
         (further : FromHere fuel command whole) (items : List Item) (bytes : List ℕ) (are : AreBytes bytes)
         (short : length bytes < suc fuel) (each : MayComeAll command [] items)
         (read : whole ≡ records items ++ bytes) where
@@ -382,19 +404,18 @@ module _ (judged : EveryBlockIsJudged) where
       decoded (Err fault, left) e = at_a_fault command items whole each bytes left fault read e
       decoded (Ok None, left) e =
           let none = no_item (expected command items) (length (records items)) bytes left (knows command items) e in
-          at_the_end command items whole each bytes read none.0 none.1 (some_conclusion command items built each none.1)
+          at_the_end command items whole each bytes left read none.0 none.1 (some_conclusion command items each none.1)
       decoded (Ok (Some item), left) e =
           let there = some_item (expected command items) (length (records items)) bytes left item
           (knows command items) are e in
           after_item item left there (goes_or_stops command items item each there.may there.form)
 
-    from_here : (fuel : ℕ) (command : Command) (whole : List ℕ) → IsTrue (is_built command)
-        → FromHere fuel command whole
-    from_here zero command whole built items bytes are short each read = absurd (omega arith)
-    from_here (suc fuel) command whole built items bytes are short each read =
-        decoded fuel command whole built (from_here fuel command whole built) items bytes are short each read
+    from_here : (fuel : ℕ) (command : Command) (whole : List ℕ) → FromHere fuel command whole
+    from_here zero command whole items bytes are short each read = absurd (omega arith)
+    from_here (suc fuel) command whole items bytes are short each read =
+        decoded fuel command whole (from_here fuel command whole) items bytes are short each read
         (item_at (expected command items) (length (records items)) bytes) refl
 
     pub finds_some : FindsSome
-    finds_some command bytes built are =
-        from_here (suc (length bytes)) command bytes built [] bytes are (omega arith) tt refl
+    finds_some command bytes are =
+        from_here (suc (length bytes)) command bytes [] bytes are (omega arith) tt refl

@@ -26,9 +26,8 @@ use Rattle.sx_record.specs.Decoding.{StreamDecoding, go_on, record_at}
 use Rattle.sx_record.specs.Frame.{frame, record_bytes}
 use Rattle.sx_record.specs.Tags.{block_tag, candidates_tag, outcomes_tag, script_tag, state_tag}
 use Rattle.sx_record.proofs.Encoding.{decodes_only_records, ends_only_at_end}
-use Rattle.sx_run.specs.Expected.{Expected, IsExpected, as_some, end_only, item_at, item_in, item_of, may_end}
-use Rattle.sx_run.specs.Expected.{record_of}
-use Rattle.sx_run.specs.Expected.{shifted}
+use Rattle.sx_run.specs.Expected.{Expected, IsDoneWith, IsExpected, as_some, end_only, item_at, item_in, item_of}
+use Rattle.sx_run.specs.Expected.{may_end, record_of, shifted, unread}
 use Rattle.sx_run.specs.Items.{IsItem, Item, as_item, block, candidates, item_record, outcomes, payload_at, payload_of}
 use Rattle.sx_run.specs.Items.{script, state, tag_of}
 use Rattle.sx_tx.specs.declared.tx.Tx.{Tx}
@@ -169,9 +168,16 @@ module _ (tags : List ℕ) (end_too full : Bool) (known : (tag : ℕ) → Contai
 
   no_record : (at : ℕ) (bytes mid rest : List ℕ) (found : Option Record)
       → record_at tags at bytes ≡ (Ok found, mid) → item_of end_too full at found mid ≡ (Ok None, rest)
-      → (bytes ≡ []) × IsTrue end_too
+      → ((bytes ≡ []) × (rest ≡ [])) × IsTrue end_too
   no_record at bytes mid rest None one two = (
-    (ends_only_at_end tags bytes mid at one).0,
+    (
+      (ends_only_at_end tags bytes mid at one).0,
+      elim end_too as (λ (b : Bool). item_of b full at None mid ≡ (Ok None, rest) → rest ≡ []) [
+        | true ↦ λ e. sym (ap (λ (a : Result (Option Item) FormFault × List ℕ). a.1) e)
+            ∙ (ends_only_at_end tags bytes mid at one).1
+        | false ↦ λ e. absurd (let f = ap (λ (a : Result (Option Item) FormFault × List ℕ). a.0) e in cc)
+      ] two,
+    ),
     elim end_too as (λ (b : Bool). item_of b full at None mid ≡ (Ok None, rest) → IsTrue b) [
       | true ↦ λ e. refl
       | false ↦ λ e. absurd (let f = ap (λ (a : Result (Option Item) FormFault × List ℕ). a.0) e in cc)
@@ -185,12 +191,15 @@ module _ (tags : List ℕ) (end_too full : Bool) (known : (tag : ℕ) → Contai
 
 -- each tag that may come is that of an item
 abbrev pub KnowsTags : Expected → Type 0
+KnowsTags unread = Unit {0}
 KnowsTags end_only = Unit {0}
 KnowsTags (record_of tags end_too full) = (tag : ℕ) → Contains tags tag → IsKnown tag
 
 pub some_item : (e : Expected) (at : ℕ) (bytes rest : List ℕ) (item : Item) → KnowsTags e → AreBytes bytes
     → item_at e at bytes ≡ (Ok (Some item), rest) → IsThere e bytes rest item
 unfolding item_at
+some_item unread at bytes rest item known are e =
+    absurd (let f = ap (λ (a : Result (Option Item) FormFault × List ℕ). a.0) e in cc)
 some_item end_only at [] rest item known are e =
     absurd (let f = ap (λ (a : Result (Option Item) FormFault × List ℕ). a.0) e in cc)
 some_item end_only at (byte ∷ bytes) rest item known are e =
@@ -200,9 +209,16 @@ some_item (record_of tags end_too full) at bytes rest item known are e =
     some_record tags end_too full known at bytes w.1 rest w.0 item are w.2 w.3
 
 pub no_item : (e : Expected) (at : ℕ) (bytes rest : List ℕ) → KnowsTags e → item_at e at bytes ≡ (Ok None, rest)
-    → (bytes ≡ []) × IsTrue (may_end e)
+    → IsDoneWith e bytes rest × IsTrue (may_end e)
 unfolding item_at
-no_item end_only at [] rest known is = (refl, refl)
+no_item unread at bytes rest known is = (
+  sym (ap (λ (a : Result (Option Item) FormFault × List ℕ). a.1) is),
+  refl,
+)
+no_item end_only at [] rest known is = (
+  (refl, sym (ap (λ (a : Result (Option Item) FormFault × List ℕ). a.1) is)),
+  refl,
+)
 no_item end_only at (byte ∷ bytes) rest known is =
     absurd (let f = ap (λ (a : Result (Option Item) FormFault × List ℕ). a.0) is in cc)
 no_item (record_of tags end_too full) at bytes rest known is =

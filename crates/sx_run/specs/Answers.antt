@@ -1,17 +1,17 @@
 -- What an answer says of the input, and of what is written.
-use Rattle.std.specs.Prelude.{◌≡◌, ◌⊎◌, ℕ, List, [], Option, None, Some, Result, Ok, Err, String}
-use Rattle.std.specs.Prelude.{if◌then◌else◌}
+use Rattle.std.specs.Prelude.{◌≡◌, ◌⊎◌, ℕ, Bool, true, false, List, [], Option, None, Some, Result, Ok, Err, String}
 use Rattle.std.specs.Global.{Global}
 use Rattle.sx_base.specs.Outside.{Appends, AppendsPrefix}
-use Rattle.sx_run.specs.declared.status.Status.{Status}
-use Rattle.sx_run.specs.declared.status.Status.TheVariants.{Done, Usage, ReadFault, WriteFault, Malformed, Refused}
-use Rattle.sx_run.specs.declared.status.Status.TheVariants.{NoMemory}
 use Rattle.sx_run.specs.declared.stop.Stop.{Stop}
 use Rattle.sx_run.specs.declared.stop.Stop.TheVariants as stop
-use Rattle.sx_run.specs.Findings.{Concludes, Finding, Finds, is_built, malformed, no_fault, refused}
+use Rattle.sx_run.specs.Findings.{Concludes, Finding, Finds, malformed, no_fault, refused}
 use Rattle.sx_run.specs.Items.{Item}
 use Rattle.sx_run.specs.Outputs.{MayWrite, Writes}
+use Rattle.sx_text.specs.declared.status.Status.{Status}
+use Rattle.sx_text.specs.declared.status.Status.TheVariants.{Done, Usage, ReadFault, WriteFault, Malformed, Refused}
+use Rattle.sx_text.specs.declared.status.Status.TheVariants.{NoMemory}
 use Rattle.sx_words.specs.declared.command.Command.{Command}
+use Rattle.sx_words.specs.declared.command.Command.TheVariants.{Check, Demo, Interleave, Migrate, Replay, Seal, Show}
 use Rattle.sx_words.specs.Commands.{command_of}
 use Rattle.sx_words.specs.Numbers.{texts}
 
@@ -75,19 +75,35 @@ Completes command (Some bytes) result =
     (result ≡ status_of found) ⊎ (result ≡ NoMemory)
 
 -- a source that tells its bytes was read to its end
-abbrev pub IsRead : Option (List ℕ) → Option (List ℕ) → Type 0
-IsRead None after = Unit {0}
-IsRead (Some bytes) after = after ≡ Some []
+abbrev pub IsReadWhole : Option (List ℕ) → Option (List ℕ) → Type 0
+IsReadWhole None after = Unit {0}
+IsReadWhole (Some bytes) after = after ≡ Some []
+
+-- so it is at each command but one that reads nothing
+abbrev pub IsRead : Command → Option (List ℕ) → Option (List ℕ) → Type 0
+IsRead (Demo number workers) before after = after ≡ before
+IsRead _ before after = IsReadWhole before after
 
 -- ---- words
 
--- the command that words spell, where it is one that is built
-abbrev pub if_built : Option Command → Option Command
-if_built None = None
-if_built (Some command) = if is_built command then Some command else None
-
+-- the command that words spell
 abbrev pub asked : List (String Global) → Option Command
-asked words = if_built (command_of (texts words))
+asked words = command_of (texts words)
+
+-- a command that reads nothing
+abbrev pub takes_no_input : Command → Bool
+takes_no_input (Demo number workers) = true
+takes_no_input (Seal workers shards mu rounds) = false
+takes_no_input Check = false
+takes_no_input (Replay workers) = false
+takes_no_input Interleave = false
+takes_no_input Migrate = false
+takes_no_input Show = false
+
+-- the words are no command, or one that reads nothing
+abbrev pub reads_nothing : Option Command → Bool
+reads_nothing None = true
+reads_nothing (Some command) = takes_no_input command
 
 -- Usage comes exactly where the words are no command, but that memory may run out
 abbrev pub FitsWords : Option Command → Status → Type 0

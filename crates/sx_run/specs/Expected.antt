@@ -8,9 +8,10 @@ use Rattle.sx_record.specs.Decoding.{StreamDecoding, ◌>>=◌, done, fails, rec
 use Rattle.sx_record.specs.Tags.{block_tag}
 use Rattle.sx_run.specs.Items.{Item, payload_at}
 
--- The end of the input and nothing else, or a record of one of these tags, or the end where it may come there too.
--- Where the input is full, a block is one too many.
+-- Nothing is read; or the end of the input and nothing else; or a record of one of these tags, or the end where it may
+-- come there too. Where the input is full, a block is one too many.
 pub data Expected : Type 0 where
+  unread : Expected
   end_only : Expected
   record_of : (tags : List ℕ) → (end_too : Bool) → (full : Bool) → Expected
 
@@ -18,15 +19,23 @@ pub data Expected : Type 0 where
 abbrev pub needed : ℕ → Expected
 needed tag = record_of (tag ∷ []) false false
 
--- the input may end
+-- no more has to come
 abbrev pub may_end : Expected → Bool
+may_end unread = true
 may_end end_only = true
 may_end (record_of tags end_too full) = end_too
 
 -- a record of this tag may come
 abbrev pub IsExpected : Expected → ℕ → Type 0
+IsExpected unread tag = ⊥
 IsExpected end_only tag = ⊥
 IsExpected (record_of tags end_too full) tag = Contains tags tag × ((full && (tag == block_tag)) ≡ false)
+
+-- where no more comes, the input was at its end, or nothing of it was read
+abbrev pub IsDoneWith : Expected → List ℕ → List ℕ → Type 0
+IsDoneWith unread bytes left = left ≡ bytes
+IsDoneWith end_only bytes left = (bytes ≡ []) × (left ≡ [])
+IsDoneWith (record_of tags end_too full) bytes left = (bytes ≡ []) × (left ≡ [])
 
 -- ---- decoding
 
@@ -55,6 +64,7 @@ item_of end_too full at (Some found) = item_in full at found >>= as_some
 
 -- the next item, where this may come and its tag is at this offset, or none at the end
 unfoldable pub item_at : Expected → ℕ → StreamDecoding (Option Item)
+item_at unread at bytes = done None bytes
 item_at end_only at [] = done None []
 item_at end_only at (byte ∷ bytes) = fails form.Rest at bytes
 item_at (record_of tags end_too full) at bytes = (record_at tags at >>= item_of end_too full at) bytes

@@ -1,5 +1,5 @@
 -- What each command reads, and which fault it finds first of that, if any.
-use Rattle.std.specs.Prelude.{◌≡◌, ℕ, ◌<◌, ◌⊎◌, Bool, true, false, List, [], ◌∷◌, ◌++◌, length, IsTrue, Ok, Err}
+use Rattle.std.specs.Prelude.{◌≡◌, ℕ, ◌<◌, ◌⊎◌, false, List, [], ◌∷◌, ◌++◌, length, IsTrue, Ok, Err}
 use Rattle.sx_block.specs.declared.header.Block.{Block}
 use Rattle.sx_block.specs.Block.{IsBlock}
 use Rattle.sx_block.specs.Validity.{IsValid}
@@ -12,13 +12,14 @@ use Rattle.sx_layout.specs.declared.space.NoRoom.{NoRoom}
 use Rattle.sx_layout.specs.declared.space.NoRoom.TheVariants as no_room
 use Rattle.sx_layout.specs.Room.{room_for}
 use Rattle.sx_ledger.specs.declared.parts.Parts.{Parts}
-use Rattle.sx_record.specs.Tags.{block_tag, candidates_tag, script_tag, state_tag}
-use Rattle.sx_run.specs.Expected.{Expected, IsExpected, end_only, item_at, may_end, needed}
+use Rattle.sx_record.specs.Tags.{block_tag, candidates_tag, outcomes_tag, script_tag, state_tag}
+use Rattle.sx_run.specs.Expected.{Expected, IsDoneWith, IsExpected, end_only, item_at, may_end, needed, record_of}
+use Rattle.sx_run.specs.Expected.{unread}
 use Rattle.sx_run.specs.Items.{IsItem, Item, block, candidates, item_record, records, script, state, tag_of}
 use Rattle.sx_run.specs.Replays.{blocks_of, expected_in_replay, ledger_after_all, most_blocks}
 use Rattle.sx_tx.specs.declared.tx.Tx.{Tx}
 use Rattle.sx_words.specs.declared.command.Command.{Command}
-use Rattle.sx_words.specs.declared.command.Command.TheVariants.{Check, Interleave, Migrate, Replay, Seal}
+use Rattle.sx_words.specs.declared.command.Command.TheVariants.{Check, Demo, Interleave, Migrate, Replay, Seal, Show}
 
 -- what is found of an input: no fault, so that an output is written, the first form fault, or why it is refused
 pub data Finding : Type 0 where
@@ -106,6 +107,21 @@ pub record Migrates (items : List Item) (finding : Finding) : Type 0 where
   pub are : items ≡ state parts ∷ []
   pub finds : finding ≡ no_fault
 
+-- ---- show
+
+-- one record
+pub record Shows (items : List Item) (finding : Finding) : Type 0 where
+  pub item : Item
+  pub are : items ≡ item ∷ []
+  pub finds : finding ≡ no_fault
+
+-- ---- demo
+
+-- nothing is read
+pub record Demonstrates (items : List Item) (finding : Finding) : Type 0 where
+  pub are : items ≡ []
+  pub finds : finding ≡ no_fault
+
 -- ---- all commands
 
 -- records of these tags in turn, of which these have come, and nothing after them
@@ -114,14 +130,14 @@ in_turn [] items = end_only
 in_turn (tag ∷ tags) [] = needed tag
 in_turn (tag ∷ tags) (item ∷ items) = in_turn tags items
 
--- the commands that are built so far; of the others nothing is found
-abbrev pub is_built : Command → Bool
-is_built (Seal workers shards mu rounds) = true
-is_built Check = true
-is_built (Replay workers) = true
-is_built Interleave = true
-is_built Migrate = true
-is_built _ = false
+-- the tags of all records
+abbrev pub all_tags : List ℕ
+all_tags = state_tag ∷ candidates_tag ∷ block_tag ∷ outcomes_tag ∷ script_tag ∷ []
+
+-- one record of any tag, and nothing after it
+abbrev pub one_record : List Item → Expected
+one_record [] = record_of all_tags false false
+one_record (item ∷ items) = end_only
 
 -- what may come after these items
 abbrev pub expected : Command → List Item → Expected
@@ -130,16 +146,18 @@ expected Check = in_turn (state_tag ∷ block_tag ∷ [])
 expected (Replay workers) = expected_in_replay
 expected Interleave = in_turn (state_tag ∷ candidates_tag ∷ script_tag ∷ [])
 expected Migrate = in_turn (state_tag ∷ [])
-expected _ = in_turn []
+expected Show = one_record
+expected (Demo number workers) = λ items. unread
 
--- what is found of these items at the end of the input
+-- what is found of these items where no more comes
 abbrev pub Concludes : Command → List Item → Finding → Type 0
 Concludes (Seal workers shards mu rounds) = Seals
 Concludes Check = Checks
 Concludes (Replay workers) = Replays
 Concludes Interleave = Interleaves
 Concludes Migrate = Migrates
-Concludes _ = λ items finding. ⊥
+Concludes Show = Shows
+Concludes (Demo number workers) = Demonstrates
 
 -- a command that judges each item before it reads on goes on after this one
 abbrev pub GoesOn : Command → List Item → Item → Type 0
@@ -167,12 +185,11 @@ MayComeAll command items (next ∷ others) =
 
 -- ---- what is found
 
--- the input ends after these items, where it may
+-- no more comes after these items, where that may be
 pub record FindsAtEnd (command : Command) (items : List Item) (bytes : List ℕ) (finding : Finding) (left : List ℕ) :
     Type
     0 where
-  pub at_end : bytes ≡ []
-  pub none_left : left ≡ []
+  pub done : IsDoneWith (expected command items) bytes left
   pub may : IsTrue (may_end (expected command items))
   pub concludes : Concludes command items finding
 
@@ -192,8 +209,8 @@ FindsAfter command items bytes (malformed fault) left =
 FindsAfter command items bytes (refused number why) left =
     FindsAtEnd command items bytes (refused number why) left ⊎ FindsAtBlock command items bytes number why left
 
--- This is found of an input, and this is then left of it: after items that may come, the input ends as it may, or a
--- block comes at which the command stops, or what comes has the first fault.
+-- This is found of an input, and this is then left of it: after items that may come, no more comes where that may be,
+-- or a block comes at which the command stops, or what comes has the first fault.
 pub record Finds (command : Command) (bytes : List ℕ) (finding : Finding) (left : List ℕ) : Type 0 where
   pub items : List Item
   pub rest : List ℕ

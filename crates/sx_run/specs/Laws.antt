@@ -6,7 +6,7 @@ use Rattle.sx_ledger.specs.declared.parts.Parts.{Parts}
 use Rattle.sx_ledger.specs.Ledger.{IsLedger, assets_of, total_of}
 use Rattle.sx_words.specs.declared.command.Command.{Command}
 use Rattle.sx_words.specs.declared.command.Command.TheVariants.{Replay}
-use Rattle.sx_run.specs.Findings.{Finding, Finds, MayComeAll, is_built, no_fault}
+use Rattle.sx_run.specs.Findings.{Finding, Finds, MayComeAll, no_fault}
 use Rattle.sx_run.specs.Items.{Item, state}
 use Rattle.sx_run.specs.Outputs.{MayWrite, writes_one}
 use Rattle.sx_run.specs.Replays.{AreValid, blocks_of, ledger_after_all, most_blocks}
@@ -18,13 +18,13 @@ FindsOne =
     (command : Command) (bytes : List ℕ) (one other : Finding) (left right : List ℕ) → Finds command bytes one left
     → Finds command bytes other right → (one ≡ other) × (left ≡ right)
 
--- and something is always found, by each command that is built
+-- and something is always found, by each command
 abbrev pub FindsSome : Type 0
 FindsSome =
-    (command : Command) (bytes : List ℕ) → IsTrue (is_built command) → AreBytes bytes
+    (command : Command) (bytes : List ℕ) → AreBytes bytes
     → (finding : Finding) × (left : List ℕ) × Finds command bytes finding left
 
--- and so is the output of each command but a seal
+-- and so is the output of each command but a seal and a demonstration
 abbrev pub WritesOne : Type 0
 WritesOne =
     (command : Command) (bytes one other left right : List ℕ) → IsTrue (writes_one command)

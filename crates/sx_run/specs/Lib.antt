@@ -3,12 +3,12 @@ pub mod Expected
 pub mod Replays
 pub mod Stream
 pub mod Status
-pub mod Texts
 pub mod Findings
 pub mod Sealing
 pub mod Outputs
 pub mod Answers
 pub mod Replaying
+pub mod Showing
 pub mod Running
 pub mod Head
 pub mod Laws

@@ -6,10 +6,21 @@ use Rattle.sx_ledger.specs.Ledger.{migrated}
 use Rattle.sx_run.specs.Findings.{Finds, no_fault}
 use Rattle.sx_run.specs.Items.{Item, block, candidates, item_record, outcomes, script, state, state_record}
 use Rattle.sx_run.specs.Replays.{blocks_of, ledger_after_all}
-use Rattle.sx_run.specs.Sealing.{IsSealed}
-use Rattle.sx_run.specs.Texts.{checked_text}
+use Rattle.sx_run.specs.Sealing.{IsDemonstrated, IsSealed}
+use Rattle.sx_text.specs.declared.shown.Shown.{Shown}
+use Rattle.sx_text.specs.declared.shown.Shown.TheVariants as shown
+use Rattle.sx_text.specs.Shown.{shown_text}
+use Rattle.sx_text.specs.Texts.{checked_text}
 use Rattle.sx_words.specs.declared.command.Command.{Command}
-use Rattle.sx_words.specs.declared.command.Command.TheVariants.{Check, Interleave, Migrate, Replay, Seal}
+use Rattle.sx_words.specs.declared.command.Command.TheVariants.{Check, Demo, Interleave, Migrate, Replay, Seal, Show}
+
+-- what a record holds, as a text shows it
+abbrev pub shown_of : Item → Shown
+shown_of (state parts) = shown.State parts
+shown_of (candidates txs) = shown.Candidates txs
+shown_of (block said) = shown.Block said
+shown_of (outcomes told) = shown.Outcomes told
+shown_of (script turns) = shown.Script turns
 
 -- what may be written of the items of an input: how many workers there are is said nowhere
 abbrev pub Writes : Command → List Item → List ℕ → Type 0
@@ -25,6 +36,10 @@ Writes Interleave (state parts ∷ candidates txs ∷ script turns ∷ []) text 
     text ≡ item_record (outcomes (outcomes_of_run parts txs turns.actors turns.turns))
 -- the record of the state in version 2
 Writes Migrate (state parts ∷ []) text = text ≡ state_record (migrated parts)
+-- the text of what the record holds
+Writes Show (item ∷ []) text = text ≡ shown_text (shown_of item)
+-- the summary of a block of the demonstration
+Writes (Demo number workers) [] text = IsDemonstrated number text
 Writes _ items text = ⊥
 
 -- the commands whose output is a function of the input
@@ -33,7 +48,9 @@ writes_one Check = true
 writes_one (Replay workers) = true
 writes_one Interleave = true
 writes_one Migrate = true
-writes_one _ = false
+writes_one Show = true
+writes_one (Seal workers shards mu rounds) = false
+writes_one (Demo number workers) = false
 
 -- no fault is found of an input, this may be written of its items, and this is left of it
 pub record MayWrite (command : Command) (bytes text left : List ℕ) : Type 0 where

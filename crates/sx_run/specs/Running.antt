@@ -1,11 +1,23 @@
--- What writing leaves.
+-- What a command writes, and what writing leaves.
 use Rattle.std.specs.Prelude.{◌≡◌, ℕ, List, Option, Result, Ok, Err}
 use Rattle.sx_base.specs.Outside.{Appends, AppendsPrefix}
-use Rattle.sx_run.specs.declared.status.Status.{Status}
-use Rattle.sx_run.specs.declared.status.Status.TheVariants.{Done, Usage, ReadFault, WriteFault, Malformed, Refused}
-use Rattle.sx_run.specs.declared.status.Status.TheVariants.{NoMemory}
+use Rattle.sx_text.specs.declared.status.Status.{Status}
+use Rattle.sx_text.specs.declared.status.Status.TheVariants.{Done, Usage, ReadFault, WriteFault, Malformed, Refused}
+use Rattle.sx_text.specs.declared.status.Status.TheVariants.{NoMemory}
+use Rattle.sx_run.specs.declared.output.Output.{Output}
+use Rattle.sx_run.specs.declared.output.Output.TheVariants as output
 use Rattle.sx_run.specs.declared.stop.Stop.{Stop}
 use Rattle.sx_run.specs.Status.{status_at}
+
+-- the bytes of an output
+abbrev pub bytes_of : Output → List ℕ
+bytes_of (output.Record bytes) = bytes
+bytes_of (output.Text bytes) = bytes
+
+-- what a command found, by its bytes
+abbrev pub as_bytes : Result Output Stop → Result (List ℕ) Stop
+as_bytes (Ok output) = Ok (bytes_of output)
+as_bytes (Err why) = Err why
 
 -- all of the output is written, or a prefix of it
 abbrev pub IsWritten : Option (List ℕ) → Option (List ℕ) → List ℕ → Status → Type 0

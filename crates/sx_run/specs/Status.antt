@@ -1,19 +1,10 @@
--- The codes of the answers, and what holds at some of them.
-use Rattle.std.specs.Prelude.{ℕ, Bool, true, false}
-use Rattle.sx_run.specs.declared.status.Status.{Status}
-use Rattle.sx_run.specs.declared.status.Status.TheVariants.{Done, Usage, ReadFault, WriteFault, Malformed, Refused}
-use Rattle.sx_run.specs.declared.status.Status.TheVariants.{NoMemory}
+-- The answer of a command that stopped, and what holds at some answers.
+use Rattle.std.specs.Prelude.{Bool, true, false}
+use Rattle.sx_text.specs.declared.status.Status.{Status}
+use Rattle.sx_text.specs.declared.status.Status.TheVariants.{Done, Usage, ReadFault, WriteFault, Malformed, Refused}
+use Rattle.sx_text.specs.declared.status.Status.TheVariants.{NoMemory}
 use Rattle.sx_run.specs.declared.stop.Stop.{Stop}
 use Rattle.sx_run.specs.declared.stop.Stop.TheVariants as stop
-
-abbrev pub code_of : Status → ℕ
-code_of Done = 0
-code_of Usage = 2
-code_of ReadFault = 3
-code_of WriteFault = 4
-code_of (Malformed fault) = 5
-code_of (Refused block why) = 6
-code_of NoMemory = 7
 
 -- the answer of a command that stopped
 abbrev pub status_at : Stop → Status

@@ -1,6 +1,6 @@
 //! `check`: a state, a block, and nothing more.
 
-ghost use Rattle.std.specs.Prelude.{◌≡◌, ◌^◌, ◌≤◌, [], ◌∷◌, IfOk, IsErrOf, IsTrue};
+ghost use Rattle.std.specs.Prelude.{◌≡◌, ◌^◌, ◌≤◌, [], ◌∷◌, IsErrOf, IsTrue};
 ghost use Rattle.sha2.specs.Sha256.{sha256};
 ghost use Rattle.sx_base.specs.Outside.{Rose};
 ghost use Rattle.sx_block.specs.Block.{IsBlock};
@@ -8,7 +8,6 @@ ghost use Rattle.sx_run.specs.Answers.{ConcludesAs, Found};
 ghost use Rattle.sx_run.specs.Head.{IsHead};
 ghost use Rattle.sx_run.specs.Items as item;
 ghost use Rattle.sx_run.specs.Stream.{UnlessReadFault};
-ghost use Rattle.sx_run.specs.Texts.{checked_text};
 ghost use Rattle.sx_tx.specs.Transactions.{list_bytes};
 
 use crate::head::{Head, advance};
@@ -16,26 +15,15 @@ use crate::opening::take_head;
 use crate::payloads::Incoming;
 use crate::stop::Stop;
 use crate::stream::{end, take};
-use crate::text::check_line;
 use std::alloc::Global;
 use std::thread::Threads;
 use sx_base::Source;
-use sx_bytes::{NoMemory, Writer};
-use sx_check::{CheckFault, Checked};
+use sx_check::CheckFault;
+use sx_text::{Text, check_line};
 use sx_words::Command;
 
-// The line of a valid block.
-fn line_of(alloc: Global, checked: &Checked) -> Result<Writer, NoMemory>
-    ensures { IfOk result (λ line. line ≡ checked_text checked.now) }
-{
-    let line = check_line(alloc, checked)?;
-    let mut told = Writer::new(alloc);
-    told.raw(line.bytes())?;
-    Ok(told)
-}
-
 // The line of a valid block, or the first reason why the block is refused.
-fn verdict(alloc: Global, head: Head, incoming: &Incoming) -> Result<Writer, Stop>
+fn verdict(alloc: Global, head: Head, incoming: &Incoming) -> Result<Text, Stop>
     requires head { IsHead head }
     requires form { IsBlock incoming.now.block }
     requires body { incoming.now.body ≡ sha256 (list_bytes incoming.now.block.txs) }
@@ -43,14 +31,14 @@ fn verdict(alloc: Global, head: Head, incoming: &Incoming) -> Result<Writer, Sto
     ensures calm { IsErrOf result Stop.ReadFault → ⊥ }
 {
     match advance(alloc, head, incoming) {
-        Ok(advanced) => Ok(line_of(alloc, &advanced.checked)?),
+        Ok(advanced) => Ok(check_line(alloc, &advanced.checked)?),
         Err(CheckFault::Invalid(why)) => Err(Stop::Refused { block: 0, why }),
         Err(CheckFault::NoMemory) => Err(Stop::NoMemory),
     }
 }
 
 // Checks the block of the input.
-pub fn check<R: Threads, S: Source>(rt: &R, alloc: Global, source: &mut S) -> Result<Writer, Stop>
+pub fn check<R: Threads, S: Source>(rt: &R, alloc: Global, source: &mut S) -> Result<Text, Stop>
     ensures found { Found Command.Check (S.left source.old) (S.left source.new) result }
     ensures steady { UnlessReadFault result (IsTrue (S.strict source.old) → S.faults source.new ≡ S.faults source.old) }
     ensures read_fault { IsErrOf result Stop.ReadFault → Rose (S.faults source.old) (S.faults source.new) }

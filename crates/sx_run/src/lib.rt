@@ -11,12 +11,13 @@
 //! runs a chain of blocks from a state to the state after them. What a block leaves is `ledger_after`: plain
 //! sums over the list of transactions and the list of offers. `interleave` tells what becomes of candidates
 //! where a script says who makes the next step: `outcomes_of_run`, a function of the state, the candidates and
-//! the script. `migrate` writes a state in version 2.
+//! the script. `migrate` writes a state in version 2, and `show` what a record holds as a text. `demo` makes
+//! a block of a market that is drawn from a number, and writes its summary.
 //!
-//! What is found of an input is one thing, and so is the output of each command but `seal`, of which
-//! `IsSealed` says what it may be: [`input_laws`]. [`chain_laws`] says that a chain of valid blocks makes and
-//! loses nothing of any asset, what each of its blocks keeps, and that what a seal wrote is found valid by a
-//! check and replayed to exactly the ledger after its block.
+//! What is found of an input is one thing, and so is the output of each command but `seal` and `demo`, of
+//! which `IsSealed` and `IsDemonstrated` say what it may be: [`input_laws`]. [`chain_laws`] says that a chain
+//! of valid blocks makes and loses nothing of any asset, what each of its blocks keeps, and that what a seal
+//! wrote is found valid by a check and replayed to exactly the ledger after its block.
 //!
 //! Not promised: how long a run takes, that the system runs a thread to its end, that two threads run at
 //! once, which of two candidates that exclude each other a seal accepts and which of several greatest
@@ -24,27 +25,29 @@
 //! received that tells nothing of its bytes.
 //!
 //! The way of the data: `payloads` (what a payload holds), `stream` (bytes to what records hold, each in
-//! its place), `opening` (a state with its digest), `head` (a block on a ledger), `sealing`, `checking`,
-//! `replaying`, `interleaving` and `migrating` (the commands), `running` (what a command found to what is
-//! written and to a status), `text` (answers to lines).
+//! its place), `opening` (a state with its digest), `head` (a block on a ledger), `making` (a block of
+//! candidates), `sealing`, `checking`, `replaying`, `interleaving`, `migrating`, `showing` and
+//! `demonstrating` (the commands), `output` (what a command writes), `running` (what a command found to what
+//! is written and to a status). Texts and statuses are those of `sx_text`.
 #![tactic(auto)]
 
 mod checking;
+mod demonstrating;
 mod head;
 mod interleaving;
 mod laws;
+mod making;
 mod migrating;
 mod opening;
+mod output;
 mod payloads;
 mod replaying;
 mod running;
 mod sealing;
-mod status;
+mod showing;
 mod stop;
 mod stream;
-mod text;
 
 pub use laws::{chain_laws, input_laws};
 pub use running::run;
-pub use status::Status;
-pub use text::{Text, check_line, status_line};
+pub use sx_text::{Status, Text, status_line};

@@ -72,6 +72,21 @@ impl Payload for TxList {
     }
 }
 
+impl Payload for Block {
+    ghost TAG = { block_tag };
+
+    ghost item = { λ said. item.block said };
+
+    ghost goes_with = { λ _. Unit {0} };
+
+    const TAG: u8 = tag::BLOCK;
+
+    fn read(alloc: Global, payload: &[u8]) -> Result<Block, ReadError> {
+        block_laws();
+        read_block(alloc, payload)
+    }
+}
+
 // A block that was read, and the digest of its transactions.
 #[derive(Debug, Drop)]
 pub struct Incoming {

@@ -1,12 +1,11 @@
 //! The top call.
 
-ghost use Rattle.std.specs.Prelude.{◌≡◌, ◌+◌, ◌≤◌, false, None, IfNone, IfSome, IsErrOf, IsTrue};
+ghost use Rattle.std.specs.Prelude.{◌≡◌, ◌+◌, ◌≤◌, IfSome, IsErrOf, IsTrue};
 ghost use Rattle.sx_base.specs.Outside.{Rose};
 ghost use Rattle.sx_clear.specs.Searches.{most_clearing_searches};
-ghost use Rattle.sx_run.specs.Answers.{Answers, Completes, FitsWords, Found, IsRead, asked};
-ghost use Rattle.sx_run.specs.Findings.{is_built};
-ghost use Rattle.sx_run.specs.Running.{Tells};
-ghost use Rattle.sx_run.specs.SealLaws.{SealsAlike, SealsLeaveTheirMeaning};
+ghost use Rattle.sx_run.specs.Answers.{Answers, Completes, FitsWords, Found, IsRead, asked, reads_nothing, takes_no_input};
+ghost use Rattle.sx_run.specs.Running.{Tells, as_bytes};
+ghost use Rattle.sx_run.specs.SealLaws.{DemosAlike, DemosSettle, SealsAlike, SealsLeaveTheirMeaning};
 ghost use Rattle.sx_run.specs.Sealing.{AreNumbers, seal_of};
 ghost use Rattle.sx_run.specs.Settling.{ReplaysSettle, ValidSettles};
 ghost use Rattle.sx_run.specs.Status.{UnlessReadFails, UnlessWriteFails, is_silent};
@@ -14,20 +13,23 @@ ghost use Rattle.sx_run.specs.Stream.{UnlessReadFault};
 ghost use Rattle.sx_words.specs.Commands.{InRange};
 
 use crate::checking::check;
+use crate::demonstrating::demonstrate;
 use crate::interleaving::interleave;
 use crate::laws::{chain_laws, input_laws};
+use crate::making::Numbers;
 use crate::migrating::migrate;
+use crate::output::{Output, recorded, told};
 use crate::replaying::replay;
-use crate::sealing::{Numbers, seal};
-use crate::status::{Status, status_of};
-use crate::stop::Stop;
+use crate::sealing::seal;
+use crate::showing::show;
+use crate::stop::{Stop, status_of};
 use std::alloc::Global;
 use std::sync::ledger::Ledger;
 use std::thread::Threads;
 use sx_base::{Sink, Source, put_all};
-use sx_bytes::Writer;
 use sx_net::Steps;
 use sx_price::Mu;
+use sx_text::Status;
 use sx_words::{Command, WordsFault, parse};
 use sx_workers::Gate;
 
@@ -48,7 +50,7 @@ fn numbers_of(workers: u32, shards: u32, mu: u8, rounds: u32) -> Numbers
     }
 }
 
-// What a command writes, or why it stops; none where the command is not built yet.
+// What a command writes, or why it stops.
 fn output_of<R: Threads + Sync, S: Source, G: Gate + Sync, L: Ledger>(
     rt: &R,
     alloc: Global,
@@ -56,22 +58,24 @@ fn output_of<R: Threads + Sync, S: Source, G: Gate + Sync, L: Ledger>(
     source: &mut S,
     gate: &G,
     steps: &mut Steps<L>,
-) -> Option<Result<Writer, Stop>>
+) -> Result<Output, Stop>
     requires { InRange command }
-    ensures built { IfSome result (λ _. IsTrue (is_built command)) }
-    ensures found { IfSome result (Found command (S.left source.old) (S.left source.new)) }
-    ensures steady { IfSome result (λ found. UnlessReadFault found (IsTrue (S.strict source.old) → S.faults source.new ≡ S.faults source.old)) }
-    ensures read_fault { IfSome result (λ found. IsErrOf found Stop.ReadFault → Rose (S.faults source.old) (S.faults source.new)) }
-    ensures unbuilt { IfNone result (is_built command ≡ false) }
-    ensures unread { IfNone result (source.new ≡ source.old) }
+    ensures found { Found command (S.left source.old) (S.left source.new) (as_bytes result) }
+    ensures steady { UnlessReadFault (as_bytes result) (IsTrue (S.strict source.old) → S.faults source.new ≡ S.faults source.old) }
+    ensures read_fault { IsErrOf (as_bytes result) Stop.ReadFault → Rose (S.faults source.old) (S.faults source.new) }
+    ensures unread { IsTrue (takes_no_input command) → source.new ≡ source.old }
     ensures counted { steps.new ≤ steps.old + most_clearing_searches }
     ensures rising { steps.old ≤ steps.new }
 {
     match command {
-        Command::Check => Some(check(rt, alloc, source)),
-        Command::Replay { .. } => Some(replay(rt, alloc, source)),
-        Command::Interleave => Some(interleave(alloc, source)),
-        Command::Migrate => Some(migrate(alloc, source)),
+        Command::Check => told(check(rt, alloc, source)),
+        Command::Replay { .. } => recorded(replay(rt, alloc, source)),
+        Command::Interleave => recorded(interleave(alloc, source)),
+        Command::Migrate => recorded(migrate(alloc, source)),
+        Command::Show => told(show(alloc, source)),
+        Command::Demo { number, workers } => {
+            told(demonstrate(rt, alloc, number, workers, gate, steps))
+        }
         Command::Seal {
             workers,
             shards,
@@ -79,15 +83,14 @@ fn output_of<R: Threads + Sync, S: Source, G: Gate + Sync, L: Ledger>(
             rounds,
         } => {
             let numbers = numbers_of(workers, shards, mu, rounds);
-            Some(seal(rt, alloc, numbers, source, gate, steps))
+            recorded(seal(rt, alloc, numbers, source, gate, steps))
         }
-        Command::Show | Command::Demo { .. } => None,
     }
 }
 
 // Writes the output, all of it, or answers why there is none.
-fn conclude<K: Sink>(sink: &mut K, found: Result<Writer, Stop>) -> Status
-    ensures told { Tells found (K.written sink.old) (K.written sink.new) result }
+fn conclude<K: Sink>(sink: &mut K, found: Result<Output, Stop>) -> Status
+    ensures told { Tells (as_bytes found) (K.written sink.old) (K.written sink.new) result }
     ensures silent { IsTrue (is_silent result) → sink.new ≡ sink.old }
     ensures steady { UnlessWriteFails result (IsTrue (K.strict sink.old) → K.faults sink.new ≡ K.faults sink.old) }
     ensures write_fault { result ≡ Status.WriteFault → Rose (K.faults sink.old) (K.faults sink.new) }
@@ -113,15 +116,19 @@ fn conclude<K: Sink>(sink: &mut K, found: Result<Writer, Stop>) -> Status
 /// is valid for what the one before it left. `interleave` reads a state, candidates and a script of who makes
 /// the next step, and writes what becomes of each candidate. `Refused` says at `seal` and `interleave` that the
 /// state has no room for all that the candidates ask for. `migrate` reads a state and writes it in version 2.
-/// See [`Status`] for the answers and for what is written at each. What is answered of the bytes holds where
-/// the source tells those that it has left, and what is written where the sink tells those that it holds.
+/// `show` reads one record of any kind, and writes what it holds as a text. `demo` and a number, to which
+/// `--workers` may be added, reads nothing: it makes a market from the number, gathers its candidates by so
+/// many workers (1 to 64, else 4) on 16 shards, clears the market as a seal does by default, and writes a
+/// summary of the block. See [`Status`] for the answers and for what is written at each. What is answered of
+/// the bytes holds where the source tells those that it has left, and what is written where the sink tells
+/// those that it holds.
 ///
-/// The gate is called before each candidate of a seal, and no clause depends on it. `steps` counts the
-/// searches of circulations, which `seal` alone makes.
+/// The gate is called before each candidate of a seal or a demonstration, and no clause depends on it.
+/// `steps` counts the searches of circulations, which these two alone make.
 ///
-/// `seal` returns where its worker threads return. For `check` and `replay` a state whose payload has 1 MiB or
-/// more is decoded while a thread of its own makes the digest, and the call returns where that thread returns.
-/// Where no thread can be started, the two are done in turn.
+/// `seal` and `demo` return where their worker threads return. For `check` and `replay` a state whose payload
+/// has 1 MiB or more is decoded while a thread of its own makes the digest, and the call returns where that
+/// thread returns. Where no thread can be started, the two are done in turn.
 pub fn run<R: Threads + Sync, S: Source, K: Sink, G: Gate + Sync, L: Ledger>(
     rt: &R,
     alloc: Global,
@@ -132,15 +139,16 @@ pub fn run<R: Threads + Sync, S: Source, K: Sink, G: Gate + Sync, L: Ledger>(
     steps: &mut Steps<L>,
 ) -> Status
     // Usage comes exactly where the words are no command in its plain form, but that memory may run out.
-    // Nothing is read then.
+    // Nothing is read then, and nothing for a demonstration.
     ensures usage { FitsWords (asked words.now) result }
-    ensures unread { asked words.now ≡ None → source.new ≡ source.old }
+    ensures unread { IsTrue (reads_nothing (asked words.now)) → source.new ≡ source.old }
 
     // The answer is what is found of the input: the first fault, or none. Then an output that the command may
     // write of the input is written, whole at Done, and up to some byte at WriteFault.
     ensures answer { IfSome (asked words.now) (λ command.
         Answers command (S.left source.old) (S.left source.new) (K.written sink.old) (K.written sink.new) result) }
-    ensures read { result ≡ Status.Done → IsRead (S.left source.old) (S.left source.new) }
+    ensures read { result ≡ Status.Done → IfSome (asked words.now) (λ command.
+        IsRead command (S.left source.old) (S.left source.new)) }
 
     // At every other answer nothing is written.
     ensures silent { IsTrue (is_silent result) → sink.new ≡ sink.old }
@@ -159,12 +167,17 @@ pub fn run<R: Threads + Sync, S: Source, K: Sink, G: Gate + Sync, L: Ledger>(
         (Rose (K.faults sink.old) (K.faults sink.new) → ⊥) →
         IfSome (asked words.now) (λ command. Completes command (S.left source.old) result) }
 
-    // However many workers and shards there are, a seal may write the same.
+    // However many workers and shards there are, a seal may write the same, and however many workers, a
+    // demonstration.
     ensures any_workers { SealsAlike }
+    ensures any_demo_workers { DemosAlike }
 
     // What a seal writes is a block that a check finds valid and that settles, and a replay of the state and of
     // what was written, by any number of workers, writes the ledger after the block.
     ensures seals { SealsLeaveTheirMeaning }
+
+    // The block of a demonstration settles.
+    ensures demos { DemosSettle }
 
     // The count of searches rises by at most this, whatever the words and the input are, and never falls.
     ensures counted { steps.new ≤ steps.old + most_clearing_searches }
@@ -179,10 +192,10 @@ pub fn run<R: Threads + Sync, S: Source, K: Sink, G: Gate + Sync, L: Ledger>(
     input_laws();
     chain_laws();
     match parse(alloc, words) {
-        Ok(command) => match output_of(rt, alloc, command, source, gate, steps) {
-            Some(found) => conclude(sink, found),
-            None => Status::Usage,
-        },
+        Ok(command) => {
+            let found = output_of(rt, alloc, command, source, gate, steps);
+            conclude(sink, found)
+        }
         Err(WordsFault::Usage) => Status::Usage,
         Err(WordsFault::NoMemory) => Status::NoMemory,
     }

@@ -1,25 +1,21 @@
-//! `seal`: a state, candidates, and nothing more. Worker threads gather the candidates, the body that they
-//! make is cleared, and the block and what became of each candidate are written.
+//! `seal`: a state, candidates, and nothing more. A block is made of the candidates, and it and what became
+//! of each candidate are written.
 
-ghost use Rattle.std.specs.Prelude.{◌≡◌, ◌+◌, ◌≤◌, ◌<◌, ◌++◌, [], ◌∷◌, Ok, IfErr, IfOk, IsErrOf, IsTrue, length};
+ghost use Rattle.std.specs.Prelude.{◌≡◌, ◌+◌, ◌≤◌, ◌++◌, [], ◌∷◌, Err, IfErr, IfOk, IsErrOf, IsTrue};
 ghost use Rattle.sx_base.specs.Outside.{Rose};
 ghost use Rattle.sx_block.specs.Block.{IsBlock};
 ghost use Rattle.sx_block.specs.Encoding.{block_bytes};
-ghost use Rattle.sx_block.specs.Validity.{IsValid};
 ghost use Rattle.sx_clear.specs.Searches.{most_clearing_searches};
-ghost use Rattle.sx_gather.specs.Start.{IsFaultOf};
-ghost use Rattle.sx_layout.specs.Gathering.{IsGathered};
 ghost use Rattle.sx_layout.specs.Outcomes.{AreOutcomes};
-ghost use Rattle.sx_layout.specs.Room.{room_for};
-ghost use Rattle.sx_ledger.specs.Body.{IsAdmissible};
-ghost use Rattle.sx_ledger.specs.Ledger.{IsLedger, most_height};
 ghost use Rattle.sx_run.specs.Answers.{ConcludesAs, Found};
+ghost use Rattle.sx_run.specs.Findings.{Concludes, no_fault};
 ghost use Rattle.sx_run.specs.Items.{item_record};
 ghost use Rattle.sx_run.specs.Items as item;
-ghost use Rattle.sx_run.specs.Sealing.{AreNumbers, IsClearedFor, IsStoppedBy, seal_of};
+ghost use Rattle.sx_run.specs.Sealing.{AreNumbers, IsMadeOf, IsStoppedBy, seal_of};
 ghost use Rattle.sx_run.specs.Stream.{UnlessReadFault};
-ghost use Rattle.sx_tx.specs.Transactions.{IsTxList, most_transactions};
+ghost use Rattle.sx_tx.specs.Transactions.{IsTxList};
 
+use crate::making::{Made, Numbers, make};
 use crate::stop::Stop;
 use crate::stream::{end, take};
 use std::alloc::Global;
@@ -29,26 +25,13 @@ use sx_base::Source;
 use sx_block::{Block, block_laws, write_block};
 use sx_bytes::{NoMemory, Writer};
 use sx_check::Invalid;
-use sx_clear::clear;
-use sx_gather::{GatherFault, Sealed};
-use sx_layout::{Outcomes, gathering_laws, outcome_list_laws, write_outcomes};
+use sx_gather::GatherFault;
+use sx_layout::{Outcomes, outcome_list_laws, write_outcomes};
 use sx_ledger::Ledger;
 use sx_net::Steps;
-use sx_price::Mu;
 use sx_record::{tag, write_record};
 use sx_tx::TxList;
-use sx_words::Command;
-use sx_workers::{Gate, gather_all};
-
-// What the words say of a seal: how many threads gather on how many shards, the margin, and how many
-// rounds the search for prices has at most.
-#[derive(Clone, Copy, Debug)]
-pub struct Numbers {
-    pub workers: u32,
-    pub shards: u32,
-    pub mu: Mu,
-    pub rounds: u32,
-}
+use sx_workers::Gate;
 
 // Why a seal stops that could not gather.
 fn stop_of(fault: GatherFault) -> Stop
@@ -65,52 +48,6 @@ fn stop_of(fault: GatherFault) -> Stop
             why: Invalid::Crowded { have, more, limit },
         },
     }
-}
-
-// What worker threads make of the candidates, which are let go.
-fn gathered<R: Threads + Sync, G: Gate + Sync>(
-    rt: &R,
-    alloc: Global,
-    ledger: &Ledger,
-    candidates: TxList,
-    numbers: Numbers,
-    gate: &G,
-) -> Result<Sealed, GatherFault>
-    requires few { length candidates ≤ most_transactions }
-    requires numbers { AreNumbers numbers }
-    ensures gathered { IfOk result (λ sealed. IsGathered ledger.now candidates sealed.outcomes sealed.txs) }
-    ensures room { IfOk result (λ _. room_for ledger.now candidates ≡ Ok tt) }
-    ensures fault { IfErr result (IsFaultOf (room_for ledger.now candidates)) }
-{
-    gather_all(
-        rt,
-        alloc,
-        ledger,
-        candidates.items(),
-        numbers.shards,
-        numbers.workers,
-        gate,
-    )
-}
-
-// The block of a body. The ledger is let go.
-fn cleared<R: Threads + Sync, L: ledger::Ledger>(
-    rt: &R,
-    alloc: Global,
-    ledger: Ledger,
-    txs: TxList,
-    numbers: Numbers,
-    steps: &mut Steps<L>,
-) -> Result<Block, NoMemory>
-    requires admissible { IsAdmissible ledger txs }
-    requires few { length txs ≤ most_transactions }
-    requires below_last { ledger.height < most_height }
-    ensures cleared { IfOk result (IsClearedFor ledger numbers.mu numbers.rounds) }
-    ensures txs { IfOk result (λ block. block.txs ≡ txs) }
-    ensures counted { steps.new ≤ steps.old + most_clearing_searches }
-    ensures rising { steps.old ≤ steps.new }
-{
-    clear(rt, alloc, &ledger, txs, numbers.mu, numbers.rounds, steps)
 }
 
 // The payload of a block, which is let go.
@@ -140,7 +77,33 @@ fn written(alloc: Global, block: Block, outcomes: &Outcomes) -> Result<Writer, N
     Ok(told)
 }
 
-// The block of the candidates and what became of them, or why there is no room for them.
+// A block of the candidates, or why there is no room for them. The ledger is let go.
+fn made<R: Threads + Sync, G: Gate + Sync, L: ledger::Ledger>(
+    rt: &R,
+    alloc: Global,
+    ledger: Ledger,
+    candidates: TxList,
+    numbers: Numbers,
+    gate: &G,
+    steps: &mut Steps<L>,
+) -> Result<Made, Stop>
+    requires candidates { IsTxList candidates }
+    requires numbers { AreNumbers numbers }
+    ensures made { IfOk result (λ made. IsMadeOf ledger candidates numbers.mu numbers.rounds made.block made.outcomes) }
+    ensures told { IfOk result (λ made. AreOutcomes made.outcomes) }
+    ensures room { IfOk result (λ _. Concludes (seal_of numbers) (item.state ledger ∷ item.candidates candidates ∷ []) no_fault) }
+    ensures stops { IfErr result (λ why. ConcludesAs (seal_of numbers) (item.state ledger ∷ item.candidates candidates ∷ []) (Err why)) }
+    ensures calm { IsErrOf result Stop.ReadFault → ⊥ }
+    ensures counted { steps.new ≤ steps.old + most_clearing_searches }
+    ensures rising { steps.old ≤ steps.new }
+{
+    match make(rt, alloc, &ledger, candidates, numbers, gate, steps) {
+        Ok(made) => Ok(made),
+        Err(fault) => Err(stop_of(fault)),
+    }
+}
+
+// The records of a block of the candidates and of what became of them, or why there is no room for them.
 fn sealed<R: Threads + Sync, G: Gate + Sync, L: ledger::Ledger>(
     rt: &R,
     alloc: Global,
@@ -157,12 +120,7 @@ fn sealed<R: Threads + Sync, G: Gate + Sync, L: ledger::Ledger>(
     ensures counted { steps.new ≤ steps.old + most_clearing_searches }
     ensures rising { steps.old ≤ steps.new }
 {
-    gathering_laws();
-    let Sealed { txs, outcomes } = match gathered(rt, alloc, &ledger, candidates, numbers, gate) {
-        Ok(sealed) => sealed,
-        Err(fault) => return Err(stop_of(fault)),
-    };
-    let block = cleared(rt, alloc, ledger, txs, numbers, steps)?;
+    let Made { block, outcomes } = made(rt, alloc, ledger, candidates, numbers, gate, steps)?;
     Ok(written(alloc, block, &outcomes)?)
 }
 

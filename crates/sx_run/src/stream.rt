@@ -16,7 +16,8 @@ use sx_base::Source;
 use sx_bytes::{Form, FormFault};
 use sx_record::{Record, RecordFault, next_record};
 
-fn stop_at(at: u64, fault: Form) -> Stop
+// A fault of form at this offset.
+pub fn stop_at(at: u64, fault: Form) -> Stop
     ensures { result ≡ Stop.Malformed (record { at = at; fault = fault }) }
 {
     Stop::Malformed(FormFault { at, fault })

@@ -1,16 +1,13 @@
 //! Seals over a source and a sink in memory, and whether its workers run at the same time.
 
 use crate::counting::{run, run_at};
+use crate::meeting::Meeting;
 use std::alloc::Global;
-use std::sync::atomic::{AtomicBool, Ordering};
 use std::test::Fail;
 use std::thread::Threads;
 use sx_base::{MemSink, MemSource};
 use sx_run::Status;
 use sx_workers::Gate;
-
-// How often a worker looks for the other one.
-const LOOKS: u32 = 100_000_000;
 
 // Two assets at the price 1. Account 1 offers 100 units of the first for the second, account 2 offers 60 of the
 // second for the first, which have to trade: the records of the state and of these two candidates.
@@ -91,55 +88,6 @@ fn a_failed_put_of_a_seal_is_a_write_fault(rt: HostRuntime) {
     }
 }
 
-// What one of two workers tells the other.
-#[derive(Drop)]
-struct Side {
-    here: AtomicBool,
-    met: AtomicBool,
-}
-
-impl Side {
-    fn new() -> Side {
-        Side {
-            here: AtomicBool::new(false),
-            met: AtomicBool::new(false),
-        }
-    }
-
-    // Before its first candidate a worker says that it is here, and looks for the other one.
-    fn meet(&self, other: &Side) {
-        if self.here.swap(true, Ordering::SeqCst) {
-            return;
-        }
-        for _ in 0..LOOKS {
-            if other.here.load(Ordering::SeqCst) {
-                self.met.store(true, Ordering::SeqCst);
-                return;
-            }
-        }
-    }
-
-    fn has_met(&self) -> bool {
-        self.met.load(Ordering::SeqCst)
-    }
-}
-
-// The sides of two workers.
-#[derive(Drop)]
-struct Meeting {
-    one: Side,
-    other: Side,
-}
-
-impl Gate for Meeting {
-    fn before(&self, worker: u32, _index: u32) {
-        match worker {
-            0 => self.one.meet(&self.other),
-            _ => self.other.meet(&self.one),
-        }
-    }
-}
-
 // How a seal by two workers ends, with this gate before each candidate.
 fn sealed_by_two<R: Threads + Sync, G: Gate + Sync>(
     rt: &R,
@@ -154,12 +102,9 @@ fn sealed_by_two<R: Threads + Sync, G: Gate + Sync>(
 
 #[test]
 fn two_workers_of_a_seal_run_at_the_same_time(rt: HostRuntime) -> Result<(), Fail> {
-    let meeting = Meeting {
-        one: Side::new(),
-        other: Side::new(),
-    };
+    let meeting = Meeting::new();
     let status = sealed_by_two(&rt, rt.alloc(), &meeting);
     assert_eq!(rt; status, Some(Status::Done));
-    assert!(rt; meeting.one.has_met() && meeting.other.has_met());
+    assert!(rt; meeting.has_been());
     Ok(())
 }

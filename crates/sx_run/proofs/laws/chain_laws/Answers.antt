@@ -1,5 +1,5 @@
 use Rattle.sx_run.proofs.Chains.{chain_conserves, chain_keeps_ledger, replays_chains}
-use Rattle.sx_run.proofs.Seals.{seals_leave_their_meaning}
+use Rattle.sx_run.proofs.Seals.{demos_settle, seals_leave_their_meaning}
 use Rattle.sx_run.proofs.Settlements.{replays_settle, valid_settles}
 use Rattle.sx_run.proofs.laws.chain_laws.Goals as goal
 
@@ -28,5 +28,12 @@ pub returns-clause-seals : goal.returns-clause-seals
 returns-clause-seals c =
     let laws = c.block_effect_laws.ensures in
     seals_leave_their_meaning
+    (valid_settles laws.ledger laws.within laws.in_full laws.dropped laws.most laws.gives laws.gets laws.one_in_part
+    laws.falls laws.keeps_rounding)
+
+pub returns-clause-demos : goal.returns-clause-demos
+returns-clause-demos c =
+    let laws = c.block_effect_laws.ensures in
+    demos_settle
     (valid_settles laws.ledger laws.within laws.in_full laws.dropped laws.most laws.gives laws.gets laws.one_in_part
     laws.falls laws.keeps_rounding)

@@ -1,4 +1,4 @@
-use Rattle.sx_run.proofs.AnyWorkers.{seals_alike}
+use Rattle.sx_run.proofs.AnyWorkers.{demos_alike, seals_alike}
 use Rattle.sx_run.proofs.OneFinding.{finds_one}
 use Rattle.sx_run.proofs.Outputs.{writes_one_text, writes_some_text}
 use Rattle.sx_run.proofs.SomeFinding.{finds_some}
@@ -19,3 +19,6 @@ returns-clause-some_output c = writes_some_text
 
 pub returns-clause-seals_alike : goal.returns-clause-seals_alike
 returns-clause-seals_alike c = seals_alike
+
+pub returns-clause-demos_alike : goal.returns-clause-demos_alike
+returns-clause-demos_alike c = demos_alike
