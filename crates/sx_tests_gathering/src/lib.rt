@@ -1,5 +1,5 @@
-//! Tests of gathering: events of the core, where words are, outcomes and scripts as bytes, shards on threads,
-//! and workers.
+//! Tests of gathering: events of the core, where words are, outcomes and scripts as bytes, shards and passes
+//! on threads, and workers.
 #![tactic(auto)]
 
 #[cfg(test)]
@@ -8,6 +8,8 @@ mod events;
 mod layout;
 #[cfg(test)]
 mod outcomes;
+#[cfg(test)]
+mod passes;
 #[cfg(test)]
 mod threads;
 #[cfg(test)]

@@ -24,7 +24,7 @@ const SHARDS: u32 = 2;
 
 // One asset. Account 1 has 100 units, account 2 has 5.
 #[rattlefmt::skip]
-fn two_accounts() -> [u8; 82] {
+pub fn two_accounts() -> [u8; 82] {
     [
         1, 0, 0, 0, 0, 0, 0, 0, 0, 1, 0, 0, 0, 0, 1, 0, 0, 0, 0, 0, 0, 0, 0, 0, 0, 0, 0, 0, 0, 2,
         0, 0, 0, 0, 0, 0, 0, 1, 0, 0, 0, 0, 0, 0, 0, 0, 0, 0, 0, 0, 0, 0, 0, 100,
@@ -77,7 +77,7 @@ fn create(account: u64, seq: u64) -> Option<Tx> {
     tx(account, seq, Kind::Create { id: AccountId(9) })
 }
 
-fn debits() -> Option<[Tx; 2]> {
+pub fn debits() -> Option<[Tx; 2]> {
     Some([pay(1, 1, 60)?, pay(1, 2, 60)?])
 }
 
@@ -123,7 +123,7 @@ fn allowed() -> [[(Outcome, Outcome); 2]; 4] {
 }
 
 // Whether the outcomes are those of the first so many pairs.
-fn are_allowed(outcomes: &[Outcome]) -> bool {
+pub fn are_allowed(outcomes: &[Outcome]) -> bool {
     let pairs = outcomes.len() / 2;
     for (place, allowed) in allowed().iter().take(pairs).enumerate() {
         let (Some(first), Some(other)) = (outcomes.get(place), outcomes.get(place + pairs)) else {
