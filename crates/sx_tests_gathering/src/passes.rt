@@ -3,11 +3,12 @@
 ghost use Rattle.std.specs.Prelude.{◌≡◌, ◌+◌, ◌≤◌, [], length, IfOk};
 ghost use Rattle.sx_gather.specs.Passes.{IsPassOf};
 ghost use Rattle.sx_layout.specs.Gathering.{IsGathered};
+ghost use Rattle.sx_workers.specs.Passing.{CanDecide, DecidesRest};
 
 use crate::workers::{are_allowed, debits, two_accounts};
 use std::alloc::Global;
 use std::test::Fail;
-use std::thread::{Threads, join};
+use std::thread::{Threads, join_mut};
 use sx_gather::*;
 use sx_ledger::{Ledger, read_state};
 use sx_tx::Tx;
@@ -16,43 +17,43 @@ const TIMES: u32 = 100;
 
 const SHARDS: u32 = 2;
 
-// Decides the one candidate that a pass has.
-fn decide(gather: &Gather, mut pass: Pass) -> Pass
-    requires of { IsPassOf gather.now pass }
-    requires one { (pass.next ≡ pass.from) × (pass.from + 1 ≡ pass.end) }
-    requires room { 1 ≤ pass.spare }
-    ensures of { IsPassOf gather.now result }
-    ensures range { (result.from ≡ pass.from) × (result.next ≡ pass.end) × (result.end ≡ pass.end) }
-    ensures spare { result.spare + 1 ≡ pass.spare }
+// Decides the one candidate that a pass has left.
+fn decide(gather: &Gather, pass: &mut Pass)
+    requires can { CanDecide gather.now pass.old }
+    requires one { pass.old.next + 1 ≡ pass.old.end }
+    ensures { DecidesRest gather.now pass.old pass.new }
 {
-    let _ = gather.submit(&mut pass);
-    pass
+    let _ = gather.submit(pass);
 }
 
-// Decides two candidates at once, and joins the passes.
-fn decide_two<R: Threads + Sync>(rt: &R, gather: &Gather, first: Pass, second: Pass) -> Pass
+// Decides two candidates at once, each in a thread of its own.
+fn decide_both<R: Threads + Sync>(rt: &R, gather: &Gather, first: &mut Pass, second: &mut Pass)
+    requires first { CanDecide gather.now first.old }
+    requires second { CanDecide gather.now second.old }
+    requires first_one { first.old.next + 1 ≡ first.old.end }
+    requires second_one { second.old.next + 1 ≡ second.old.end }
+    ensures first { DecidesRest gather.now first.old first.new }
+    ensures second { DecidesRest gather.now second.old second.new }
+{
+    join_mut(
+        rt,
+        &mut || decide(gather, first),
+        &mut || decide(gather, second),
+    );
+}
+
+// Takes the second pass into the first.
+fn join_both(gather: &Gather, mut first: Pass, second: Pass) -> Pass
     requires first_of { IsPassOf gather.now first }
     requires second_of { IsPassOf gather.now second }
-    requires first_range { (first.from ≡ 0) × (first.next ≡ 0) × (first.end ≡ 1) }
-    requires second_range { (second.from ≡ 1) × (second.next ≡ 1) × (second.end ≡ 2) }
-    requires first_room { 2 ≤ first.spare }
-    requires second_room { 1 ≤ second.spare }
+    requires first_range { (first.from ≡ 0) × (first.next ≡ 1) × (first.end ≡ 1) }
+    requires second_range { (second.from ≡ 1) × (second.next ≡ 2) × (second.end ≡ 2) }
+    requires room { 1 ≤ first.spare }
     ensures of { IsPassOf gather.now result }
     ensures range { (result.from ≡ 0) × (result.next ≡ 2) × (result.end ≡ 2) }
 {
-    let (mut whole, other) = join(
-        rt,
-        move || -> Pass
-            requires { IsPassOf gather.now first × (first.from ≡ 0) × (first.next ≡ 0) × (first.end ≡ 1) × (2 ≤ first.spare) }
-            ensures { IsPassOf gather.entry.now result × (result.from ≡ 0) × (result.next ≡ 1) × (result.end ≡ 1) × (1 ≤ result.spare) }
-        { decide(gather, first) },
-        move || -> Pass
-            requires { IsPassOf gather.now second × (second.from ≡ 1) × (second.next ≡ 1) × (second.end ≡ 2) × (1 ≤ second.spare) }
-            ensures { IsPassOf gather.entry.now result × (result.from ≡ 1) × (result.next ≡ 2) × (result.end ≡ 2) }
-        { decide(gather, second) },
-    );
-    gather.join(&mut whole, other);
-    whole
+    gather.join(&mut first, second);
+    first
 }
 
 // Gathers two candidates by two threads.
@@ -66,8 +67,9 @@ fn gather_two<R: Threads + Sync>(
     ensures gathered { IfOk result (λ sealed. IsGathered ledger.now candidates.now sealed.outcomes sealed.txs) }
 {
     let (gather, mut first) = Gather::start(alloc, ledger, candidates, SHARDS)?;
-    let second = gather.split(&mut first, 1)?;
-    let whole = decide_two(rt, &gather, first, second);
+    let mut second = gather.split(&mut first, 1)?;
+    decide_both(rt, &gather, &mut first, &mut second);
+    let whole = join_both(&gather, first, second);
     Ok(gather.seal(whole)?)
 }
 
