@@ -1,10 +1,12 @@
 -- What holds of each seal, and of each demonstration.
-use Rattle.std.specs.Prelude.{◌≡◌, ℕ, List, [], ◌∷◌, ◌++◌}
+use Rattle.std.specs.Prelude.{◌≡◌, ℕ, List, [], ◌∷◌, ◌++◌, length}
 use Rattle.sx_block.specs.declared.header.Block.{Block}
 use Rattle.sx_block.specs.Validity.{ledger_after}
 use Rattle.sx_check.specs.Checked.{checked_of}
+use Rattle.sx_clear.specs.Quotes.{searched_at}
 use Rattle.sx_gen.specs.State.{demo_parts}
 use Rattle.sx_layout.specs.declared.outcome.Outcome.{Outcome}
+use Rattle.sx_layout.specs.Gathering.{body_of, decisions}
 use Rattle.sx_ledger.specs.declared.parts.Parts.{Parts}
 use Rattle.sx_run.specs.Items.{block, candidates, item_record, outcomes, records, state, state_record}
 use Rattle.sx_run.specs.Outputs.{MayWrite}
@@ -16,13 +18,20 @@ use Rattle.sx_words.specs.declared.command.Command.TheVariants.{Check, Demo, Rep
 
 -- a state and candidates were read, and what was written is a block, with outcomes after it, that leaves exactly what
 -- its transactions and its header mean
-pub record LeavesItsMeaning (bytes text : List ℕ) : Type 0 where
+pub record LeavesItsMeaning (mu rounds : ℕ) (bytes text : List ℕ) : Type 0 where
   pub parts : Parts
   pub txs : List Tx
   pub read : bytes ≡ records (state parts ∷ candidates txs ∷ [])
   pub said : Block
   pub told : List Outcome
   pub encoded : text ≡ item_record (block said) ++ item_record (outcomes told)
+  -- each candidate is told one outcome, and the transactions are the accepted candidates, in the order of a body
+  pub one_each : length told ≡ length txs
+  pub accepted_are : said.txs ≡ body_of (decisions txs told)
+  -- the version, the margin and the prices are those that were asked for
+  pub version : said.header.version ≡ 1
+  pub margin : said.header.mu ≡ mu
+  pub prices : said.header.prices ≡ searched_at parts said.txs mu rounds
   -- a check of the state and the block tells that it is valid
   pub checks : MayWrite Check (records (state parts ∷ block said ∷ [])) (checked_text (checked_of said)) []
   -- a replay of the state and of what was written, by any number of workers, writes the ledger after the block
@@ -34,7 +43,7 @@ pub record LeavesItsMeaning (bytes text : List ℕ) : Type 0 where
 abbrev pub SealsLeaveTheirMeaning : Type 0
 SealsLeaveTheirMeaning =
     (workers shards mu rounds : ℕ) (bytes text left : List ℕ) → MayWrite (Seal workers shards mu rounds) bytes text left
-    → LeavesItsMeaning bytes text
+    → LeavesItsMeaning mu rounds bytes text
 
 -- how many workers and shards there are does not change what may be written
 abbrev pub SealsAlike : Type 0
