@@ -1,0 +1,4 @@
+pub mod Best
+pub mod PostedLaws
+pub mod Ends
+pub mod Cases
