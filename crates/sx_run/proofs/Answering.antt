@@ -1,18 +1,19 @@
 -- From what a command found to the answer.
 use Rattle.std.proofs.Common.{◌≡◌, ℕ, List, Option, Some, None, Result, Ok, Err, inl, inr, refl, ap}
 use Rattle.std.specs.Prelude.{IfSome, IsTrue}
+use Rattle.sx_input.specs.declared.stop.Stop.{Stop}
+use Rattle.sx_input.specs.declared.stop.Stop.TheVariants as stop
+use Rattle.sx_input.specs.Found.{Found}
+use Rattle.sx_input.specs.Stream.{UnlessReadFault}
+use Rattle.sx_meaning.specs.Answers.{Answers, Completes, FitsWords, IsRead, MayWriteIn, reads_nothing, status_of}
+use Rattle.sx_meaning.specs.Answers.{takes_no_input}
+use Rattle.sx_meaning.specs.Findings.{Finding, Finds, malformed, no_fault, refused}
+use Rattle.sx_meaning.specs.Laws.{FindsOne}
+use Rattle.sx_meaning.specs.Status.{UnlessReadFails}
+use Rattle.sx_meaning.proofs.Ends.{read_whole}
+use Rattle.sx_run.specs.Running.{IsWritten, Tells, status_at}
 use Rattle.sx_text.specs.declared.status.Status.{Status}
 use Rattle.sx_text.specs.declared.status.Status.TheVariants as status
-use Rattle.sx_run.specs.declared.stop.Stop.{Stop}
-use Rattle.sx_run.specs.declared.stop.Stop.TheVariants as stop
-use Rattle.sx_run.specs.Answers.{Answers, Completes, FitsWords, Found, IsRead, MayWriteIn, reads_nothing, status_of}
-use Rattle.sx_run.specs.Answers.{takes_no_input}
-use Rattle.sx_run.specs.Findings.{Finding, Finds, malformed, no_fault, refused}
-use Rattle.sx_run.specs.Laws.{FindsOne}
-use Rattle.sx_run.specs.Running.{IsWritten, Tells}
-use Rattle.sx_run.specs.Status.{UnlessReadFails, status_at}
-use Rattle.sx_run.specs.Stream.{UnlessReadFault}
-use Rattle.sx_run.proofs.Readings.{read_whole}
 use Rattle.sx_words.specs.declared.command.Command.{Command}
 
 -- ---- the answer

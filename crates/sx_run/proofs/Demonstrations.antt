@@ -21,14 +21,14 @@ use Rattle.sx_layout.proofs.Counts.{length-filter_map}
 use Rattle.sx_ledger.specs.declared.parts.Parts.{Parts}
 use Rattle.sx_ledger.specs.Body.{created, created_by, made, made_by}
 use Rattle.sx_ledger.specs.Ledger.{most_accounts, most_height, most_offers}
+use Rattle.sx_meaning.specs.Answers.{MayWriteIn}
+use Rattle.sx_meaning.specs.Outputs.{MayWrite}
+use Rattle.sx_meaning.specs.Sealing.{IsDemonstrated, IsMadeOf}
 use Rattle.sx_text.specs.Demonstration.{demo_text}
 use Rattle.sx_tx.specs.declared.tx.Tx.{Tx}
 use Rattle.sx_words.specs.declared.command.Command.TheVariants.{Demo}
 use Rattle.sx_words.specs.declared.setting.Setting.TheVariants.{Mu, Rounds}
 use Rattle.sx_words.specs.Settings.{default_of}
-use Rattle.sx_run.specs.Answers.{MayWriteIn}
-use Rattle.sx_run.specs.Outputs.{MayWrite}
-use Rattle.sx_run.specs.Sealing.{IsDemonstrated, IsMadeOf}
 
 -- ---- room
 

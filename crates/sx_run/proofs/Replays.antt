@@ -1,39 +1,39 @@
 -- What a replay knows of the input, record after record.
 use Rattle.std.proofs.Common.{◌≡◌, ℕ, ◌+◌, ◌≤◌, Bool, true, false, List, [], ◌∷◌, ◌++◌, length, Option, Some, None}
-use Rattle.std.proofs.Common.{Result}
-use Rattle.std.proofs.Common.{Ok, Err, inr, refl, sym, ap, subst, ◌∙◌, append_assoc, arith}
+use Rattle.std.proofs.Common.{Result, Ok, Err, inr, refl, sym, ap, subst, ◌∙◌, append_assoc, arith}
 use Rattle.std.proofs.lemmas.List.{append-nil, length-append}
 use Rattle.std.specs.Prelude.{nat_le}
 use Rattle.sx_bytes.specs.declared.fault.FormFault.{FormFault}
 use Rattle.sx_check.specs.declared.invalid.Invalid.{Invalid}
 use Rattle.sx_check.specs.Refusals.{Refuses}
+use Rattle.sx_input.specs.declared.head.Head.{Head}
+use Rattle.sx_input.specs.declared.stop.Stop.{Stop}
+use Rattle.sx_input.specs.declared.stop.Stop.TheVariants as stop
+use Rattle.sx_input.specs.Found.{Found}
+use Rattle.sx_input.specs.Head.{IsHead}
+use Rattle.sx_input.specs.Stream.{FaultsAt, Reads, Stops, TakesRecord, WasAtEnd}
+use Rattle.sx_input.proofs.Faults.{bad_record, no_record}
+use Rattle.sx_input.proofs.Readings.{HasRead, concludes, nothing_read, stops as stops_here, took_then}
 use Rattle.sx_ledger.specs.declared.parts.Parts.{Parts}
 use Rattle.sx_ledger.specs.Ledger.{IsLedger}
+use Rattle.sx_meaning.specs.Answers.{FindsIn, FindsInSome}
+use Rattle.sx_meaning.specs.Expected.{Expected, IsExpected, item_at, needed, record_of}
+use Rattle.sx_meaning.specs.Findings.{Finding, Finds, FindsAtBlock, IsValidOn, MayCome, MayComeAll, expected, refused}
+use Rattle.sx_meaning.specs.Items.{Item, block, item_record, records, state, state_record, tag_of}
+use Rattle.sx_meaning.specs.NextItem.{blocks_then, ledger_then}
+use Rattle.sx_meaning.specs.Replays.{blocks_of, ends_with_block, expected_in_replay, ledger_after_all, most_blocks}
+use Rattle.sx_meaning.specs.Replays.{tags_after}
+use Rattle.sx_meaning.proofs.Blocks.{after_along, blocks_along, ledger_along}
+use Rattle.sx_meaning.proofs.ItemLaws.{length-record}
+use Rattle.sx_meaning.proofs.ItemLists.{come_then, records_then}
 use Rattle.sx_record.specs.declared.frame.Record.{Record}
 use Rattle.sx_record.specs.Decoding.{record_at}
 use Rattle.sx_record.specs.Frame.{frame_bytes, most_bytes, record_bytes}
 use Rattle.sx_record.specs.Stream.{Took}
 use Rattle.sx_record.specs.Tags.{state_tag}
-use Rattle.sx_run.specs.declared.head.Head.{Head}
 use Rattle.sx_run.specs.declared.replaying.Place.{Place}
-use Rattle.sx_run.specs.declared.stop.Stop.{Stop}
-use Rattle.sx_run.specs.declared.stop.Stop.TheVariants as stop
+use Rattle.sx_run.specs.Replaying.{HasReplayed, IsNext, RefusesNext, Steps, StepsTo, expected_at, is_full}
 use Rattle.sx_words.specs.declared.command.Command.TheVariants.{Replay}
-use Rattle.sx_run.specs.Answers.{FindsIn, FindsInSome, Found}
-use Rattle.sx_run.specs.Expected.{Expected, IsExpected, item_at, needed, record_of}
-use Rattle.sx_run.specs.Findings.{Finding, Finds, FindsAtBlock, IsValidOn, MayCome, MayComeAll, expected, refused}
-use Rattle.sx_run.specs.Head.{IsHead}
-use Rattle.sx_run.specs.Items.{Item, block, item_record, records, state, state_record, tag_of}
-use Rattle.sx_run.specs.Replaying.{HasReplayed, IsNext, RefusesNext, Steps, StepsTo, blocks_then, expected_at, is_full}
-use Rattle.sx_run.specs.Replaying.{ledger_then}
-use Rattle.sx_run.specs.Replays.{blocks_of, ends_with_block, expected_in_replay, ledger_after_all, most_blocks}
-use Rattle.sx_run.specs.Replays.{tags_after}
-use Rattle.sx_run.specs.Stream.{FaultsAt, Reads, Stops, TakesRecord, WasAtEnd}
-use Rattle.sx_run.proofs.Blocks.{after_along, blocks_along, ledger_along}
-use Rattle.sx_run.proofs.Faults.{bad_record, no_record}
-use Rattle.sx_run.proofs.ItemLaws.{length-record}
-use Rattle.sx_run.proofs.Readings.{HasRead, come_then, concludes, nothing_read, records_then, stops as stops_here}
-use Rattle.sx_run.proofs.Readings.{took_then}
 
 -- ---- the beginning
 

@@ -1,15 +1,15 @@
 -- What a text shows is what the record holds.
 use Rattle.std.proofs.Common.{◌≡◌, ℕ, ◌+◌, List, [], ◌∷◌, length, Option, refl, sym, subst}
+use Rattle.sx_input.proofs.Readings.{HasRead, nothing_read, one_more}
+use Rattle.sx_input.proofs.TakenRecords.{ends_after, took_item}
+use Rattle.sx_meaning.specs.Expected.{IsExpected}
+use Rattle.sx_meaning.specs.Findings.{all_tags, expected}
+use Rattle.sx_meaning.specs.Items.{IsItem, Item, payload_of, tag_of}
+use Rattle.sx_meaning.specs.Outputs.{shown_of}
 use Rattle.sx_record.specs.declared.frame.Record.{Record}
 use Rattle.sx_record.specs.Frame.{MayStand, record_bytes}
 use Rattle.sx_record.specs.Stream.{Took}
-use Rattle.sx_run.specs.Expected.{IsExpected}
-use Rattle.sx_run.specs.Findings.{all_tags, expected}
-use Rattle.sx_run.specs.Items.{IsItem, Item, payload_of, tag_of}
-use Rattle.sx_run.specs.Outputs.{shown_of}
 use Rattle.sx_run.specs.Showing.{item_of}
-use Rattle.sx_run.proofs.Readings.{HasRead, nothing_read, one_more}
-use Rattle.sx_run.proofs.Taken.{ends_after, took_item}
 use Rattle.sx_text.specs.declared.shown.Shown.{Shown}
 use Rattle.sx_text.specs.declared.shown.Shown.TheVariants as shown
 use Rattle.sx_text.specs.Shown.{IsShowable}

@@ -6,22 +6,22 @@ use Rattle.sx_block.specs.declared.header.Block.{Block}
 use Rattle.sx_block.specs.Block.{IsBlock}
 use Rattle.sx_block.specs.Validity.{IsValid, ledger_after}
 use Rattle.sx_bytes.specs.declared.fault.Form.TheVariants as form
+use Rattle.sx_input.specs.declared.head.Head.{Head}
+use Rattle.sx_input.specs.declared.stop.Stop.{Stop}
+use Rattle.sx_input.specs.declared.stop.Stop.TheVariants as stop
+use Rattle.sx_input.specs.Head.{IsHead}
+use Rattle.sx_input.specs.Stream.{FailsAs}
+use Rattle.sx_input.proofs.Faults.{bad_payload, one_too_many}
 use Rattle.sx_layout.specs.declared.outcome.Outcome.{Outcome}
 use Rattle.sx_layout.specs.Outcomes.{AreOutcomes}
+use Rattle.sx_meaning.specs.Expected.{shifted}
+use Rattle.sx_meaning.specs.Items.{block, outcomes, payload_at, payload_of}
+use Rattle.sx_meaning.specs.Replays.{most_blocks, tags_after}
 use Rattle.sx_record.specs.declared.frame.Record.{Record}
 use Rattle.sx_record.specs.Frame.{frame_bytes, most_bytes, record_bytes}
 use Rattle.sx_record.specs.Tags.{block_tag, outcomes_tag}
-use Rattle.sx_run.specs.declared.head.Head.{Head}
 use Rattle.sx_run.specs.declared.replaying.Place.{Place}
-use Rattle.sx_run.specs.declared.stop.Stop.{Stop}
-use Rattle.sx_run.specs.declared.stop.Stop.TheVariants as stop
-use Rattle.sx_run.specs.Head.{IsHead}
-use Rattle.sx_run.specs.Expected.{shifted}
-use Rattle.sx_run.specs.Items.{block, outcomes, payload_at, payload_of}
 use Rattle.sx_run.specs.Replaying.{IsNext, MayGoOn, Steps, StepsTo, is_full, most_records}
-use Rattle.sx_run.specs.Replays.{most_blocks, tags_after}
-use Rattle.sx_run.specs.Stream.{FailsAs}
-use Rattle.sx_run.proofs.Faults.{bad_payload, one_too_many}
 
 -- a record more is not too far
 near_block : (blocks at : ℕ) (after : Bool) (long : ℕ) →

@@ -1,16 +1,4 @@
-pub mod Items
-pub mod Expected
-pub mod Replays
-pub mod Stream
-pub mod Status
-pub mod Findings
-pub mod Sealing
-pub mod Outputs
-pub mod Answers
+pub mod Making
 pub mod Replaying
 pub mod Showing
 pub mod Running
-pub mod Head
-pub mod Laws
-pub mod Settling
-pub mod SealLaws

@@ -3,22 +3,22 @@ use Rattle.std.specs.Prelude.{◌≡◌, ℕ, ◌+◌, ◌*◌, ◌<◌, ◌≤�
 use Rattle.std.specs.Prelude.{Result, Ok, Err}
 use Rattle.sx_block.specs.declared.header.Block.{Block}
 use Rattle.sx_block.specs.Block.{IsBlock}
-use Rattle.sx_block.specs.Validity.{IsValid, ledger_after}
 use Rattle.sx_check.specs.declared.invalid.Invalid.{Invalid}
 use Rattle.sx_check.specs.Refusals.{Refuses}
+use Rattle.sx_input.specs.declared.stop.Stop.{Stop}
+use Rattle.sx_input.specs.declared.stop.Stop.TheVariants as stop
+use Rattle.sx_input.specs.Head.{IsHead}
 use Rattle.sx_ledger.specs.declared.parts.Parts.{Parts}
+use Rattle.sx_meaning.specs.Expected.{Expected, IsExpected, item_in, record_of}
+use Rattle.sx_meaning.specs.Findings.{IsValidOn, MayComeAll}
+use Rattle.sx_meaning.specs.Items.{IsItem, Item, block, item_record, records, state, tag_of}
+use Rattle.sx_meaning.specs.NextItem.{blocks_then, ledger_then}
+use Rattle.sx_meaning.specs.Replays.{blocks_of, ends_with_block, is_block, ledger_after_all, most_blocks, tags_after}
 use Rattle.sx_record.specs.declared.frame.Record.{Record}
 use Rattle.sx_record.specs.Frame.{MayStand, frame_bytes, most_bytes, record_bytes}
 use Rattle.sx_record.specs.Stream.{Took}
 use Rattle.sx_run.specs.declared.replaying.Place.{Place}
-use Rattle.sx_run.specs.declared.stop.Stop.{Stop}
-use Rattle.sx_run.specs.declared.stop.Stop.TheVariants as stop
 use Rattle.sx_words.specs.declared.command.Command.TheVariants.{Replay}
-use Rattle.sx_run.specs.Expected.{Expected, IsExpected, item_in, record_of}
-use Rattle.sx_run.specs.Findings.{IsValidOn, MayComeAll}
-use Rattle.sx_run.specs.Head.{IsHead}
-use Rattle.sx_run.specs.Items.{IsItem, Item, block, item_record, records, state, tag_of}
-use Rattle.sx_run.specs.Replays.{blocks_of, ends_with_block, is_block, ledger_after_all, most_blocks, tags_after}
 
 -- ---- one record
 
@@ -44,15 +44,6 @@ pub record MayGoOn (place : Place) : Type 0 where
 -- a record that comes next
 abbrev pub IsNext : Place → Record → Type 0
 IsNext place found = MayStand (tags_after place.after_block) place.at found
-
--- the ledger, and the number of blocks, after an item
-abbrev pub ledger_then : Parts → Item → Parts
-ledger_then parts (block said) = ledger_after parts said
-ledger_then parts _ = parts
-
-abbrev pub blocks_then : ℕ → Item → ℕ
-blocks_then blocks (block said) = blocks + 1
-blocks_then blocks _ = blocks
 
 -- the record is an item that may come, and the next place is after it
 pub record StepsTo (place : Place) (found : Record) (next : Place) : Type 0 where

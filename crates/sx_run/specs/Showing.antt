@@ -1,5 +1,5 @@
 -- What a text shows, as an item.
-use Rattle.sx_run.specs.Items.{Item, block, candidates, outcomes, script, state}
+use Rattle.sx_meaning.specs.Items.{Item, block, candidates, outcomes, script, state}
 use Rattle.sx_text.specs.declared.shown.Shown.{Shown}
 use Rattle.sx_text.specs.declared.shown.Shown.TheVariants as shown
 

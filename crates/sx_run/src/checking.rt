@@ -4,21 +4,18 @@ ghost use Rattle.std.specs.Prelude.{◌≡◌, ◌^◌, ◌≤◌, [], ◌∷◌
 ghost use Rattle.sha2.specs.Sha256.{sha256};
 ghost use Rattle.sx_base.specs.Outside.{Rose};
 ghost use Rattle.sx_block.specs.Block.{IsBlock};
-ghost use Rattle.sx_run.specs.Answers.{ConcludesAs, Found};
-ghost use Rattle.sx_run.specs.Head.{IsHead};
-ghost use Rattle.sx_run.specs.Items as item;
-ghost use Rattle.sx_run.specs.Stream.{UnlessReadFault};
+ghost use Rattle.sx_input.specs.Found.{ConcludesAs, Found};
+ghost use Rattle.sx_input.specs.Head.{IsHead};
+ghost use Rattle.sx_input.specs.Stream.{UnlessReadFault};
+ghost use Rattle.sx_meaning.specs.Items as item;
 ghost use Rattle.sx_tx.specs.Transactions.{list_bytes};
 
-use crate::head::{Head, advance};
-use crate::opening::take_head;
-use crate::payloads::Incoming;
-use crate::stop::Stop;
-use crate::stream::{end, take};
+use crate::advancing::advance;
 use std::alloc::Global;
 use std::thread::Threads;
 use sx_base::Source;
 use sx_check::CheckFault;
+use sx_input::{Head, Incoming, Stop, end, take, take_head};
 use sx_text::{Text, check_line};
 use sx_words::Command;
 

@@ -2,22 +2,21 @@
 
 ghost use Rattle.std.specs.Prelude.{◌≡◌, ◌≤◌, [], ◌∷◌, IfOk, IsErrOf, IsTrue};
 ghost use Rattle.sx_base.specs.Outside.{Rose};
+ghost use Rattle.sx_input.specs.Found.{ConcludesAs, Found};
+ghost use Rattle.sx_input.specs.Stream.{UnlessReadFault};
 ghost use Rattle.sx_layout.specs.Outcomes.{AreOutcomes};
 ghost use Rattle.sx_layout.specs.Scripts.{IsScript};
 ghost use Rattle.sx_ledger.specs.Ledger.{IsLedger};
-ghost use Rattle.sx_run.specs.Answers.{ConcludesAs, Found};
-ghost use Rattle.sx_run.specs.Findings.{as_invalid};
-ghost use Rattle.sx_run.specs.Items.{item_record};
-ghost use Rattle.sx_run.specs.Items as item;
-ghost use Rattle.sx_run.specs.Stream.{UnlessReadFault};
+ghost use Rattle.sx_meaning.specs.Findings.{as_invalid};
+ghost use Rattle.sx_meaning.specs.Items.{item_record};
+ghost use Rattle.sx_meaning.specs.Items as item;
 ghost use Rattle.sx_tx.specs.Transactions.{IsTxList};
 
-use crate::stop::Stop;
-use crate::stream::{end, take};
 use std::alloc::Global;
 use sx_base::Source;
 use sx_bytes::{NoMemory, Writer};
 use sx_check::Invalid;
+use sx_input::{Stop, end, take};
 use sx_layout::{
     NoRoom, Outcomes, Script, outcome_list_laws, room, run_laws, run_script, write_outcomes,
 };

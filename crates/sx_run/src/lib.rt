@@ -24,30 +24,25 @@
 //! circulations it takes, that two ledgers of one digest are the same, and what a source gave or a sink
 //! received that tells nothing of its bytes.
 //!
-//! The way of the data: `payloads` (what a payload holds), `stream` (bytes to what records hold, each in
-//! its place), `opening` (a state with its digest), `head` (a block on a ledger), `making` (a block of
-//! candidates), `sealing`, `checking`, `replaying`, `interleaving`, `migrating`, `showing` and
-//! `demonstrating` (the commands), `output` (what a command writes), `running` (what a command found to what
-//! is written and to a status). Texts and statuses are those of `sx_text`.
+//! The way of the data: `sx_input` (bytes to what records hold), `advancing` (a block on a ledger), `making` (a
+//! block of candidates), `sealing`, `checking`, `replaying`, `interleaving`, `migrating`, `showing` and
+//! `demonstrating` (the commands), `output` (what a command writes), `running` (what a command found to what is
+//! written and to a status). What is found of an input is defined in `sx_meaning`, and texts and statuses are
+//! those of `sx_text`.
 #![tactic(auto)]
 
+mod advancing;
 mod checking;
 mod demonstrating;
-mod head;
 mod interleaving;
-mod laws;
 mod making;
 mod migrating;
-mod opening;
 mod output;
-mod payloads;
 mod replaying;
 mod running;
 mod sealing;
 mod showing;
-mod stop;
-mod stream;
 
-pub use laws::{chain_laws, input_laws};
 pub use running::run;
+pub use sx_meaning::{chain_laws, input_laws};
 pub use sx_text::{Status, Text, status_line};

@@ -7,7 +7,8 @@ ghost use Rattle.sx_layout.specs.Gathering.{IsGathered};
 ghost use Rattle.sx_layout.specs.Room.{room_for};
 ghost use Rattle.sx_ledger.specs.Body.{IsAdmissible};
 ghost use Rattle.sx_ledger.specs.Ledger.{IsLedger, most_height};
-ghost use Rattle.sx_run.specs.Sealing.{AreNumbers, IsClearedFor, IsMadeOf};
+ghost use Rattle.sx_meaning.specs.Sealing.{IsClearedFor, IsMadeOf};
+ghost use Rattle.sx_run.specs.Making.{AreNumbers};
 ghost use Rattle.sx_tx.specs.Transactions.{most_transactions};
 
 use std::alloc::Global;

@@ -2,16 +2,14 @@
 
 ghost use Rattle.std.specs.Prelude.{◌≡◌, [], ◌∷◌, IsErrOf, IsTrue};
 ghost use Rattle.sx_base.specs.Outside.{Rose};
-ghost use Rattle.sx_run.specs.Answers.{ConcludesAs, Found};
-ghost use Rattle.sx_run.specs.Items as item;
-ghost use Rattle.sx_run.specs.Stream.{UnlessReadFault};
+ghost use Rattle.sx_input.specs.Found.{ConcludesAs, Found};
+ghost use Rattle.sx_input.specs.Stream.{UnlessReadFault};
+ghost use Rattle.sx_meaning.specs.Items as item;
 
-use crate::head::written;
-use crate::stop::Stop;
-use crate::stream::{end, take};
 use std::alloc::Global;
 use sx_base::Source;
 use sx_bytes::Writer;
+use sx_input::{Stop, end, take, written};
 use sx_ledger::Ledger;
 use sx_words::Command;
 

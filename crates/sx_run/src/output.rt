@@ -3,8 +3,8 @@
 ghost use Rattle.std.specs.Prelude.{◌≡◌};
 ghost use Rattle.sx_run.specs.Running.{as_bytes, bytes_of};
 
-use crate::stop::Stop;
 use sx_bytes::Writer;
+use sx_input::Stop;
 use sx_text::Text as Lines;
 
 // What a command writes.

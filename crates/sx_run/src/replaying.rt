@@ -3,22 +3,19 @@
 
 ghost use Rattle.std.specs.Prelude.{◌≡◌, ◌+◌, ◌^◌, ◌≤◌, ℕ, length, IfOk, IsErrOf, IsTrue};
 ghost use Rattle.sx_base.specs.Outside.{Rose};
+ghost use Rattle.sx_input.specs.Found.{Found};
+ghost use Rattle.sx_input.specs.Stream.{UnlessReadFault};
+ghost use Rattle.sx_meaning.specs.Replays.{tags_after};
 ghost use Rattle.sx_record.specs.Tags.{block_tag, outcomes_tag};
-ghost use Rattle.sx_run.specs.Answers.{Found};
 ghost use Rattle.sx_run.specs.Replaying.{IsNext, MayGoOn, Steps};
-ghost use Rattle.sx_run.specs.Replays.{tags_after};
-ghost use Rattle.sx_run.specs.Stream.{UnlessReadFault};
 
-use crate::head::{Head, advance};
-use crate::opening::take_head;
-use crate::payloads::{Incoming, decoded};
-use crate::stop::Stop;
-use crate::stream::{end_of, next};
+use crate::advancing::advance;
 use std::alloc::Global;
 use std::thread::Threads;
 use sx_base::Source;
 use sx_bytes::{Form, FormFault, Writer};
 use sx_check::CheckFault;
+use sx_input::{Head, Incoming, Stop, decoded, end_of, next, take_head};
 use sx_layout::Outcomes;
 use sx_record::{Record, tag};
 use sx_words::Command;

@@ -3,30 +3,31 @@
 ghost use Rattle.std.specs.Prelude.{◌≡◌, ◌+◌, ◌≤◌, IfSome, IsErrOf, IsTrue};
 ghost use Rattle.sx_base.specs.Outside.{Rose};
 ghost use Rattle.sx_clear.specs.Searches.{most_clearing_searches};
-ghost use Rattle.sx_run.specs.Answers.{Answers, Completes, FitsWords, Found, IsRead, asked, reads_nothing, takes_no_input};
-ghost use Rattle.sx_run.specs.Running.{Tells, as_bytes};
-ghost use Rattle.sx_run.specs.SealLaws.{DemosAlike, DemosSettle, SealsAlike, SealsLeaveTheirMeaning};
-ghost use Rattle.sx_run.specs.Sealing.{AreNumbers, seal_of};
-ghost use Rattle.sx_run.specs.Settling.{ReplaysSettle, ValidSettles};
-ghost use Rattle.sx_run.specs.Status.{UnlessReadFails, UnlessWriteFails, is_silent};
-ghost use Rattle.sx_run.specs.Stream.{UnlessReadFault};
+ghost use Rattle.sx_input.specs.Found.{Found};
+ghost use Rattle.sx_input.specs.Stream.{UnlessReadFault};
+ghost use Rattle.sx_meaning.specs.Answers.{Answers, Completes, FitsWords, IsRead, asked, reads_nothing, takes_no_input};
+ghost use Rattle.sx_meaning.specs.SealLaws.{DemosAlike, DemosSettle, SealsAlike, SealsLeaveTheirMeaning};
+ghost use Rattle.sx_meaning.specs.Settling.{ReplaysSettle, ValidSettles};
+ghost use Rattle.sx_meaning.specs.Status.{UnlessReadFails, UnlessWriteFails, is_silent};
+ghost use Rattle.sx_run.specs.Making.{AreNumbers, seal_of};
+ghost use Rattle.sx_run.specs.Running.{Tells, as_bytes, status_at};
 ghost use Rattle.sx_words.specs.Commands.{InRange};
 
 use crate::checking::check;
 use crate::demonstrating::demonstrate;
 use crate::interleaving::interleave;
-use crate::laws::{chain_laws, input_laws};
 use crate::making::Numbers;
 use crate::migrating::migrate;
 use crate::output::{Output, recorded, told};
 use crate::replaying::replay;
 use crate::sealing::seal;
 use crate::showing::show;
-use crate::stop::{Stop, status_of};
 use std::alloc::Global;
 use std::sync::ledger::Ledger;
 use std::thread::Threads;
 use sx_base::{Sink, Source, put_all};
+use sx_input::Stop;
+use sx_meaning::{chain_laws, input_laws};
 use sx_net::Steps;
 use sx_price::Mu;
 use sx_text::Status;
@@ -85,6 +86,18 @@ fn output_of<R: Threads + Sync, S: Source, G: Gate + Sync, L: Ledger>(
             let numbers = numbers_of(workers, shards, mu, rounds);
             recorded(seal(rt, alloc, numbers, source, gate, steps))
         }
+    }
+}
+
+// The answer of a command that stopped.
+fn status_of(stop: Stop) -> Status
+    ensures { result ≡ status_at stop }
+{
+    match stop {
+        Stop::NoMemory => Status::NoMemory,
+        Stop::ReadFault => Status::ReadFault,
+        Stop::Malformed(fault) => Status::Malformed(fault),
+        Stop::Refused { block, why } => Status::Refused { block, why },
     }
 }
 

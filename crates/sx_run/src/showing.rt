@@ -2,22 +2,20 @@
 
 ghost use Rattle.std.specs.Prelude.{◌≡◌, ◌+◌, ◌^◌, ◌≤◌, [], ◌∷◌, Some, false, Contains, length, IfErr, IfOk, IsErrOf, IsTrue};
 ghost use Rattle.sx_base.specs.Outside.{Rose};
+ghost use Rattle.sx_input.specs.Found.{ConcludesAs, Found};
+ghost use Rattle.sx_input.specs.Stream.{Holds, Reads, Stops, UnlessReadFault};
+ghost use Rattle.sx_meaning.specs.Expected.{item_at, record_of};
+ghost use Rattle.sx_meaning.specs.Findings.{all_tags};
+ghost use Rattle.sx_meaning.specs.Items.{IsItem, payload_at, payload_of, tag_of};
 ghost use Rattle.sx_record.specs.Frame.{MayStand, most_bytes, record_bytes};
 ghost use Rattle.sx_record.specs.Stream.{Took};
 ghost use Rattle.sx_record.specs.Decoding.{record_at};
-ghost use Rattle.sx_run.specs.Answers.{ConcludesAs, Found};
-ghost use Rattle.sx_run.specs.Expected.{item_at, record_of};
-ghost use Rattle.sx_run.specs.Findings.{all_tags};
-ghost use Rattle.sx_run.specs.Items.{IsItem, payload_at, payload_of, tag_of};
 ghost use Rattle.sx_run.specs.Showing.{item_of};
-ghost use Rattle.sx_run.specs.Stream.{Holds, Reads, Stops, UnlessReadFault};
 
-use crate::payloads::decoded;
-use crate::stop::Stop;
-use crate::stream::{end, end_of, next, stop_at};
 use std::alloc::Global;
 use sx_base::Source;
 use sx_bytes::Form;
+use sx_input::{Stop, decoded, end, end_of, next, stop_at};
 use sx_record::{Record, tag};
 use sx_text::{Shown, Text};
 use sx_words::Command;

@@ -1,9 +1,10 @@
 use Rattle.std.proofs.Common.{[], ◌∷◌, List, Option, ℕ, refl}
 use Rattle.std.proofs.lemmas.Result.{err_from_is_err_and}
-use Rattle.sx_run.specs.Items.{Item, block, state}
-use Rattle.sx_run.proofs.Readings.{concludes, has_state, needed_listed, nothing_read, one_more, stops}
-use Rattle.sx_run.proofs.checking.check.Goals as goal
+use Rattle.sx_input.proofs.Readings.{concludes, has_state, nothing_read, one_more, stops}
+use Rattle.sx_meaning.specs.Items.{Item, block, state}
+use Rattle.sx_meaning.proofs.ItemLists.{needed_listed}
 use Rattle.sx_record.specs.Tags.{block_tag}
+use Rattle.sx_run.proofs.checking.check.Goals as goal
 use Rattle.sx_words.specs.declared.command.Command.TheVariants.{Check}
 
 pub returns-in_err-opening-clause-found : goal.returns-in_err-opening-clause-found

@@ -6,8 +6,8 @@ use Rattle.sx_gather.specs.Start.{fault_of}
 use Rattle.sx_layout.specs.declared.space.NoRoom.{NoRoom}
 use Rattle.sx_layout.specs.Room.{room_for}
 use Rattle.sx_ledger.specs.declared.parts.Parts.{Parts}
-use Rattle.sx_tx.specs.declared.tx.Tx.{Tx}
 use Rattle.sx_run.proofs.making.gathered.Goals as goal
+use Rattle.sx_tx.specs.declared.tx.Tx.{Tx}
 
 -- what was gathered had room
 room_there : (room : Result (Unit {0}) NoRoom) (s : Result Sealed GatherFault)

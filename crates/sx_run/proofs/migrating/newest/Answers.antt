@@ -1,6 +1,6 @@
 use Rattle.std.proofs.Common.{ℕ, List, refl, ap, ◌∙◌}
 use Rattle.sx_ledger.specs.declared.parts.Parts.{Parts}
-use Rattle.sx_run.specs.Items.{state_record}
+use Rattle.sx_meaning.specs.Items.{state_record}
 use Rattle.sx_run.proofs.migrating.newest.Goals as goal
 
 pub returns-clause-concludes : goal.returns-clause-concludes

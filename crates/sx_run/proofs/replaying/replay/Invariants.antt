@@ -1,7 +1,7 @@
 use Rattle.std.proofs.Common.{◌≡◌, ◌+◌, ◌-◌, ◌*◌, ◌≤◌, cond}
 use Rattle.std.specs.Prelude.{IsTrue}
+use Rattle.sx_meaning.specs.Replays.{most_blocks}
 use Rattle.sx_run.specs.Replaying.{HasReplayed}
-use Rattle.sx_run.specs.Replays.{most_blocks}
 use Rattle.sx_run.proofs.replaying.replay.Given as goal
 
 -- how many records may still come

@@ -1,6 +1,6 @@
 use Rattle.std.proofs.Common.{ℕ, List, Option, Result, sym, subst}
-use Rattle.sx_run.specs.declared.stop.Stop.{Stop}
-use Rattle.sx_run.specs.Answers.{Found}
+use Rattle.sx_input.specs.declared.stop.Stop.{Stop}
+use Rattle.sx_input.specs.Found.{Found}
 use Rattle.sx_run.proofs.running.output_of.Goals as goal
 use Rattle.sx_words.specs.declared.command.Command.TheVariants.{Demo, Replay}
 

@@ -1,4 +1,4 @@
-use Rattle.sx_run.proofs.Gathered.{gathered_form}
+use Rattle.sx_meaning.proofs.Gathered.{gathered_form}
 use Rattle.sx_run.proofs.sealing.made.Goals as goal
 
 pub returns-in-Ok-clause-told : goal.returns-in-Ok-clause-told

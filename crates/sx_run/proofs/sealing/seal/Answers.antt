@@ -1,9 +1,10 @@
 use Rattle.std.proofs.Common.{[], ◌∷◌, List, Option, ℕ, refl}
 use Rattle.std.proofs.lemmas.Result.{err_from_is_err_and}
+use Rattle.sx_input.proofs.Readings.{concludes, from_zero, has_state, nothing_read, one_more, stops}
+use Rattle.sx_meaning.specs.Items.{Item, candidates, state}
+use Rattle.sx_meaning.proofs.ItemLists.{needed_listed}
 use Rattle.sx_record.specs.Tags.{candidates_tag}
-use Rattle.sx_run.specs.Items.{Item, candidates, state}
-use Rattle.sx_run.specs.Sealing.{seal_of}
-use Rattle.sx_run.proofs.Readings.{concludes, from_zero, has_state, needed_listed, nothing_read, one_more, stops}
+use Rattle.sx_run.specs.Making.{seal_of}
 use Rattle.sx_run.proofs.sealing.seal.Goals as goal
 
 pub returns-in_err-candidates-clause-found : goal.returns-in_err-candidates-clause-found

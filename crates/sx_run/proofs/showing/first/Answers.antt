@@ -1,7 +1,7 @@
 use Rattle.std.proofs.Common.{false}
 use Rattle.std.proofs.lemmas.Result.{err_from_is_err_and}
-use Rattle.sx_run.specs.Findings.{all_tags}
-use Rattle.sx_run.proofs.Faults.{missing, no_record}
+use Rattle.sx_input.proofs.Faults.{missing, no_record}
+use Rattle.sx_meaning.specs.Findings.{all_tags}
 use Rattle.sx_run.proofs.showing.first.Goals as goal
 
 pub returns-in_err-found-clause-stops : goal.returns-in_err-found-clause-stops

@@ -1,0 +1,4 @@
+pub mod PayloadItems
+pub mod Faults
+pub mod TakenRecords
+pub mod Readings

@@ -1,0 +1,172 @@
+//! What the payloads of records hold, their faults told by the offset in the whole input.
+
+ghost use Rattle.std.specs.Prelude.{◌≡◌, ◌+◌, ◌^◌, ◌≤◌, ℕ, length, IfErr, IfOk};
+ghost use Rattle.sha2.specs.Sha256.{sha256};
+ghost use Rattle.sx_bytes.specs.Grammar.{Gives};
+ghost use Rattle.sx_input.specs.Stream.{Holds, IsInPayload, IsWithin, stop_of};
+ghost use Rattle.sx_meaning.specs.Items.{Item, IsItem, payload_at, payload_of, tag_of};
+ghost use Rattle.sx_meaning.specs.Items as item;
+ghost use Rattle.sx_record.specs.Frame.{most_bytes};
+ghost use Rattle.sx_record.specs.Tags.{block_tag, candidates_tag, outcomes_tag, script_tag, state_tag};
+ghost use Rattle.sx_tx.specs.Transactions.{list_bytes};
+
+use crate::stop::Stop;
+use std::alloc::Global;
+use sx_block::{Block, Digest, block_laws, digest_of, header_length, read_block};
+use sx_bytes::{FormFault, ReadError};
+use sx_layout::{Outcomes, Script, outcome_list_laws, read_outcomes, read_script, script_laws};
+use sx_ledger::{Ledger, read_state, state_laws};
+use sx_record::{Record, tag};
+use sx_tx::{TxList, list_laws, read_candidates};
+
+/// What the payload of a record may hold.
+pub trait Payload {
+    /// The tag of the record.
+    ghost TAG: { ℕ };
+
+    /// The item of the input that a value is.
+    ghost item: { Self → Item };
+
+    /// What is known of a value beside its item.
+    ghost goes_with: { Self → Type 0 };
+
+    const TAG: u8;
+
+    /// The value that a payload encodes.
+    fn read(alloc: Global, payload: &[u8]) -> Result<Self, ReadError>
+        ensures exact { Gives item result (payload_at TAG payload.now) }
+        ensures form { IfOk result (λ x. IsItem (item x)) }
+        ensures tag { IfOk result (λ x. tag_of (item x) ≡ TAG) }
+        ensures encoded { IfOk result (λ x. payload.now ≡ payload_of (item x)) }
+        ensures known { IfOk result goes_with }
+        ensures within { IfErr result (IsInPayload payload.now) };
+}
+
+impl Payload for Ledger {
+    ghost TAG = { state_tag };
+
+    ghost item = { λ ledger. item.state ledger };
+
+    ghost goes_with = { λ _. Unit {0} };
+
+    const TAG: u8 = tag::STATE;
+
+    fn read(alloc: Global, payload: &[u8]) -> Result<Ledger, ReadError> {
+        state_laws();
+        read_state(alloc, payload)
+    }
+}
+
+impl Payload for TxList {
+    ghost TAG = { candidates_tag };
+
+    ghost item = { λ txs. item.candidates txs };
+
+    ghost goes_with = { λ _. Unit {0} };
+
+    const TAG: u8 = tag::CANDIDATES;
+
+    fn read(alloc: Global, payload: &[u8]) -> Result<TxList, ReadError> {
+        list_laws();
+        read_candidates(alloc, payload)
+    }
+}
+
+impl Payload for Block {
+    ghost TAG = { block_tag };
+
+    ghost item = { λ said. item.block said };
+
+    ghost goes_with = { λ _. Unit {0} };
+
+    const TAG: u8 = tag::BLOCK;
+
+    fn read(alloc: Global, payload: &[u8]) -> Result<Block, ReadError> {
+        block_laws();
+        read_block(alloc, payload)
+    }
+}
+
+/// A block that was read, and the digest of its transactions.
+#[derive(Debug, Drop)]
+pub struct Incoming {
+    pub block: Block,
+    pub body: Digest,
+}
+
+impl Payload for Incoming {
+    ghost TAG = { block_tag };
+
+    ghost item = { λ incoming. item.block incoming.block };
+
+    ghost goes_with = { λ incoming. incoming.body ≡ sha256 (list_bytes incoming.block.txs) };
+
+    const TAG: u8 = tag::BLOCK;
+
+    fn read(alloc: Global, payload: &[u8]) -> Result<Incoming, ReadError> {
+        block_laws();
+        let block = read_block(alloc, payload)?;
+        let body = digest_of(&payload[header_length(&block)..]);
+        Ok(Incoming { block, body })
+    }
+}
+
+impl Payload for Outcomes {
+    ghost TAG = { outcomes_tag };
+
+    ghost item = { λ told. item.outcomes told };
+
+    ghost goes_with = { λ _. Unit {0} };
+
+    const TAG: u8 = tag::OUTCOMES;
+
+    fn read(alloc: Global, payload: &[u8]) -> Result<Outcomes, ReadError> {
+        outcome_list_laws();
+        read_outcomes(alloc, payload)
+    }
+}
+
+impl Payload for Script {
+    ghost TAG = { script_tag };
+
+    ghost item = { λ script. item.script script };
+
+    ghost goes_with = { λ _. Unit {0} };
+
+    const TAG: u8 = tag::SCRIPT;
+
+    fn read(alloc: Global, payload: &[u8]) -> Result<Script, ReadError> {
+        script_laws();
+        read_script(alloc, payload)
+    }
+}
+
+// A fault of a payload that begins at this offset.
+fn stop_in(at: u64, error: ReadError) -> Stop
+    requires { IsWithin at error }
+    ensures { result ≡ stop_of at error }
+{
+    match error {
+        ReadError::NoMemory => Stop::NoMemory,
+        ReadError::Form(fault) => Stop::Malformed(FormFault {
+            at: at + fault.at,
+            fault: fault.fault,
+        }),
+    }
+}
+
+/// What the payload of a record holds.
+pub fn decoded<P: Payload>(alloc: Global, found: &Record) -> Result<P, Stop>
+    requires place { found.now.at ≤ 2 ^ 63 + 5 }
+    requires fits { length found.now.payload ≤ most_bytes }
+    ensures exact { Holds P.item found.now.at (payload_at P.TAG found.now.payload) result }
+    ensures form { IfOk result (λ x. IsItem (P.item x)) }
+    ensures tag { IfOk result (λ x. tag_of (P.item x) ≡ P.TAG) }
+    ensures encoded { IfOk result (λ x. found.now.payload ≡ payload_of (P.item x)) }
+    ensures known { IfOk result P.goes_with }
+{
+    match P::read(alloc, found.payload.items()) {
+        Ok(x) => Ok(x),
+        Err(error) => Err(stop_in(found.at, error)),
+    }
+}

@@ -1,0 +1,55 @@
+-- How many workers and shards there are does not change what a seal or a demonstration may write.
+use Rattle.std.proofs.Common.{◌≡◌, ℕ, List, [], ◌∷◌, ◌++◌, sym, subst}
+use Rattle.sx_meaning.specs.Findings.{FindsAtEnd, MayComeAll, no_fault}
+use Rattle.sx_meaning.specs.Items.{Item}
+use Rattle.sx_meaning.specs.Outputs.{MayWrite, Writes}
+use Rattle.sx_meaning.specs.SealLaws.{DemosAlike, SealsAlike}
+use Rattle.sx_words.specs.declared.command.Command.TheVariants.{Demo, Seal}
+
+module _ (workers others shards more mu rounds : ℕ) where
+  may_come : (before items : List Item) → MayComeAll (Seal workers shards mu rounds) before items
+      → MayComeAll (Seal others more mu rounds) before items
+  may_come before [] each = tt
+  may_come before (next ∷ items) each = (
+    record { listed = each.0.listed; form = each.0.form; goes_on = tt },
+    may_come (before ++ next ∷ []) items each.1,
+  )
+
+pub seals_alike : SealsAlike
+seals_alike workers others shards more mu rounds bytes text left x =
+    let found = x.found in
+    let end : FindsAtEnd (Seal workers shards mu rounds) found.items found.rest no_fault left = found.finds in
+    let c = end.concludes in
+    let wrote = subst (λ (l : List Item). Writes (Seal workers shards mu rounds) l text) c.are x.writes in
+    record {
+      found = record {
+        items = found.items;
+        rest = found.rest;
+        each = may_come workers others shards more mu rounds [] found.items found.each;
+        read = found.read;
+        finds = record { done = end.done; may = end.may; concludes = c };
+      };
+      writes = subst (λ (l : List Item). Writes (Seal others more mu rounds) l text) (sym c.are) wrote;
+    }
+
+none_come : (number workers others : ℕ) (items : List Item) → MayComeAll (Demo number workers) [] items
+    → MayComeAll (Demo number others) [] items
+none_come number workers others [] each = tt
+none_come number workers others (one ∷ items) each = absurd each.0.listed
+
+pub demos_alike : DemosAlike
+demos_alike number workers others bytes text left x =
+    let found = x.found in
+    let end : FindsAtEnd (Demo number workers) found.items found.rest no_fault left = found.finds in
+    let c = end.concludes in
+    let wrote = subst (λ (l : List Item). Writes (Demo number workers) l text) c.are x.writes in
+    record {
+      found = record {
+        items = found.items;
+        rest = found.rest;
+        each = none_come number workers others found.items found.each;
+        read = found.read;
+        finds = record { done = end.done; may = end.may; concludes = c };
+      };
+      writes = subst (λ (l : List Item). Writes (Demo number others) l text) (sym c.are) wrote;
+    }

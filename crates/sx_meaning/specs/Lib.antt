@@ -1,0 +1,12 @@
+pub mod Items
+pub mod Expected
+pub mod Replays
+pub mod NextItem
+pub mod Findings
+pub mod Sealing
+pub mod Outputs
+pub mod Answers
+pub mod Status
+pub mod Laws
+pub mod Settling
+pub mod SealLaws

@@ -1,8 +1,0 @@
-use Rattle.sx_run.proofs.PayloadItems.{inside_where_wrong}
-use Rattle.sx_run.proofs.payloads.ScriptPayload.read.Goals as goal
-use Rattle.sx_layout.specs.ScriptDecoding.{script_at}
-
-pub returns-clause-within : goal.returns-clause-within
-returns-clause-within c =
-    inside_where_wrong c.args.payload.now script_at c.read_script.result c.script_laws.ensures.payload_within
-    c.read_script.ensures.exact

@@ -1,0 +1,60 @@
+//! A block on a ledger: it is judged, and then applied.
+
+ghost use Rattle.std.specs.Prelude.{◌≡◌, IfErr, IfOk};
+ghost use Rattle.sha2.specs.Sha256.{sha256};
+ghost use Rattle.sx_block.specs.Block.{IsBlock};
+ghost use Rattle.sx_block.specs.Validity.{IsValid, ledger_after};
+ghost use Rattle.sx_check.specs.Checked.{checked_of};
+ghost use Rattle.sx_check.specs.Refusals.{Explains};
+ghost use Rattle.sx_input.specs.Head.{IsHead};
+ghost use Rattle.sx_tx.specs.Transactions.{list_bytes};
+
+use std::alloc::Global;
+use sx_apply::apply;
+use sx_block::{digest_of, validity_laws};
+use sx_check::{CheckFault, Checked, Judged, check_laws, close, judge};
+use sx_input::{Head, Incoming, written};
+
+// Where the chain stands after a block, and what is told of the block.
+#[derive(Debug, Drop)]
+pub struct Advanced {
+    pub head: Head,
+    pub checked: Checked,
+}
+
+// Judges the next block, and applies it.
+pub fn advance(alloc: Global, head: Head, incoming: &Incoming) -> Result<Advanced, CheckFault>
+    requires head { IsHead head }
+    requires form { IsBlock incoming.now.block }
+    requires body { incoming.now.body ≡ sha256 (list_bytes incoming.now.block.txs) }
+    ensures valid { IfOk result (λ _. IsValid head.ledger incoming.now.block) }
+    ensures head { IfOk result (λ advanced. IsHead advanced.head) }
+    ensures after { IfOk result (λ advanced. advanced.head.ledger ≡ ledger_after head.ledger incoming.now.block) }
+    ensures checked { IfOk result (λ advanced. advanced.checked ≡ checked_of incoming.now.block) }
+    ensures refused { IfErr result (Explains head.ledger incoming.now.block) }
+{
+    validity_laws();
+    check_laws();
+    let Head {
+        ledger,
+        state,
+        digest,
+    } = head;
+    let Judged { checked, effects } = judge(
+        alloc,
+        &ledger,
+        &incoming.block,
+        &digest,
+        &incoming.body,
+    )?;
+    let ledger = apply(alloc, ledger, &incoming.block, effects)?;
+    let state = written(alloc, &ledger, state)?;
+    let digest = digest_of(state.bytes());
+    close(&incoming.block.header, &digest)?;
+    let head = Head {
+        ledger,
+        state: Some(state),
+        digest,
+    };
+    Ok(Advanced { head, checked })
+}
