@@ -6,7 +6,8 @@
 //! [`Gather::join`] puts two together whose ranges meet. [`Gather::submit`] decides the next candidate of
 //! a pass. [`Gather::seal`] takes the pass that has decided all, and answers the outcomes and the body of
 //! the accepted candidates. They are those of a gathering (`IsGathered` of `sx_layout`), whatever passes
-//! there were, on whatever threads, and in whatever order their steps were made.
+//! there were, on whatever threads, and in whatever order their steps were made. [`Gather::par_seal`] does
+//! the same, and sorts the body by several threads.
 //!
 //! # Words, seats and passes
 //!
@@ -53,15 +54,16 @@
 //! A submit makes two steps and a search for what the candidate names, and takes no memory; another try at
 //! a purse is made only where another thread took from it meanwhile. A split and a join take a step for each
 //! shard, and a join copies the outcomes of the other pass. The memory for outcomes is taken by the start
-//! and by splits. The seal goes over the outcomes once, and sorts the accepted candidates only where they
-//! are not in order.
+//! and by splits. A seal goes over the outcomes once, copies the accepted candidates into memory that it
+//! takes, and sorts them in place. `par_seal` starts threads for the sort, but none where the candidates come
+//! in the order of the body.
 //!
 //! Source: Ramseyer, Goel and Mazières, "SPEEDEX: A Scalable, Parallelizable, and Economically Efficient
 //! Decentralized EXchange" (NSDI 2023), for gathering by atomic words, of balances and of used numbers. That
 //! an opening balance bounds all debits, and the one order of steps for each candidate, are this project's
 //! own.
 //!
-//! Not here: the threads, and a choice of which of two candidates that exclude each other is accepted.
+//! Not here: the threads that decide, and a choice of which of two candidates that exclude each other is accepted.
 //! Nothing is said of fairness or of time.
 #![tactic(auto)]
 

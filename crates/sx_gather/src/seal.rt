@@ -1,19 +1,21 @@
 //! The end of a gathering.
 
-ghost use Rattle.std.specs.Prelude.{◌≡◌, ◌+◌, ◌<◌, ◌≤◌, vec_len, vec_capacity, [], ◌∷◌, ◌++◌, length, IfOk, OnOk, if◌then◌else◌};
+ghost use Rattle.std.specs.Prelude.{◌≡◌, ◌+◌, ◌<◌, ◌≤◌, vec_len, vec_capacity, [], ◌∷◌, ◌++◌, length, IfOk, if◌then◌else◌};
 ghost use Rattle.std.specs.Bool.{OnTrue};
 ghost use Rattle.std.specs.List.Sorted.{IsPermutation, IsSortedBy};
 ghost use Rattle.std.specs.Ordering.{is_lt};
 ghost use Rattle.sx_gather.specs.Passes.{AreSeats, IsPassOf};
-ghost use Rattle.sx_gather.specs.Seal.{HaveAll, HaveEnded};
+ghost use Rattle.sx_gather.specs.Seal.{HaveAll, HaveEnded, IsBodyOnceSorted};
 ghost use Rattle.sx_layout.specs.Gathering.{IsGathered, accepted as all_accepted, decisions, is_accepted as accepts};
 ghost use Rattle.sx_ledger.specs.Body.{tx_before};
 
 use crate::gather::Gather;
 use crate::pass::Pass;
 use crate::seat::PassSeat;
+use rayon::slice::par_sort_unstable_by;
 use std::alloc::Global;
 use std::cmp::Ordering;
+use std::thread::Threads;
 use sx_bytes::NoMemory;
 use sx_layout::{Outcome, Outcomes};
 use sx_shard::Shard;
@@ -99,40 +101,43 @@ fn are_sorted(txs: &[Tx]) -> bool
     true
 }
 
-// How two transactions stand in the order of a body.
+// How two transactions stand in the order of a body. Both numbers are always compared, since a sort is twice as
+// fast where nothing branches on the accounts.
 fn order(one: &Tx, other: &Tx) -> Ordering
     ensures { is_lt result ≡ tx_before one.now other.now }
 {
-    match one.account.0.cmp(&other.account.0) {
-        Ordering::Less => Ordering::Less,
-        Ordering::Equal => one.seq.get().cmp(&other.seq.get()),
-        Ordering::Greater => Ordering::Greater,
-    }
+    let by_account = one.account.0.cmp(&other.account.0);
+    by_account.then(one.seq.get().cmp(&other.seq.get()))
 }
 
-// Puts transactions into the order of a body, unless they are in it already.
-fn sort(txs: &mut Vec<Tx>) -> Result<(), NoMemory>
-    ensures moves { IsPermutation txs.old.items txs.new.items }
-    ensures sorted { OnOk result (IsSortedBy tx_before txs.new.items) }
+// Puts transactions into the order of a body.
+fn sort(txs: &mut [Tx])
+    ensures moves { IsPermutation txs.old txs.new }
+    ensures sorted { IsSortedBy tx_before txs.new }
+{
+    txs.sort_unstable_by(|one, other| order(one, other));
+}
+
+// The same by several threads, unless they are in this order already.
+fn par_sort<R: Threads + Sync>(rt: &R, txs: &mut [Tx])
+    ensures moves { IsPermutation txs.old txs.new }
+    ensures sorted { IsSortedBy tx_before txs.new }
 {
     if are_sorted(txs) {
-        return Ok(());
+        return;
     }
-    txs.sort_by(|one, other| order(one, other))?;
-    Ok(())
+    par_sort_unstable_by(rt, txs, |one: &Tx, other: &Tx| order(one, other));
 }
 
 impl<'a> Gather<'a> {
-    /// Ends the gathering, by the pass that has decided all candidates, and answers the body of the
-    /// accepted ones and the outcomes. They are those of a gathering, whatever passes there were and in
-    /// whatever order their steps were made. It may answer `NoMemory`.
-    pub fn seal(self, pass: Pass) -> Result<Sealed, NoMemory>
+    // Ends all shards. It answers the accepted candidates, in the order of the candidates, and the outcomes.
+    fn close(self, pass: Pass) -> Result<(Vec<Tx>, Outcomes), NoMemory>
         requires of { IsPassOf self pass }
         requires from { pass.from ≡ 0 }
         requires done { pass.next ≡ pass.end }
         requires all { pass.end ≡ length self.candidates }
-        ensures outcomes { IfOk result (λ sealed. sealed.outcomes ≡ pass.outcomes) }
-        ensures gathered { IfOk result (λ sealed. IsGathered self.entry.parts self.entry.candidates sealed.outcomes sealed.txs) }
+        ensures outcomes { IfOk result (λ closed. closed.1 ≡ pass.outcomes) }
+        ensures gathered { IfOk result (λ closed. IsBodyOnceSorted self.entry.parts self.entry.candidates closed.1 closed.0.items) }
     {
         let Gather {
             setting,
@@ -145,11 +150,44 @@ impl<'a> Gather<'a> {
             ..
         } = pass;
         finish(shards, seats);
-        let mut txs = accepted(alloc, setting.candidates(), &outcomes)?;
-        sort(&mut txs)?;
+        let txs = accepted(alloc, setting.candidates(), &outcomes)?;
+        Ok((txs, Outcomes::of(outcomes)))
+    }
+
+    /// Ends the gathering, by the pass that has decided all candidates, and answers the body of the
+    /// accepted ones and the outcomes. They are those of a gathering, whatever passes there were and in
+    /// whatever order their steps were made. It may answer `NoMemory`.
+    pub fn seal(self, pass: Pass) -> Result<Sealed, NoMemory>
+        requires of { IsPassOf self pass }
+        requires from { pass.from ≡ 0 }
+        requires done { pass.next ≡ pass.end }
+        requires all { pass.end ≡ length self.candidates }
+        ensures outcomes { IfOk result (λ sealed. sealed.outcomes ≡ pass.outcomes) }
+        ensures gathered { IfOk result (λ sealed. IsGathered self.entry.parts self.entry.candidates sealed.outcomes sealed.txs) }
+    {
+        let (mut txs, outcomes) = self.close(pass)?;
+        sort(&mut txs);
         Ok(Sealed {
             txs: TxList::of(txs),
-            outcomes: Outcomes::of(outcomes),
+            outcomes,
+        })
+    }
+
+    /// The same, with the body sorted by several threads, up to two for each processor. It returns where
+    /// the threads that it joins return.
+    pub fn par_seal<R: Threads + Sync>(self, rt: &R, pass: Pass) -> Result<Sealed, NoMemory>
+        requires of { IsPassOf self pass }
+        requires from { pass.from ≡ 0 }
+        requires done { pass.next ≡ pass.end }
+        requires all { pass.end ≡ length self.candidates }
+        ensures outcomes { IfOk result (λ sealed. sealed.outcomes ≡ pass.outcomes) }
+        ensures gathered { IfOk result (λ sealed. IsGathered self.entry.parts self.entry.candidates sealed.outcomes sealed.txs) }
+    {
+        let (mut txs, outcomes) = self.close(pass)?;
+        par_sort(rt, &mut txs);
+        Ok(Sealed {
+            txs: TxList::of(txs),
+            outcomes,
         })
     }
 }

@@ -6,4 +6,4 @@ use Rattle.sx_gather.proofs.seal.sort.Goals as goal
 
 pub returns-clause-sorted : goal.returns-clause-sorted
 returns-clause-sorted c =
-    c.in_ok-sort_by.ensures.sorted tx_before tx_order (answers_always _ _ _ (λ f a r g called. search rules))
+    c.sort_unstable_by.ensures.sorted tx_before tx_order (answers_always _ _ _ (λ f a r g called. search rules))

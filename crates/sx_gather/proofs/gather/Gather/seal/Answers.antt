@@ -1,32 +1,16 @@
-use Rattle.std.proofs.Common.{◌≡◌, List, sym, subst, ap, ap₂, ◌∙◌}
+use Rattle.std.proofs.Common.{List, sym, subst, ◌∙◌, arith}
 use Rattle.std.specs.List.Sorted.{IsPermutation}
-use Rattle.sx_layout.specs.declared.outcome.Outcome.{Outcome}
-use Rattle.sx_layout.specs.Gathering.{IsGathered, accepted, decisions}
+use Rattle.std.proofs.lemmas.List.{with_items_is}
+use Rattle.sx_layout.specs.Gathering.{IsGathered}
 use Rattle.sx_tx.specs.declared.tx.Tx.{Tx}
-use Rattle.sx_gather.specs.Passes.{Gathering, Passing}
-use Rattle.sx_gather.specs.Seal.{HaveEnded}
-use Rattle.sx_gather.proofs.Sealing.{sealed}
 use Rattle.sx_gather.proofs.gather.Gather.seal.Goals as goal
 
 pub returns-clause-gathered : goal.returns-clause-gathered
 returns-clause-gathered c =
-    let g = c.args.self in
-    let pass = c.args.pass in
-    let txs = c.sort.new.txs.items in
-    let ended : HaveEnded g.shards pass.seats =
-    subst (λ (p : Passing). HaveEnded g.shards p.seats) c.pass.view_is
-    (subst (λ (h : Gathering). HaveEnded h.shards c.pass.inside.seats.items) c.self.view_is c.finish.ensures) in
-    let list : c.candidates.result.now ≡ g.candidates =
-    c.candidates.ensures ∙ ap (λ (h : Gathering). h.candidates) c.self.view_is in
-    let said : c.deref.result.now ≡ pass.outcomes =
-    c.deref.ensures.value ∙ ap (λ (p : Passing). p.outcomes) c.pass.view_is in
-    let all : c.in_ok-txs.txs.items ≡ accepted (decisions g.candidates pass.outcomes) =
-    c.in_ok-txs.ensures
-    ∙ ap₂ (λ (xs : List Tx) (os : List Outcome). accepted (decisions xs os)) list said in
-    let moves : IsPermutation (accepted (decisions g.candidates pass.outcomes)) txs =
-    subst (λ (xs : List Tx). IsPermutation xs txs) all c.in_ok-sort.ensures.moves in
-    subst (λ (os : List Outcome). IsGathered g.parts g.candidates os c.of.result)
-    (sym (c.of-2.ensures ∙ ap (λ (p : Passing). p.outcomes) c.pass.view_is))
-    (subst (IsGathered g.parts g.candidates pass.outcomes) (sym c.of.ensures)
-    (sealed g pass c.requires.of c.requires.from c.requires.done c.requires.all ended txs moves
-    c.in_ok-sort.ensures.sorted))
+    let txs = c.in_ok-txs.txs in
+    let body = c.sort.new.txs in
+    subst (IsGathered c.args.self.parts c.args.self.candidates c.in_ok-txs.outcomes)
+    (sym (c.of.ensures ∙ with_items_is txs body (omega (arith, c.sort.auto.txs, c.deref_mut.ensures.len))))
+    (c.in_ok-txs.ensures.gathered body
+    (subst (λ (list : List Tx). IsPermutation list body) c.deref_mut.ensures.value c.sort.ensures.moves)
+    c.sort.ensures.sorted)
