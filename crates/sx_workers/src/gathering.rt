@@ -41,7 +41,7 @@ fn join_all(gather: &Gather, n: u32, mut slots: Vec<Option<Pass>>) -> Pass
 ///
 /// With w the lesser of the number of workers and of candidates, and at least 1, worker k has the candidates
 /// from `count * k / w`, rounded down, up to where those of the next worker begin. The calling thread is one of
-/// the workers.
+/// the workers. Where there are several, threads sort the body too. The call returns where its threads return.
 ///
 /// `Ended` comes exactly at the greatest height, `2^63 - 1`, else `Crowded` for the accounts exactly where those
 /// that the candidates create would pass 65,536, else for the offers exactly where those that they make would
@@ -71,5 +71,10 @@ pub fn gather_all<R: Threads + Sync, G: Gate + Sync>(
     let mut slots = split_all(alloc, &gather, first, count, n)?;
     work_all(rt, &gather, gate, n, &mut slots);
     let whole = join_all(&gather, n, slots);
-    Ok(gather.seal(whole)?)
+    let sealed = if n == 1 {
+        gather.seal(whole)?
+    } else {
+        gather.par_seal(rt, whole)?
+    };
+    Ok(sealed)
 }
