@@ -23,6 +23,14 @@ full = record { assets = 2; values = 0 ∷ 5 ∷ 5 ∷ 0 ∷ [] }
 abbrev forced : BoundsTable
 forced = record { assets = 2; low = 0 ∷ 0 ∷ 5 ∷ 0 ∷ []; high = 0 ∷ 4 ∷ 5 ∷ 0 ∷ [] }
 
+-- as much is traded both ways as the second asset may be sold for
+abbrev short : FlowTable
+short = record { assets = 2; values = 0 ∷ 4 ∷ 4 ∷ 0 ∷ [] }
+
+-- the first asset must be sold for at least 3, so that all that trades is above its lower bound and below its upper one
+abbrev between_bounds : BoundsTable
+between_bounds = record { assets = 2; low = 0 ∷ 3 ∷ 0 ∷ 0 ∷ []; high = 0 ∷ 9 ∷ 5 ∷ 0 ∷ [] }
+
 -- ---- answers that do not fit
 
 -- by the places of one asset, and of three, each pair trades 5 here too
@@ -44,6 +52,12 @@ not_idle is =
     let tight = is.fits.tight 0 1 (omega arith) (omega arith) (λ same. omega (arith, same)) in
     let all : 0 ≡ 5 = tight.gaining (omega (arith, ints)) in omega (arith, all)
 
+-- without lower bounds it would fit potentials of 1 and 0
+not_below_a_bound : IsSolved forced (Best short (1 ∷ 0 ∷ [])) → ⊥
+not_below_a_bound is =
+    let in_bounds = is.fits.circulation.within 1 0 (omega arith) (omega arith) (λ same. omega (arith, same)) in
+    let less : 5 ≤ 4 = in_bounds.at_least in omega (arith, less)
+
 -- nothing must go into the first asset
 not_cut : IsSolved bounds (Cut (record { 0 = 1 })) → ⊥
 unfolding sum_below
@@ -64,6 +78,15 @@ within value most (suc zero) zero s b differ = record { at_least = omega arith; 
 within value most (suc zero) (suc zero) s b differ = absurd (differ refl)
 within value most (suc zero) (suc (suc buy)) s b differ = absurd (omega arith)
 within value most (suc (suc sell)) buy s b differ = absurd (omega arith)
+
+within_between : EachPair 2 (IsWithin (low_of between_bounds) (high_of between_bounds) (λ sell buy. 4))
+within_between zero zero s b differ = absurd (differ refl)
+within_between zero (suc zero) s b differ = record { at_least = omega arith; at_most = omega arith }
+within_between zero (suc (suc buy)) s b differ = absurd (omega arith)
+within_between (suc zero) zero s b differ = record { at_least = omega arith; at_most = omega arith }
+within_between (suc zero) (suc zero) s b differ = absurd (differ refl)
+within_between (suc zero) (suc (suc buy)) s b differ = absurd (omega arith)
+within_between (suc (suc sell)) buy s b differ = absurd (omega arith)
 
 balanced : (value asset : ℕ) → asset < 2 → IsBalanced 2 (λ sell buy. value) asset
 unfolding sum_below
@@ -87,3 +110,13 @@ too_much_is_none is =
 
 there_is_one : IsDecided bounds (Cut (record { 0 = 1 })) → ⊥
 there_is_one none = none (λ sell buy. 0) (circulates 0 (omega arith))
+
+-- without lower bounds it would be a greatest one
+below_a_bound_is_none : IsDecided forced (Best short (1 ∷ 0 ∷ [])) → ⊥
+below_a_bound_is_none is =
+    let in_bounds = is.circulation.within 1 0 (omega arith) (omega arith) (λ same. omega (arith, same)) in
+    let less : 5 ≤ 4 = in_bounds.at_least in omega (arith, less)
+
+-- there is none of the lower bounds alone, and none of the upper ones alone
+there_is_one_between : IsDecided between_bounds (Cut (record { 0 = 1 })) → ⊥
+there_is_one_between none = none (λ sell buy. 4) (record { within = within_between; balanced = balanced 4 })

@@ -14,6 +14,10 @@ two_assets = refl
 nothing_to_trade : most_searches 1 0 ≡ 18
 nothing_to_trade = refl
 
+-- 3 * 4 * 25
+three_digits : most_searches 2 3 ≡ 300
+three_digits = refl
+
 -- 33 * 104 * 4225, for the most assets and the greatest upper bound, 2 ^ 102
 most_assets : most_searches 32 103 ≡ 14500200
 most_assets = refl
