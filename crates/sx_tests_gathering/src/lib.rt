@@ -1,9 +1,11 @@
 //! Tests of gathering: events of the core, where words are, outcomes and scripts as bytes, shards and passes
-//! on threads, and workers.
+//! on threads, workers, and what a filter keeps.
 #![tactic(auto)]
 
 #[cfg(test)]
 mod events;
+#[cfg(test)]
+mod filter;
 #[cfg(test)]
 mod layout;
 #[cfg(test)]

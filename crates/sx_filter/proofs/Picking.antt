@@ -1,0 +1,33 @@
+-- The elements that pass a test, as a loop finds them.
+use Rattle.std.proofs.Common.{◌≡◌, ℕ, ◌+◌, ◌<◌, Bool, true, false, cond, List, [], ◌∷◌, ◌++◌, length, get_or, take}
+use Rattle.std.proofs.Common.{All, Ok, sym, ap, ◌∙◌, append-nil}
+use Rattle.std.specs.List.{filter}
+use Rattle.std.proofs.lemmas.List.Elements.{Contains-get_or, filter_more}
+use Rattle.sx_filter.specs.Kept.{passes, passing}
+use Rattle.sx_filter.proofs.Counts.{in_contains, in_filter}
+use Rattle.sx_filter.proofs.KeptLaws.{passes_is}
+use Rattle.sx_ledger.specs.declared.parts.Parts.{Parts}
+use Rattle.sx_ledger.specs.Static.{static_of}
+use Rattle.sx_tx.specs.declared.tx.Tx.{Tx}
+
+module _ {X : Type 0} (p : X → Bool) (xs : List X) (i : ℕ) (x : X) (lt : i < length xs) (is : x ≡ get_or xs i x) where
+  step : (b : Bool) → p x ≡ b → filter p (take (i + 1) xs) ≡ filter p (take i xs) ++ cond b (x ∷ []) []
+  step b e =
+      filter_more p xs i x lt
+      ∙ ap (λ (y : X). filter p (take i xs) ++ cond (p y) (y ∷ []) []) (sym is)
+      ∙ ap (λ (c : Bool). filter p (take i xs) ++ cond c (x ∷ []) []) e
+
+  pub picked : (found more : List X) → p x ≡ true → found ≡ filter p (take i xs) → more ≡ found ++ x ∷ []
+      → more ≡ filter p (take (i + 1) xs)
+  picked found more e done is_more =
+      is_more ∙ ap (λ (ys : List X). ys ++ x ∷ []) done ∙ sym (step true e)
+
+  pub passed_over : (found : List X) → p x ≡ false → found ≡ filter p (take i xs) → found ≡ filter p (take (i + 1) xs)
+  passed_over found e done = done ∙ sym (step false e ∙ append-nil (filter p (take i xs)))
+
+pub all_pass : (parts : Parts) (candidates : List Tx)
+    → All (λ tx. static_of parts tx ≡ Ok tt) (passing parts candidates)
+all_pass parts candidates k d lt =
+    let x = get_or (passing parts candidates) k d in
+    passes_is parts x (in_filter (passes parts) x candidates
+    (in_contains x (passing parts candidates) (Contains-get_or (passing parts candidates) k d lt))).1

@@ -1,0 +1,108 @@
+-- What the tally tells of a candidate is what the list of candidates tells.
+use Rattle.std.proofs.Common.{◌≡◌, ℕ, ◌+◌, Bool, false, cond, List, [], ◌∷◌, map, Option, Some, None, refl, sym, ap}
+use Rattle.std.proofs.Common.{◌∙◌, arith}
+use Rattle.std.specs.Prelude.{nat_le, nat_eq}
+use Rattle.std.specs.BTreeSet.{contains}
+use Rattle.std.specs.Cmp.{eq_by_cmp_equiv, nat_cmp_total}
+use Rattle.std.specs.Cmp.Lexicographic.{texts_ties}
+use Rattle.std.specs.List.{count_by, filter_map, cons_option}
+use Rattle.std.specs.Ordering.{is_eq, nat_cmp}
+use Rattle.sx_filter.specs.declared.tally.Tally.{Tally}
+use Rattle.sx_filter.specs.Alone.{is_twice}
+use Rattle.sx_filter.specs.Kept.{both, same_id, same_number, same_offer}
+use Rattle.sx_filter.specs.Tally.{IsTally, numbers, pair_cmp}
+use Rattle.sx_filter.proofs.Counts.{count_is, times}
+use Rattle.sx_filter.proofs.InOrder.{nat_same, number_same, number_total}
+use Rattle.sx_layout.proofs.Totals.{total_none}
+use Rattle.sx_ledger.specs.contracts.key.KeyOrd.TheImpl as derived
+use Rattle.sx_ledger.specs.declared.key.Key.{Key}
+use Rattle.sx_ledger.specs.declared.parts.Parts.{Parts}
+use Rattle.sx_ledger.specs.Body.{cancelled_by, created_by}
+use Rattle.sx_ledger.specs.Order.{numbers_of, same_key}
+use Rattle.sx_ledger.proofs.KeyOrder.{key_cmp_derived, key_cmp_total}
+use Rattle.sx_tx.specs.declared.tx.Tx.{Tx}
+
+times_map : {X Y : Type 0} (f : X → Y) (test : Y → Bool) (xs : List X)
+    → times test (map f xs) ≡ times (λ x. test (f x)) xs
+times_map f test [] = refl
+times_map f test (x ∷ xs) = ap (λ (n : ℕ). cond (test (f x)) 1 0 + n) (times_map f test xs)
+
+count_map : {X Y : Type 0} (f : X → Y) (test : Y → Bool) (xs : List X)
+    → count_by test (map f xs) ≡ count_by (λ x. test (f x)) xs
+count_map f test xs =
+    count_is test (map f xs) ∙ times_map f test xs ∙ sym (count_is (λ x. test (f x)) xs)
+
+-- ---- names
+
+module _ {N : Type 0} (same : N → N → Bool) (named : Tx → Option N) where
+  times_named : (k : N) (txs : List Tx)
+      → times (same k) (filter_map named txs) ≡ times (λ y. both same (Some k) (named y)) txs
+  times_named k [] = refl
+  times_named k (x ∷ xs) = by (named x) (times_named k xs)
+    where
+      by : (found : Option N) → times (same k) (filter_map named xs) ≡ times (λ y. both same (Some k) (named y)) xs
+          → times (same k) (cons_option found (filter_map named xs))
+          ≡ cond (both same (Some k) found) 1 0 + times (λ y. both same (Some k) (named y)) xs
+      by None later = omega (arith, later)
+      by (Some n) later = ap (λ (m : ℕ). cond (same k n) 1 0 + m) later
+
+  count_named : (k : N) (test : N → Bool) → ((n : N) → test n ≡ same k n) → (txs : List Tx)
+      → count_by test (filter_map named txs) ≡ count_by (λ y. both same (Some k) (named y)) txs
+  count_named k test alike txs =
+      (λ i. count_by (λ n. alike n i) (filter_map named txs)) ∙ count_is (same k) (filter_map named txs)
+      ∙ times_named k txs ∙ sym (count_is (λ y. both same (Some k) (named y)) txs)
+
+  -- one that is named
+  pub named_twice : (tx : Tx) (k : N) → named tx ≡ Some k → (test : N → Bool) → ((n : N) → test n ≡ same k n)
+      → (txs : List Tx) → is_twice test (filter_map named txs) ≡ is_twice (λ y. both same (named tx) (named y)) txs
+  named_twice tx k is test alike txs =
+      ap (nat_le 2) (count_named k test alike txs)
+      ∙ ap (λ (o : Option N). is_twice (λ y. both same o (named y)) txs) (sym is)
+
+  -- what names nothing excludes nothing
+  pub never_twice : (tx : Tx) → named tx ≡ None → (txs : List Tx)
+      → false ≡ is_twice (λ y. both same (named tx) (named y)) txs
+  never_twice tx is txs =
+      ap (nat_le 2) (sym (count_is (λ _. false) txs ∙ total_none txs))
+      ∙ ap (λ (o : Option N). is_twice (λ y. both same o (named y)) txs) (sym is)
+
+-- ---- each kind
+
+same_numbers : (tx y : Tx) → is_eq (pair_cmp (y.account.0, y.seq) (tx.account.0, tx.seq)) ≡ same_number tx y
+same_numbers tx y =
+    (eq_by_cmp_equiv number_total).symm (y.account.0, y.seq) (tx.account.0, tx.seq)
+    ∙ number_same tx.account.0 tx.seq y.account.0 y.seq
+
+same_keys : (key other : Key) → is_eq (derived.ghosts.cmp other key) ≡ same_key key other
+same_keys key other =
+    ap is_eq (key_cmp_derived other key) ∙ (eq_by_cmp_equiv key_cmp_total).symm other key
+    ∙ sym (texts_ties (numbers_of key) (numbers_of other))
+
+same_ids : (id other : ℕ) → is_eq (nat_cmp other id) ≡ nat_eq id other
+same_ids id other = (eq_by_cmp_equiv nat_cmp_total).symm other id ∙ nat_same id other
+
+module _ (parts : Parts) (txs : List Tx) (tally : Tally) (is : IsTally parts txs tally) (tx : Tx) where
+  pub number_taken : contains pair_cmp tally.numbers.again (tx.account.0, tx.seq) ≡ is_twice (same_number tx) txs
+  number_taken =
+      is.numbers.again (tx.account.0, tx.seq)
+      ∙ ap (nat_le 2) (count_map (λ t. (t.account.0, t.seq)) (λ k. is_eq (pair_cmp k (tx.account.0, tx.seq))) txs
+      ∙ (λ i. count_by (λ y. same_numbers tx y i) txs))
+
+  pub offer_taken : (key : Key) → cancelled_by tx tx.kind ≡ Some key
+      → contains derived.ghosts.cmp tally.offers.again key ≡ is_twice (same_offer tx) txs
+  offer_taken key named =
+      is.offers.again key
+      ∙ named_twice same_key (λ t. cancelled_by t t.kind) tx key named (λ k. is_eq (derived.ghosts.cmp k key))
+      (same_keys key) txs
+
+  pub no_offer : cancelled_by tx tx.kind ≡ None → false ≡ is_twice (same_offer tx) txs
+  no_offer nothing = never_twice same_key (λ t. cancelled_by t t.kind) tx nothing txs
+
+  pub id_taken : (id : ℕ) → created_by tx.kind ≡ Some id
+      → contains nat_cmp tally.ids.again id ≡ is_twice (same_id tx) txs
+  id_taken id named =
+      is.ids.again id
+      ∙ named_twice nat_eq (λ t. created_by t.kind) tx id named (λ k. is_eq (nat_cmp k id)) (same_ids id) txs
+
+  pub no_id : created_by tx.kind ≡ None → false ≡ is_twice (same_id tx) txs
+  no_id nothing = never_twice nat_eq (λ t. created_by t.kind) tx nothing txs

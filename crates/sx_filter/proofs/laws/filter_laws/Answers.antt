@@ -1,0 +1,15 @@
+use Rattle.sx_filter.proofs.Accepting.{kept_is_accepted}
+use Rattle.sx_filter.proofs.KeptLaws.{covers_all, kept_is_admissible, kept_permuted}
+use Rattle.sx_filter.proofs.laws.filter_laws.Goals as goal
+
+pub returns-clause-admissible : goal.returns-clause-admissible
+returns-clause-admissible c = kept_is_admissible
+
+pub returns-clause-permuted : goal.returns-clause-permuted
+returns-clause-permuted c = kept_permuted
+
+pub returns-clause-accepted : goal.returns-clause-accepted
+returns-clause-accepted c = kept_is_accepted
+
+pub returns-clause-covers_all : goal.returns-clause-covers_all
+returns-clause-covers_all c = covers_all

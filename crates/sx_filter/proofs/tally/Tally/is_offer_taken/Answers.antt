@@ -1,0 +1,10 @@
+use Rattle.std.proofs.Common.{sym, ◌∙◌}
+use Rattle.sx_filter.proofs.Taken.{offer_taken, no_offer}
+use Rattle.sx_filter.proofs.tally.Tally.is_offer_taken.Goals as goal
+
+pub returns-in-Some : goal.returns-in-Some
+returns-in-Some c = λ parts txs is.
+    c.is_again.ensures ∙ offer_taken parts txs c.args.self.now is c.args.tx.now c.in-Some.key (sym c.in-Some.ensures)
+
+pub returns-in-None : goal.returns-in-None
+returns-in-None c = λ parts txs is. no_offer parts txs c.args.self.now is c.args.tx.now (sym c.in-None.ensures)

@@ -1,0 +1,6 @@
+pub mod Kept
+pub mod Fault
+pub mod Laws
+pub mod Alone
+pub mod Verdicts
+pub mod Tally

@@ -1,0 +1,60 @@
+//! Why a filter does not answer a list.
+
+ghost use Rattle.std.specs.Prelude.{◌≡◌};
+ghost use Rattle.sx_filter.specs.declared.fault.FilterFault.TheVariants as filter_fault;
+ghost use Rattle.sx_filter.specs.Fault.{fault_of as the_fault};
+
+use std::alloc::{AllocError, AllocFailed};
+use sx_bytes::NoMemory;
+use sx_layout::NoRoom;
+use thiserror::Error;
+
+/// Why a filter does not answer a list.
+#[derive(Clone, Copy, Debug, PartialEq, Eq, Error)]
+pub enum FilterFault {
+    /// Memory ran out.
+    #[error("out of memory")]
+    NoMemory,
+    /// The ledger has the greatest height, `2^63 - 1`, so no block may follow.
+    #[error("no block may follow: the ledger has the greatest height")]
+    Ended,
+    /// The ledger has `have` accounts, or offers, and the candidates ask for `more`, but there may be
+    /// only `limit`: 65,536 accounts or 262,144 offers. The accounts count before the offers.
+    #[error("there are {have}, and no room for {more} more: the limit is {limit}")]
+    Crowded { have: u32, more: u32, limit: u32 },
+}
+
+impl From<NoRoom> for FilterFault {
+    ghost from_gives = { λ why fault. fault ≡ the_fault why };
+
+    fn from(why: NoRoom) -> FilterFault {
+        match why {
+            NoRoom::Ended => FilterFault::Ended,
+            NoRoom::Crowded { have, more, limit } => FilterFault::Crowded { have, more, limit },
+        }
+    }
+}
+
+impl From<NoMemory> for FilterFault {
+    ghost from_gives = { λ _ fault. fault ≡ filter_fault.NoMemory };
+
+    fn from(_error: NoMemory) -> FilterFault {
+        FilterFault::NoMemory
+    }
+}
+
+impl From<AllocError> for FilterFault {
+    ghost from_gives = { λ _ fault. fault ≡ filter_fault.NoMemory };
+
+    fn from(_error: AllocError) -> FilterFault {
+        FilterFault::NoMemory
+    }
+}
+
+impl<T: Drop> From<AllocFailed<T>> for FilterFault {
+    ghost from_gives = { λ _ fault. fault ≡ filter_fault.NoMemory };
+
+    fn from(_error: AllocFailed<T>) -> FilterFault {
+        FilterFault::NoMemory
+    }
+}

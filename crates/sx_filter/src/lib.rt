@@ -1,0 +1,46 @@
+//! Candidates chosen without any race.
+//!
+//! [`filter`] answers which of many candidates a block may hold together, where none of them has any luck or
+//! haste to thank. Where two exclude each other, both fall out:
+//!
+//! ```text
+//!     account 1 holds 100        pays 60, number 1     falls out: 120 is more than 100
+//!                                pays 60, number 2     falls out
+//!     account 2 holds 5          pays 5, number 1      kept
+//!                                creates 9, number 2   falls out
+//!     account 3 holds 0          creates 9, number 1   falls out
+//! ```
+//!
+//! A candidate is kept where the ledger passes it by itself and, among all candidates that pass, no other has
+//! its account and number, no other cancels its offer, no other creates its account, and the account holds
+//! of each asset at least as much as its candidates together debit. The last test takes in those of the account's
+//! candidates that fall out for another reason. `specs/Kept` says so over plain lists, and the answer is exactly that,
+//! sorted by account and then by number.
+//!
+//! So the answer is a function of the ledger and the candidates: it is the same for every number of
+//! workers. [`filter_laws`] says that the order of the candidates is of no account, that what is kept is
+//! the body of a block by the rule of version 1, and that a gathering of what is kept accepts all of it.
+//!
+//! Cost: for n candidates the ledger's test of each, which is shared among the workers, and then one
+//! thread's work of n log n, with entries in ordered sets and maps for each candidate that passes.
+//!
+//! Not here: what is kept is not the most that could be kept, since of two that exclude each other neither is.
+//! Nothing says that workers run at the same time.
+//!
+//! Source: to choose a block's transactions without any order among them is from Ramseyer, Goel and Mazières,
+//! "SPEEDEX: A Scalable, Parallelizable, and Economically Efficient Decentralized EXchange" (NSDI 2023). The
+//! tests and their bounds are this project's own.
+#![tactic(auto)]
+
+mod debited;
+mod fault;
+mod filtering;
+mod kinds;
+mod laws;
+mod passing;
+mod seen;
+mod tally;
+
+pub use fault::FilterFault;
+pub use filtering::filter;
+pub use laws::filter_laws;

@@ -1,0 +1,86 @@
+//! Which candidates pass the ledger's test.
+
+ghost use Rattle.std.specs.Prelude.{◌≡◌, ◌<◌, ◌≤◌, length, IfOk};
+ghost use Rattle.sx_filter.specs.Kept.{passing as passing_of};
+ghost use Rattle.sx_filter.specs.Verdicts.{AreVerdicts, IsVerdict};
+ghost use Rattle.sx_ledger.specs.declared.parts.Parts.{Parts as Ledgers};
+
+use std::alloc::Global;
+use std::thread::{Threads, for_each_mut};
+use sx_bytes::NoMemory;
+use sx_ledger::Ledger;
+use sx_tx::Tx;
+
+// Tests all candidates, each by itself, in so many threads.
+fn test_all<R: Threads + Sync>(
+    rt: &R,
+    ledger: &Ledger,
+    candidates: &[Tx],
+    workers: u32,
+    verdicts: &mut [bool],
+)
+    requires some { 1 ≤ workers }
+    requires one_each { length verdicts.old ≡ length candidates.now }
+    ensures one_each { length verdicts.new ≡ length candidates.now }
+    ensures verdicts { AreVerdicts ledger.now candidates.now verdicts.new }
+{
+    for_each_mut(
+        rt,
+        verdicts,
+        workers as usize,
+        &|place: usize, verdict: &mut bool|
+            requires { place < length candidates.now }
+            ensures { IsVerdict ledger.entry.now candidates.entry.now place verdict.exit.now }
+        {
+            *verdict = ledger.static_check(&candidates[place]).is_ok();
+        },
+    );
+}
+
+// Of each candidate whether it passes.
+fn verdicts_of<R: Threads + Sync>(
+    rt: &R,
+    alloc: Global,
+    ledger: &Ledger,
+    candidates: &[Tx],
+    workers: u32,
+) -> Result<Vec<bool>, NoMemory>
+    requires { 1 ≤ workers }
+    ensures one_each { IfOk result (λ verdicts. length verdicts.items ≡ length candidates.now) }
+    ensures verdicts { IfOk result (λ verdicts. AreVerdicts ledger.now candidates.now verdicts.items) }
+{
+    let mut verdicts = vec![in alloc; false; candidates.len()]?;
+    test_all(rt, ledger, candidates, workers, &mut verdicts);
+    Ok(verdicts)
+}
+
+// The candidates at the places that pass.
+fn passed(alloc: Global, candidates: &[Tx], verdicts: &[bool]) -> Result<Vec<Tx>, NoMemory>
+    requires { length verdicts.now ≡ length candidates.now }
+    ensures { (parts : Ledgers) → AreVerdicts parts candidates.now verdicts.now
+        → IfOk result (λ txs. txs.items ≡ passing_of parts candidates.now) }
+{
+    let mut txs = Vec::new(alloc);
+    for place in 0..candidates.len() {
+        let tx = candidates[place];
+        if verdicts[place] {
+            txs.push(tx)?;
+        }
+    }
+    Ok(txs)
+}
+
+// The candidates that pass, in their order. So many workers test them.
+pub(crate) fn passing<R: Threads + Sync>(
+    rt: &R,
+    alloc: Global,
+    ledger: &Ledger,
+    candidates: &[Tx],
+    workers: u32,
+) -> Result<Vec<Tx>, NoMemory>
+    requires { 1 ≤ workers }
+    ensures { IfOk result (λ txs. txs.items ≡ passing_of ledger.now candidates.now) }
+{
+    let verdicts = verdicts_of(rt, alloc, ledger, candidates, workers)?;
+    passed(alloc, candidates, &verdicts)
+}
