@@ -1,23 +1,35 @@
 -- Options, as words spell them.
 use Rattle.std.proofs.Common.{◌≡◌, ℕ, ◌+◌, ◌<◌, true, false, List, [], ◌∷◌, ◌++◌, length, Option, Some, None, arith}
-use Rattle.std.proofs.Common.{refl}
+use Rattle.std.proofs.Common.{refl, subst, zero, suc}
 use Rattle.std.proofs.Common.{ap, sym, ◌∙◌, Bor, Vec, get_or, drop, append_assoc, add-one}
+use Rattle.std.proofs.lemmas.List.{map-append}
 use Rattle.std.proofs.lemmas.List.Elements.{All-push}
 use Rattle.std.proofs.Math.Seq.{drop-cons}
 use Rattle.std.specs.Global.{Global}
 use Rattle.std.proofs.lemmas.Bool.Decides.{nat_tests}
 use Rattle.std.specs.List.{All, list_any, position_or_len}
-use Rattle.std.specs.Prelude.{IfNone, IfSome, MatchOption, String, string_bytes, option_and_then}
+use Rattle.std.specs.Prelude.{IfNone, IfSome, MatchOption, String, string_bytes, is_some, option_and_then, option_map}
 use Rattle.sx_words.specs.declared.options.Choice.{Choice}
+use Rattle.sx_words.specs.declared.options.Written.{Written}
 use Rattle.sx_words.specs.declared.setting.Setting.{Setting}
-use Rattle.sx_words.specs.Numbers.{Text, texts}
-use Rattle.sx_words.specs.Options.{◌>>=◌, Fits, Given, is_equals, parted_at_equals, and_more, given_in, choice_of}
-use Rattle.sx_words.specs.Options.{choices_of, read_options}
+use Rattle.sx_words.specs.Numbers.{Text, number_in, texts}
+use Rattle.sx_words.specs.Reading.{IsGiven, IsWritten, choice_in, choices_in, number_of, text_of}
+use Rattle.sx_words.specs.Settings.{least_of, most_of}
+use Rattle.sx_words.specs.declared.setting.Setting.TheVariants.{Workers, Shards, Mu, Rounds}
+use Rattle.sx_words.specs.contracts.setting.Setting.{the_type}
+use denote.Enum.Bare.{sameb}
+use Rattle.sx_words.specs.Options.{◌>>=◌, Given, is_equals, parted_at_equals, and_more, given_in, choice_of}
+use Rattle.sx_words.specs.Options.{choices_of, read_options, numbers_for, is_same}
 
 -- the number that was found, if one was
 abbrev pub numbers_in : Option ℕ → List ℕ
 numbers_in None = []
 numbers_in (Some number) = number ∷ []
+
+-- the number of an option, if it is given
+abbrev pub numbers_given : Setting → Option Text → List ℕ
+numbers_given setting None = []
+numbers_given setting (Some number) = numbers_in (number_of setting (Some number))
 
 -- the name that waits for its number, as words
 abbrev pub waiting : Option (Bor Text) → List Text
@@ -134,43 +146,123 @@ pub onto_none : (choices : List Choice) (o : Option Choice) (more : Option (List
     → onto choices (before o more) ≡ None
 onto_none choices o more is = rw is refl
 
-abbrev pub items_of : Vec Choice Global → List Choice
-items_of choices = choices.items
+abbrev pub items_of : Vec Written Global → List Written
+items_of given = given.items
 
--- what has been read of the words before the one at i: the choices, and the name that waits for its number
-pub record HasRead (settings : List Setting) (words : List (String Global)) (i : ℕ) (choices : List Choice)
+-- what has been read of the words before the one at i: the options, and the name that waits for its number
+pub record HasRead (settings : List Setting) (words : List (String Global)) (i : ℕ) (given : List Written)
     (name : Option (Bor Text)) : Type 0 where
   pub read : read_options settings (texts words)
-      ≡ onto choices (read_options settings (waiting name ++ texts (drop i words)))
-  pub range : All Fits choices
+      ≡ onto (choices_in given) (read_options settings (waiting name ++ texts (drop i words)))
+  pub range : All IsWritten given
   pub plain : IfSome name (λ n. list_any is_equals n.now ≡ false)
 
 -- one option more
-pub and_choice : (settings : List Setting) (words : List (String Global)) (i : ℕ) (choices more : List Choice)
-    (o after : Option (Bor Text)) (given : Given) (found : Option Choice) (choice : Choice)
-    → HasRead settings words i choices o
+pub and_choice : (settings : List Setting) (words : List (String Global)) (i : ℕ) (given more : List Written)
+    (o after : Option (Bor Text)) (next : Given) (found : Option Written) (one : Written)
+    → HasRead settings words i given o
     → read_options settings (waiting o ++ texts (drop i words))
-    ≡ before (choice_of settings given) (read_options settings (texts (drop (i + 1) words)))
-    → found ≡ choice_of settings given → found ≡ Some choice → IfSome found Fits
-    → more ≡ choices ++ choice ∷ [] → after ≡ None
+    ≡ before (choice_of settings next) (read_options settings (texts (drop (i + 1) words)))
+    → option_map choice_in found ≡ choice_of settings next → found ≡ Some one → IfSome found IsWritten
+    → more ≡ given ++ one ∷ [] → after ≡ None
     → HasRead settings words (i + 1) more after
-and_choice settings words i choices more o after given found choice has left is some fits grown none =
-    let fit = rw some at fits in
+and_choice settings words i given more o after next found one has left is some fits grown none =
+    let fit : IsWritten one = rw some at fits in
+    let chosen : choice_of settings next ≡ Some one.choice = sym is ∙ ap (option_map choice_in) some in
+    let same : choices_in more ≡ choices_in given ++ one.choice ∷ [] =
+    ap choices_in grown ∙ map-append choice_in given (one ∷ []) in
     record {
-      read = has.read ∙ ap (onto choices) left ∙ onto_more choices choice _ _ (sym is ∙ some) ∙ rw (grown, none) refl;
-      range = rw grown (All-push Fits choices choice has.range fit);
+      read = has.read ∙ ap (onto (choices_in given)) left
+          ∙ onto_more (choices_in given) one.choice _ _ chosen ∙ rw (same, none) refl;
+      range = rw grown (All-push IsWritten given one has.range fit);
       plain = rw none tt;
     }
 
 -- the name of an option more
-pub and_name : (settings : List Setting) (words : List (String Global)) (i : ℕ) (choices more : List Choice)
-    (o after : Option (Bor Text)) (name : Bor Text) → HasRead settings words i choices o
+pub and_name : (settings : List Setting) (words : List (String Global)) (i : ℕ) (given more : List Written)
+    (o after : Option (Bor Text)) (name : Bor Text) → HasRead settings words i given o
     → read_options settings (waiting o ++ texts (drop i words))
     ≡ read_options settings (waiting (Some name) ++ texts (drop (i + 1) words))
-    → list_any is_equals name.now ≡ false → more ≡ choices → after ≡ Some name
+    → list_any is_equals name.now ≡ false → more ≡ given → after ≡ Some name
     → HasRead settings words (i + 1) more after
-and_name settings words i choices more o after name has left plain same some = record {
-  read = has.read ∙ ap (onto choices) left ∙ rw (same, some) refl;
+and_name settings words i given more o after name has left plain same some = record {
+  read = has.read ∙ ap (onto (choices_in given)) left ∙ rw (same, some) refl;
   range = rw same has.range;
   plain = rw some plain;
+}
+
+-- ---- the word of an option
+
+pub same_is : (a b : Setting) → sameb the_type a b ≡ is_same a b
+same_is Workers Workers = refl
+same_is Workers Shards = refl
+same_is Workers Mu = refl
+same_is Workers Rounds = refl
+same_is Shards Workers = refl
+same_is Shards Shards = refl
+same_is Shards Mu = refl
+same_is Shards Rounds = refl
+same_is Mu Workers = refl
+same_is Mu Shards = refl
+same_is Mu Mu = refl
+same_is Mu Rounds = refl
+same_is Rounds Workers = refl
+same_is Rounds Shards = refl
+same_is Rounds Mu = refl
+same_is Rounds Rounds = refl
+
+same_then : (a b : Setting) → is_same a b ≡ true → a ≡ b
+same_then Workers Workers is = refl
+same_then Workers Shards is = absurd (cc)
+same_then Workers Mu is = absurd (cc)
+same_then Workers Rounds is = absurd (cc)
+same_then Shards Workers is = absurd (cc)
+same_then Shards Shards is = refl
+same_then Shards Mu is = absurd (cc)
+same_then Shards Rounds is = absurd (cc)
+same_then Mu Workers is = absurd (cc)
+same_then Mu Shards is = absurd (cc)
+same_then Mu Mu is = refl
+same_then Mu Rounds is = absurd (cc)
+same_then Rounds Workers is = absurd (cc)
+same_then Rounds Shards is = absurd (cc)
+same_then Rounds Mu is = absurd (cc)
+same_then Rounds Rounds is = refl
+
+drop_split : (xs : List Written) (i : ℕ) (d : Written) → i < length xs → drop i xs ≡ get_or xs i d ∷ drop (suc i) xs
+drop_split [] i d within = absurd (omega arith)
+drop_split (x ∷ xs) zero d within = refl
+drop_split (x ∷ xs) (suc i) d within = drop_split xs i d (omega arith)
+
+-- the numbers of an option before and at the place i, and those still to come
+pub record HasFound (setting : Setting) (given : List Written) (i : ℕ) (word : Option (Bor Text)) : Type 0 where
+  pub numbers : numbers_for setting (choices_in given)
+      ≡ numbers_given setting (text_of word) ++ numbers_for setting (choices_in (drop i given))
+  pub range : IsGiven setting (text_of word)
+
+pub found_one : (setting : Setting) (given : List Written) (i : ℕ) (d : Written) (before after : Option (Bor Text))
+    → i < length given → IsWritten (get_or given i d) → is_same (get_or given i d).choice.setting setting ≡ true
+    → is_some before ≡ false → after ≡ Some (get_or given i d).word → HasFound setting given i before
+    → HasFound setting given (i + 1) after
+found_one setting given i d (Some word) after within written same none some has = absurd (cc)
+found_one setting given i d None after within written same none some has =
+    let one = get_or given i d in
+    let spelled : number_in (least_of setting) (most_of setting) one.word.now ≡ Some one.choice.number =
+    subst (λ (s : Setting). number_in (least_of s) (most_of s) one.word.now ≡ Some one.choice.number)
+    (same_then one.choice.setting setting same) written in
+    record {
+      numbers = has.numbers ∙ ap (λ l. numbers_for setting (choices_in l)) (drop_split given i d within)
+          ∙ rw (same, some, spelled, add-one) refl;
+      range = rw some (one.choice.number, spelled);
+    }
+
+pub found_other : (setting : Setting) (given : List Written) (i : ℕ) (d : Written) (before after : Option (Bor Text))
+    → i < length given → is_same (get_or given i d).choice.setting setting ≡ false
+    → after ≡ before → HasFound setting given i before → HasFound setting given (i + 1) after
+found_other setting given i d before after within differs same has = record {
+  numbers = has.numbers
+      ∙ ap (λ l. numbers_given setting (text_of before) ++ numbers_for setting (choices_in l))
+      (drop_split given i d within)
+      ∙ rw (differs, same, add-one) refl;
+  range = rw same has.range;
 }

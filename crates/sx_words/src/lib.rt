@@ -16,6 +16,10 @@
 //! [`Setting`] has the ranges and the defaults. Everything else is [`WordsFault::Usage`], a wish for
 //! help or for the version too. [`word_laws`] ties reading and spelling.
 //!
+//! First the plain spelling is tested, which parts each option into its name and its number. What
+//! passes is handed to `clap`, as one command with seven subcommands, and the numbers are those that
+//! `clap` reads. It refuses nothing then, but for want of memory, and none of its texts is printed.
+//!
 //! Not here: short forms of an option, abbreviations, `--`, texts for the reader, and what a command
 //! does.
 #![tactic(auto)]
@@ -26,6 +30,8 @@ mod laws;
 mod number;
 mod options;
 mod parsing;
+mod program;
+mod reading;
 mod setting;
 
 pub use command::Command;

@@ -1,10 +1,10 @@
 //! The options after a command's name.
 
-ghost use Rattle.std.specs.Prelude.{◌≡◌, Some, None, true, false, IfNone, IfOk, IfSome, IsErrOf};
+ghost use Rattle.std.specs.Prelude.{◌≡◌, Some, None, true, false, IfNone, IfOk, IfSome, IsErrOf, option_map};
 ghost use Rattle.std.specs.List.{All, list_any};
-ghost use Rattle.sx_words.specs.Settings.{Takes};
 ghost use Rattle.sx_words.specs.Numbers.{texts};
-ghost use Rattle.sx_words.specs.Options.{Fits, choice_of, is_equals, named, number_for, parted_at_equals, read_options};
+ghost use Rattle.sx_words.specs.Options.{choice_of, is_equals, named, number_for, parted_at_equals, read_options};
+ghost use Rattle.sx_words.specs.Reading.{IsGiven, IsWritten, choice_in, choices_in, number_if, text_of};
 ghost use Rattle.sx_words.specs.declared.fault.WordsFault.TheVariants as words_fault;
 
 use crate::fault::WordsFault;
@@ -17,6 +17,13 @@ use std::alloc::Global;
 pub(crate) struct Choice {
     pub setting: Setting,
     pub number: u32,
+}
+
+// An option that was given, and the word of its number.
+#[derive(Clone, Copy)]
+pub(crate) struct Written<'a> {
+    pub choice: Choice,
+    pub word: &'a str,
 }
 
 // The option of this name, where it is one of these.
@@ -32,16 +39,16 @@ fn named(settings: &[Setting], name: &str) -> Option<Setting>
 }
 
 // An option of these, with the number that a word spells.
-fn chosen(settings: &[Setting], name: &str, word: &str) -> Option<Choice>
-    ensures value { result ≡ choice_of settings.now (record { name = name.now; number = word.now }) }
-    ensures range { IfSome result Fits }
+fn chosen<'a>(settings: &[Setting], name: &str, word: &'a str) -> Option<Written<'a>>
+    ensures value { option_map choice_in result
+        ≡ choice_of settings.now (record { name = name.now; number = word.now }) }
+    ensures range { IfSome result IsWritten }
 {
     let setting = named(settings, name)?;
     let number = number(word, setting.least() as u64, setting.most() as u64)?;
-    Some(Choice {
-        setting,
-        number: number as u32,
-    })
+    let number = number as u32;
+    let choice = Choice { setting, number };
+    Some(Written { choice, word })
 }
 
 // The name and the number of an option of one word.
@@ -53,52 +60,52 @@ fn parted(word: &str) -> Option<(&str, &str)>
     word.split_once('=')
 }
 
-// What words choose for a command that has these options.
-pub(crate) fn read_options(
+// The options that words give to a command that has these.
+pub(crate) fn read_options<'a>(
     alloc: Global,
     settings: &[Setting],
-    words: &[String],
-) -> Result<Vec<Choice>, WordsFault>
-    ensures ok { IfOk result (λ choices. read_options settings.now (texts words.now) ≡ Some choices.items) }
-    ensures range { IfOk result (λ choices. All Fits choices.items) }
+    words: &'a [String],
+) -> Result<Vec<Written<'a>>, WordsFault>
+    ensures ok { IfOk result (λ given. read_options settings.now (texts words.now) ≡ Some (choices_in given.items)) }
+    ensures range { IfOk result (λ given. All IsWritten given.items) }
     ensures usage { IsErrOf result words_fault.Usage → read_options settings.now (texts words.now) ≡ None }
 {
-    let mut choices = Vec::new(alloc);
+    let mut given = Vec::new(alloc);
     let mut name: Option<&str> = None;
     for word in words {
         match name {
             Some(before) => {
-                choices.push(chosen(settings, before, word.as_str()).ok_or(WordsFault::Usage)?)?;
+                given.push(chosen(settings, before, word.as_str()).ok_or(WordsFault::Usage)?)?;
                 name = None;
             }
             None => match parted(word.as_str()) {
-                Some((before, after)) => choices.push(chosen(settings, before, after).ok_or(
-                    WordsFault::Usage,
-                )?)?,
+                Some((before, after)) => {
+                    given.push(chosen(settings, before, after).ok_or(WordsFault::Usage)?)?
+                }
                 None => name = Some(word.as_str()),
             },
         }
     }
     match name {
         Some(_) => Err(WordsFault::Usage),
-        None => Ok(choices),
+        None => Ok(given),
     }
 }
 
-// The number of an option, if it was given at most once.
-pub(crate) fn number_for(choices: &[Choice], setting: Setting) -> Option<u32>
-    requires { All Fits choices.now }
-    ensures value { result ≡ number_for setting choices.now }
-    ensures range { IfSome result (Takes setting) }
+// The word of an option's number, or none where it is left out, if it was given at most once.
+pub(crate) fn word_for<'a>(given: &[Written<'a>], setting: Setting) -> Option<Option<&'a str>>
+    requires { All IsWritten given.now }
+    ensures value { number_for setting (choices_in given.now) ≡ number_if setting (option_map text_of result) }
+    ensures range { IfSome result (λ word. IsGiven setting (text_of word)) }
 {
-    let mut number = None;
-    for choice in choices {
-        if choice.setting == setting {
-            if number.is_some() {
+    let mut word = None;
+    for one in given {
+        if one.choice.setting == setting {
+            if word.is_some() {
                 return None;
             }
-            number = Some(choice.number);
+            word = Some(one.word);
         }
     }
-    Some(number.unwrap_or(setting.default()))
+    Some(word)
 }

@@ -1,17 +1,19 @@
 //! From words to a command.
 
-ghost use Rattle.std.specs.Prelude.{◌≡◌, ◌∷◌, None, Some, IfOk, IfSome, IsErrOf};
-ghost use Rattle.std.specs.List.{All};
+ghost use Rattle.std.specs.Prelude.{◌≡◌, ◌∷◌, None, Some, IfOk, IsErrOf, true};
+ghost use Rattle.clap.specs.Words.{takes};
 ghost use Rattle.sx_words.specs.Numbers.{texts};
-ghost use Rattle.sx_words.specs.Options.{Fits};
-ghost use Rattle.sx_words.specs.Commands.{Answers, InRange, command_of, nothing_more};
-ghost use Rattle.sx_words.specs.Commands.{demo_of, replay_of, seal_by, seal_of};
+ghost use Rattle.sx_words.specs.Commands.{Answers, InRange, command_of, demo_of, nothing_more, replay_of, seal_of};
+ghost use Rattle.sx_words.specs.Program.{program};
+ghost use Rattle.sx_words.specs.Reading.{IsGiven, IsSeed, begun, demo_from, replay_from, seal_from, text_of};
+ghost use Rattle.sx_words.specs.declared.setting.Setting.TheVariants.{Mu, Rounds, Shards, Workers};
 ghost use Rattle.sx_words.specs.declared.fault.WordsFault.TheVariants as words_fault;
 
 use crate::command::Command;
 use crate::fault::WordsFault;
 use crate::number::number;
-use crate::options::{Choice, number_for, read_options};
+use crate::options::{read_options, word_for};
+use crate::reading::{add, begin, number_of, option_of, read};
 use crate::setting::Setting;
 use std::alloc::Global;
 
@@ -26,58 +28,113 @@ const REPLAY: [Setting; 1] = [Setting::Workers];
 
 const DEMO: [Setting; 1] = [Setting::Workers];
 
-fn seal_by(choices: &[Choice]) -> Option<Command>
-    requires { All Fits choices.now }
-    ensures value { result ≡ seal_by choices.now }
-    ensures range { IfSome result InRange }
+// The seal that `clap` reads of the words of these numbers.
+fn seal_by<'a>(
+    alloc: Global,
+    workers: Option<&'a str>,
+    shards: Option<&'a str>,
+    mu: Option<&'a str>,
+    rounds: Option<&'a str>,
+) -> Result<Command, WordsFault>
+    requires workers { IsGiven Workers (text_of workers) }
+    requires shards { IsGiven Shards (text_of shards) }
+    requires mu { IsGiven Mu (text_of mu) }
+    requires rounds { IsGiven Rounds (text_of rounds) }
+    ensures { Answers (seal_from (text_of workers.entry) (text_of shards.entry) (text_of mu.entry)
+        (text_of rounds.entry)) result }
 {
-    let workers = number_for(choices, Setting::Workers)?;
-    let shards = number_for(choices, Setting::Shards)?;
-    let mu = number_for(choices, Setting::Mu)? as u8;
-    let rounds = number_for(choices, Setting::Rounds)?;
-    Some(Command::Seal {
-        workers,
-        shards,
-        mu,
-        rounds,
+    let mut words = begin(alloc, "seal")?;
+    add(&mut words, Setting::Workers, workers)?;
+    add(&mut words, Setting::Shards, shards)?;
+    add(&mut words, Setting::Mu, mu)?;
+    add(&mut words, Setting::Rounds, rounds)?;
+    let matches = read(alloc, &words)?;
+    Ok(Command::Seal {
+        workers: option_of(&matches, Setting::Workers, "workers"),
+        shards: option_of(&matches, Setting::Shards, "shards"),
+        mu: option_of(&matches, Setting::Mu, "mu") as u8,
+        rounds: option_of(&matches, Setting::Rounds, "rounds"),
     })
 }
 
 fn seal(alloc: Global, words: &[String]) -> Result<Command, WordsFault>
     ensures { Answers (seal_of (texts words.now)) result }
 {
-    let choices = read_options(alloc, &SEAL, words)?;
-    seal_by(&choices).ok_or(WordsFault::Usage)
+    let given = read_options(alloc, &SEAL, words)?;
+    let workers = word_for(&given, Setting::Workers).ok_or(WordsFault::Usage)?;
+    let shards = word_for(&given, Setting::Shards).ok_or(WordsFault::Usage)?;
+    let mu = word_for(&given, Setting::Mu).ok_or(WordsFault::Usage)?;
+    let rounds = word_for(&given, Setting::Rounds).ok_or(WordsFault::Usage)?;
+    seal_by(alloc, workers, shards, mu, rounds)
+}
+
+// The replay that `clap` reads.
+fn replay_by<'a>(alloc: Global, workers: Option<&'a str>) -> Result<Command, WordsFault>
+    requires { IsGiven Workers (text_of workers) }
+    ensures { Answers (replay_from (text_of workers.entry)) result }
+{
+    let mut words = begin(alloc, "replay")?;
+    add(&mut words, Setting::Workers, workers)?;
+    let matches = read(alloc, &words)?;
+    Ok(Command::Replay {
+        workers: option_of(&matches, Setting::Workers, "workers"),
+    })
 }
 
 fn replay(alloc: Global, words: &[String]) -> Result<Command, WordsFault>
     ensures { Answers (replay_of (texts words.now)) result }
 {
-    let choices = read_options(alloc, &REPLAY, words)?;
-    let workers = number_for(&choices, Setting::Workers).ok_or(WordsFault::Usage)?;
-    Ok(Command::Replay { workers })
+    let given = read_options(alloc, &REPLAY, words)?;
+    let workers = word_for(&given, Setting::Workers).ok_or(WordsFault::Usage)?;
+    replay_by(alloc, workers)
+}
+
+// The demonstration that `clap` reads.
+fn demo_by<'a>(
+    alloc: Global,
+    number: &'a str,
+    workers: Option<&'a str>,
+) -> Result<Command, WordsFault>
+    requires number { IsSeed number.now }
+    requires workers { IsGiven Workers (text_of workers) }
+    ensures { Answers (demo_from number.entry.now (text_of workers.entry)) result }
+{
+    let mut words = begin(alloc, "demo")?;
+    words.push(number)?;
+    add(&mut words, Setting::Workers, workers)?;
+    let matches = read(alloc, &words)?;
+    Ok(Command::Demo {
+        number: number_of(&matches, "number").unwrap(),
+        workers: option_of(&matches, Setting::Workers, "workers"),
+    })
 }
 
 fn demo(alloc: Global, words: &[String]) -> Result<Command, WordsFault>
     ensures { Answers (demo_of (texts words.now)) result }
 {
     let (word, options) = words.split_first().ok_or(WordsFault::Usage)?;
-    let number = number(word.as_str(), 0, u64::MAX).ok_or(WordsFault::Usage)?;
-    let choices = read_options(alloc, &DEMO, options)?;
-    let workers = number_for(&choices, Setting::Workers).ok_or(WordsFault::Usage)?;
-    Ok(Command::Demo { number, workers })
+    number(word.as_str(), 0, u64::MAX).ok_or(WordsFault::Usage)?;
+    let given = read_options(alloc, &DEMO, options)?;
+    let workers = word_for(&given, Setting::Workers).ok_or(WordsFault::Usage)?;
+    demo_by(alloc, word.as_str(), workers)
 }
 
 // A command that takes no options.
-fn alone(command: Command, words: &[String]) -> Result<Command, WordsFault>
-    requires { InRange command }
+fn alone(
+    alloc: Global,
+    name: &'static str,
+    command: Command,
+    words: &[String],
+) -> Result<Command, WordsFault>
+    requires range { InRange command }
+    requires taken { takes program (begun name.now) ≡ true }
     ensures { Answers (nothing_more command (texts words.now)) result }
 {
-    if words.is_empty() {
-        Ok(command)
-    } else {
-        Err(WordsFault::Usage)
+    if !words.is_empty() {
+        return Err(WordsFault::Usage);
     }
+    read(alloc, &begin(alloc, name)?)?;
+    Ok(command)
 }
 
 // The command of this name that the words after it ask for.
@@ -87,10 +144,10 @@ fn command(alloc: Global, name: &str, words: &[String]) -> Result<Command, Words
     match name {
         "seal" => seal(alloc, words),
         "replay" => replay(alloc, words),
-        "check" => alone(Command::Check, words),
-        "show" => alone(Command::Show, words),
-        "interleave" => alone(Command::Interleave, words),
-        "migrate" => alone(Command::Migrate, words),
+        "check" => alone(alloc, "check", Command::Check, words),
+        "show" => alone(alloc, "show", Command::Show, words),
+        "interleave" => alone(alloc, "interleave", Command::Interleave, words),
+        "migrate" => alone(alloc, "migrate", Command::Migrate, words),
         "demo" => demo(alloc, words),
         _ => Err(WordsFault::Usage),
     }

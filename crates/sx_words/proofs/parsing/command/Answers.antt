@@ -1,5 +1,6 @@
 use Rattle.std.specs.Prelude.{codes}
 use Rattle.sx_words.proofs.CommandLaws.{named_by, named_by_none}
+use Rattle.sx_words.proofs.ReplayLaws.{takes_check, takes_interleave, takes_migrate, takes_show}
 use Rattle.sx_words.proofs.parsing.command.Goals as goal
 
 pub returns-in-seal : goal.returns-in-seal
@@ -28,3 +29,15 @@ pub returns-in_default : goal.returns-in_default
 returns-in_default c =
     named_by_none c.args.name.now _ c.in_default.not-seal c.in_default.not-replay c.in_default.not-check
     c.in_default.not-show c.in_default.not-interleave c.in_default.not-migrate c.in_default.not-demo
+
+pub alone-requires-clause-taken : goal.alone-requires-clause-taken
+alone-requires-clause-taken c = takes_check
+
+pub alone-requires-in-show-clause-taken : goal.alone-requires-in-show-clause-taken
+alone-requires-in-show-clause-taken c = takes_show
+
+pub alone-requires-in-interleave-clause-taken : goal.alone-requires-in-interleave-clause-taken
+alone-requires-in-interleave-clause-taken c = takes_interleave
+
+pub alone-requires-in-migrate-clause-taken : goal.alone-requires-in-migrate-clause-taken
+alone-requires-in-migrate-clause-taken c = takes_migrate

@@ -1,0 +1,68 @@
+-- The command line as `clap` knows it: one command with seven subcommands.
+use Rattle.std.specs.Prelude.{◌-◌, ◌^◌, ◌≡◌, true, false, List, [], ◌∷◌, Some, codes}
+use Rattle.clap.specs.Words.{App, Rule, app_of, new_app, new_rule, with_rule, with_subcommand}
+use Rattle.clap.specs.declared.builder.command.Command.{Command}
+use Rattle.clap.specs.declared.builder.command.Command.TheViews.{out-Command}
+use Rattle.clap.specs.declared.builder.value_parser.ValueParser.TheVariants as parser
+use Rattle.sx_words.specs.Numbers.{Text}
+use Rattle.sx_words.specs.Settings.{least_of, most_of}
+use Rattle.sx_words.specs.declared.setting.Setting.{Setting}
+use Rattle.sx_words.specs.declared.setting.Setting.TheVariants.{Workers, Shards, Mu, Rounds}
+
+-- ---- the arguments
+
+-- the name of an option without the two hyphens
+abbrev pub id_of : Setting → Text
+id_of Workers = codes "workers"
+id_of Shards = codes "shards"
+id_of Mu = codes "mu"
+id_of Rounds = codes "rounds"
+
+-- the default in decimal
+abbrev pub default_text : Setting → Text
+default_text Workers = codes "4"
+default_text Shards = codes "16"
+default_text Mu = codes "10"
+default_text Rounds = codes "500"
+
+-- an option of one value in its range
+abbrev pub option_by : Setting → Text → Text → Rule
+option_by setting id default = record (new_rule id) {
+  long = Some id;
+  parser = Some (parser.Unsigned (least_of setting) (most_of setting));
+  defaults = default ∷ [];
+}
+
+abbrev pub option_rule : Setting → Rule
+option_rule setting = option_by setting (id_of setting) (default_text setting)
+
+-- the number of a demonstration
+abbrev pub number_rule : Rule
+number_rule = record (new_rule (codes "number")) {
+  parser = Some (parser.Unsigned 0 (2 ^ 64 - 1));
+  required = true;
+}
+
+-- ---- the commands
+
+abbrev pub seal_app : App
+seal_app = with_rule (with_rule (with_rule (with_rule (new_app (codes "seal")) (option_rule Workers))
+    (option_rule Shards)) (option_rule Mu)) (option_rule Rounds)
+
+abbrev pub replay_app : App
+replay_app = with_rule (new_app (codes "replay")) (option_rule Workers)
+
+abbrev pub demo_app : App
+demo_app = with_rule (with_rule (new_app (codes "demo")) number_rule) (option_rule Workers)
+
+abbrev pub with_each : App → List App → App
+with_each above [] = above
+with_each above (sub ∷ rest) = with_each (with_subcommand above sub.top) rest
+
+abbrev pub program : App
+program = with_each (new_app (codes "speedex")) (seal_app ∷ replay_app ∷ new_app (codes "check")
+    ∷ new_app (codes "show") ∷ new_app (codes "interleave") ∷ new_app (codes "migrate") ∷ demo_app ∷ [])
+
+-- the command reads as this one, and no argument of it stands for subcommands too
+abbrev pub IsApp : App → Command → Type 0
+IsApp app command = ((out-Command command).has_globals ≡ false) × (app_of command ≡ app)
