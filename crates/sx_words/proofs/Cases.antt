@@ -7,34 +7,34 @@ use Rattle.sx_words.specs.declared.command.Command.TheVariants.{Seal, Replay, Ch
 
 -- ---- commands
 
-defaults : command_of (codes "seal" ∷ []) ≡ Some (Seal 4 16 10 500)
+defaults : command_of (codes "seal" ∷ []) ≡ Some (Seal 4 16 10 500 1)
 unfolding command_of number_in
 defaults = refl
 
 two_words : command_of (codes "seal" ∷ codes "--workers" ∷ codes "8" ∷ codes "--mu" ∷ codes "10" ∷ [])
-    ≡ Some (Seal 8 16 10 500)
+    ≡ Some (Seal 8 16 10 500 1)
 unfolding command_of number_in
 two_words = refl
 
-one_word : command_of (codes "seal" ∷ codes "--workers=8" ∷ codes "--mu=10" ∷ []) ≡ Some (Seal 8 16 10 500)
+one_word : command_of (codes "seal" ∷ codes "--workers=8" ∷ codes "--mu=10" ∷ []) ≡ Some (Seal 8 16 10 500 1)
 unfolding command_of number_in
 one_word = refl
 
 any_order : command_of (codes "seal" ∷ codes "--rounds" ∷ codes "10000" ∷ codes "--shards=64" ∷
     codes "--workers" ∷ codes "1" ∷ [])
-    ≡ Some (Seal 1 64 10 10000)
+    ≡ Some (Seal 1 64 10 10000 1)
 unfolding command_of number_in
 any_order = refl
 
 least_of_all : command_of (codes "seal" ∷ codes "--workers=1" ∷ codes "--shards=1" ∷ codes "--mu=1" ∷
-    codes "--rounds=0" ∷ [])
-    ≡ Some (Seal 1 1 1 0)
+    codes "--rounds=0" ∷ codes "--searches=1" ∷ [])
+    ≡ Some (Seal 1 1 1 0 1)
 unfolding command_of number_in
 least_of_all = refl
 
 most_of_all : command_of (codes "seal" ∷ codes "--workers=64" ∷ codes "--shards=64" ∷ codes "--mu=20" ∷
-    codes "--rounds=10000" ∷ [])
-    ≡ Some (Seal 64 64 20 10000)
+    codes "--rounds=10000" ∷ codes "--searches" ∷ codes "8" ∷ [])
+    ≡ Some (Seal 64 64 20 10000 8)
 unfolding command_of number_in
 most_of_all = refl
 
@@ -103,6 +103,14 @@ too_many_shards = refl
 no_margin : command_of (codes "seal" ∷ codes "--mu=0" ∷ []) ≡ None
 unfolding command_of number_in
 no_margin = refl
+
+no_search : command_of (codes "seal" ∷ codes "--searches=0" ∷ []) ≡ None
+unfolding command_of number_in
+no_search = refl
+
+too_many_searches : command_of (codes "seal" ∷ codes "--searches=9" ∷ []) ≡ None
+unfolding command_of number_in
+too_many_searches = refl
 
 above_64_bits : command_of (codes "demo" ∷ codes "18446744073709551616" ∷ []) ≡ None
 unfolding command_of number_in

@@ -8,7 +8,7 @@ use Rattle.std.proofs.lemmas.Slice.Eq.{bytes_eq-Decides}
 use Rattle.sx_words.specs.declared.command.Command.{Command}
 use Rattle.sx_words.specs.declared.command.Command.TheVariants.{Seal, Replay, Check, Show, Interleave, Migrate, Demo}
 use Rattle.sx_words.specs.Numbers.{Text, texts}
-use Rattle.sx_words.specs.Commands.{Form, InRange, forms, command_of, spelled, joined, spelling_by}
+use Rattle.sx_words.specs.Commands.{Form, InRange, forms, command_of, nothing_more, spelled, joined, spelling_by}
 use Rattle.sx_words.specs.Laws.{ReadsSpelling}
 use Rattle.sx_words.proofs.NumberLaws.{spells}
 
@@ -70,16 +70,19 @@ no_words (word ∷ words) none = absurd (omega arith)
 
 -- ---- spelling and reading
 
-reads_seal : (workers shards mu rounds : ℕ) → InRange (Seal workers shards mu rounds)
-    → (command_of (spelling_by spelled (Seal workers shards mu rounds)) ≡ Some (Seal workers shards mu rounds))
-    × (command_of (spelling_by joined (Seal workers shards mu rounds)) ≡ Some (Seal workers shards mu rounds))
+reads_seal : (workers shards mu rounds searches : ℕ) → InRange (Seal workers shards mu rounds searches)
+    → (command_of (spelling_by spelled (Seal workers shards mu rounds searches))
+    ≡ Some (Seal workers shards mu rounds searches))
+    × (command_of (spelling_by joined (Seal workers shards mu rounds searches))
+    ≡ Some (Seal workers shards mu rounds searches))
 unfolding command_of
-reads_seal workers shards mu rounds fits =
+reads_seal workers shards mu rounds searches fits =
     let w = spells 1 64 workers fits.0.0 fits.0.1 (omega arith) in
     let s = spells 1 64 shards fits.1.0 fits.1.1 (omega arith) in
     let m = spells 1 20 mu fits.2.0 fits.2.1 (omega arith) in
     let r = spells 0 10000 rounds fits.3.0 fits.3.1 (omega arith) in
-    (rw (w, s, m, r) refl, rw (w, s, m, r) refl)
+    let n = spells 1 8 searches fits.4.0 fits.4.1 (omega arith) in
+    (rw (w, s, m, r, n) refl, rw (w, s, m, r, n) refl)
 
 reads_replay : (workers : ℕ) → InRange (Replay workers)
     → (command_of (spelling_by spelled (Replay workers)) ≡ Some (Replay workers))
@@ -100,10 +103,17 @@ reads_demo number workers fits =
 
 pub reads_spelling : ReadsSpelling
 unfolding command_of
-reads_spelling (Seal workers shards mu rounds) fits = reads_seal workers shards mu rounds fits
+reads_spelling (Seal workers shards mu rounds searches) fits = reads_seal workers shards mu rounds searches fits
 reads_spelling (Replay workers) fits = reads_replay workers fits
 reads_spelling Check fits = (refl, refl)
 reads_spelling Show fits = (refl, refl)
 reads_spelling Interleave fits = (refl, refl)
 reads_spelling Migrate fits = (refl, refl)
 reads_spelling (Demo number workers) fits = reads_demo number workers fits
+
+-- ---- a command that takes no options
+
+pub more_than_nothing : (command : Command) (words : List (String Global)) → (length words ≡ 0 → ⊥)
+    → nothing_more command (texts words) ≡ None
+more_than_nothing command [] some = absurd (some refl)
+more_than_nothing command (word ∷ words) some = refl

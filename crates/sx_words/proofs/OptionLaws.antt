@@ -15,7 +15,7 @@ use Rattle.sx_words.specs.declared.setting.Setting.{Setting}
 use Rattle.sx_words.specs.Numbers.{Text, number_in, texts}
 use Rattle.sx_words.specs.Reading.{IsGiven, IsWritten, choice_in, choices_in, number_of, text_of}
 use Rattle.sx_words.specs.Settings.{least_of, most_of}
-use Rattle.sx_words.specs.declared.setting.Setting.TheVariants.{Workers, Shards, Mu, Rounds}
+use Rattle.sx_words.specs.declared.setting.Setting.TheVariants.{Workers, Shards, Mu, Rounds, Searches}
 use Rattle.sx_words.specs.contracts.setting.Setting.{the_type}
 use denote.Enum.Bare.{sameb}
 use Rattle.sx_words.specs.Options.{◌>>=◌, Given, is_equals, parted_at_equals, and_more, given_in, choice_of}
@@ -198,36 +198,54 @@ same_is Workers Workers = refl
 same_is Workers Shards = refl
 same_is Workers Mu = refl
 same_is Workers Rounds = refl
+same_is Workers Searches = refl
 same_is Shards Workers = refl
 same_is Shards Shards = refl
 same_is Shards Mu = refl
 same_is Shards Rounds = refl
+same_is Shards Searches = refl
 same_is Mu Workers = refl
 same_is Mu Shards = refl
 same_is Mu Mu = refl
 same_is Mu Rounds = refl
+same_is Mu Searches = refl
 same_is Rounds Workers = refl
 same_is Rounds Shards = refl
 same_is Rounds Mu = refl
 same_is Rounds Rounds = refl
+same_is Rounds Searches = refl
+same_is Searches Workers = refl
+same_is Searches Shards = refl
+same_is Searches Mu = refl
+same_is Searches Rounds = refl
+same_is Searches Searches = refl
 
 same_then : (a b : Setting) → is_same a b ≡ true → a ≡ b
 same_then Workers Workers is = refl
 same_then Workers Shards is = absurd (cc)
 same_then Workers Mu is = absurd (cc)
 same_then Workers Rounds is = absurd (cc)
+same_then Workers Searches is = absurd (cc)
 same_then Shards Workers is = absurd (cc)
 same_then Shards Shards is = refl
 same_then Shards Mu is = absurd (cc)
 same_then Shards Rounds is = absurd (cc)
+same_then Shards Searches is = absurd (cc)
 same_then Mu Workers is = absurd (cc)
 same_then Mu Shards is = absurd (cc)
 same_then Mu Mu is = refl
 same_then Mu Rounds is = absurd (cc)
+same_then Mu Searches is = absurd (cc)
 same_then Rounds Workers is = absurd (cc)
 same_then Rounds Shards is = absurd (cc)
 same_then Rounds Mu is = absurd (cc)
 same_then Rounds Rounds is = refl
+same_then Rounds Searches is = absurd (cc)
+same_then Searches Workers is = absurd (cc)
+same_then Searches Shards is = absurd (cc)
+same_then Searches Mu is = absurd (cc)
+same_then Searches Rounds is = absurd (cc)
+same_then Searches Searches is = refl
 
 drop_split : (xs : List Written) (i : ℕ) (d : Written) → i < length xs → drop i xs ≡ get_or xs i d ∷ drop (suc i) xs
 drop_split [] i d within = absurd (omega arith)

@@ -17,7 +17,7 @@ use Rattle.sx_words.specs.declared.fault.WordsFault.{WordsFault}
 use Rattle.sx_words.specs.declared.fault.WordsFault.TheVariants.{NoMemory}
 use Rattle.sx_words.specs.Settings.{name_of, least_of, most_of}
 use Rattle.sx_words.specs.declared.setting.Setting.{Setting}
-use Rattle.sx_words.specs.declared.setting.Setting.TheVariants.{Workers, Shards, Mu, Rounds}
+use Rattle.sx_words.specs.declared.setting.Setting.TheVariants.{Workers, Shards, Mu, Rounds, Searches}
 use Rattle.sx_words.proofs.WalkLaws.{IsPlainWord, HasOption, HasWalked, at, stopped_at, walks_stopped, passes_stopped}
 use Rattle.sx_words.proofs.WalkLaws.{and_true, walked_option}
 
@@ -98,6 +98,7 @@ seal_option Workers = record { named = λ h place. refl; passes = λ h place e. 
 seal_option Shards = record { named = λ h place. refl; passes = λ h place e. rw e refl; taken = λ word h place. refl }
 seal_option Mu = record { named = λ h place. refl; passes = λ h place e. rw e refl; taken = λ word h place. refl }
 seal_option Rounds = record { named = λ h place. refl; passes = λ h place e. rw e refl; taken = λ word h place. refl }
+seal_option Searches = record { named = λ h place. refl; passes = λ h place e. rw e refl; taken = λ word h place. refl }
 
 pub replay_option : HasOption replay_shape (name_of Workers) (id_of Workers)
 unfolding clap_on_literals

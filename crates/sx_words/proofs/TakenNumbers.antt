@@ -12,7 +12,7 @@ use Rattle.clap.specs.declared.parser.matches.ArgMatches.{ArgMatches}
 use Rattle.sx_words.specs.Program.{id_of, default_text}
 use Rattle.sx_words.specs.Settings.{least_of, most_of, default_of, Takes}
 use Rattle.sx_words.specs.declared.setting.Setting.{Setting}
-use Rattle.sx_words.specs.declared.setting.Setting.TheVariants.{Workers, Shards, Mu, Rounds}
+use Rattle.sx_words.specs.declared.setting.Setting.TheVariants.{Workers, Shards, Mu, Rounds, Searches}
 use Rattle.sx_words.specs.Reading.{IsGiven, IsReadAs, text_in}
 use Rattle.sx_words.proofs.ProgramLaws.{IsTaken, text_or}
 use Rattle.clap.specs.ValueTests.{accepts}
@@ -83,6 +83,7 @@ below Workers = omega arith
 below Shards = omega arith
 below Mu = omega arith
 below Rounds = omega arith
+below Searches = omega arith
 
 -- the default, as its text spells it
 default_number : (setting : Setting)
@@ -92,6 +93,7 @@ default_number Workers = refl
 default_number Shards = refl
 default_number Mu = refl
 default_number Rounds = refl
+default_number Searches = refl
 
 pub given_taken : (setting : Setting) (given : Option Text) → IsGiven setting given → IsTaken setting given
 given_taken setting None is = tt
@@ -138,3 +140,4 @@ small Workers number is = omega (arith, is.1)
 small Shards number is = omega (arith, is.1)
 small Mu number is = omega (arith, is.1)
 small Rounds number is = is.1
+small Searches number is = omega (arith, is.1)

@@ -12,12 +12,12 @@ use Rattle.sx_words.specs.declared.fault.WordsFault.{WordsFault}
 use Rattle.sx_words.specs.declared.fault.WordsFault.TheVariants.{NoMemory, Usage}
 use Rattle.sx_words.specs.declared.options.Choice.{Choice}
 use Rattle.sx_words.specs.declared.setting.Setting.{Setting}
-use Rattle.sx_words.specs.declared.setting.Setting.TheVariants.{Workers, Shards, Mu, Rounds}
+use Rattle.sx_words.specs.declared.setting.Setting.TheVariants.{Workers, Shards, Mu, Rounds, Searches}
 
 -- ---- which options a command has
 
 abbrev pub seal_options : List Setting
-seal_options = Workers ∷ Shards ∷ Mu ∷ Rounds ∷ []
+seal_options = Workers ∷ Shards ∷ Mu ∷ Rounds ∷ Searches ∷ []
 
 abbrev pub replay_options : List Setting
 replay_options = Workers ∷ []
@@ -37,7 +37,8 @@ seal_by choices = do
   shards ← number_for Shards choices
   mu ← number_for Mu choices
   rounds ← number_for Rounds choices
-  Some (Seal workers shards mu rounds)
+  searches ← number_for Searches choices
+  Some (Seal workers shards mu rounds searches)
 
 abbrev pub replay_by : List Choice → Option Command
 replay_by choices = do
@@ -90,8 +91,8 @@ command_of (name ∷ words) = find (λ form. bytes_eq form.name name) forms >>= 
 
 -- each number of a command is in the range of its option
 abbrev pub InRange : Command → Type 0
-InRange (Seal workers shards mu rounds) =
-    Takes Workers workers × Takes Shards shards × Takes Mu mu × Takes Rounds rounds
+InRange (Seal workers shards mu rounds searches) =
+    Takes Workers workers × Takes Shards shards × Takes Mu mu × Takes Rounds rounds × Takes Searches searches
 InRange (Replay workers) = Takes Workers workers
 InRange (Demo number workers) = (number < 2 ^ 64) × Takes Workers workers
 InRange _ = Unit {0}
@@ -106,8 +107,9 @@ joined setting number = (name_of setting ++ (codes "=" ++ decimal number)) ∷ [
 
 -- a command with all its options, each spelled in this way
 abbrev pub spelling_by : (Setting → ℕ → List Text) → Command → List Text
-spelling_by option (Seal workers shards mu rounds) =
-    codes "seal" ∷ (option Workers workers ++ (option Shards shards ++ (option Mu mu ++ option Rounds rounds)))
+spelling_by option (Seal workers shards mu rounds searches) =
+    codes "seal" ∷ (option Workers workers ++ (option Shards shards ++ (option Mu mu ++ (option Rounds rounds ++
+    option Searches searches))))
 spelling_by option (Replay workers) = codes "replay" ∷ option Workers workers
 spelling_by option Check = codes "check" ∷ []
 spelling_by option Show = codes "show" ∷ []

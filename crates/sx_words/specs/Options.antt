@@ -7,7 +7,7 @@ use Rattle.sx_words.specs.Numbers.{Text, number_in}
 use Rattle.sx_words.specs.Settings.{name_of, least_of, most_of, default_of, Takes}
 use Rattle.sx_words.specs.declared.options.Choice.{Choice}
 use Rattle.sx_words.specs.declared.setting.Setting.{Setting}
-use Rattle.sx_words.specs.declared.setting.Setting.TheVariants.{Workers, Shards, Mu, Rounds}
+use Rattle.sx_words.specs.declared.setting.Setting.TheVariants.{Workers, Shards, Mu, Rounds, Searches}
 
 -- one reading after another, where both succeed
 infixl 10 ◌>>=◌
@@ -69,6 +69,7 @@ is_same Workers Workers = true
 is_same Shards Shards = true
 is_same Mu Mu = true
 is_same Rounds Rounds = true
+is_same Searches Searches = true
 is_same _ _ = false
 
 -- the numbers that an option is given

@@ -7,7 +7,7 @@ use Rattle.clap.specs.declared.builder.value_parser.ValueParser.TheVariants as p
 use Rattle.sx_words.specs.Numbers.{Text}
 use Rattle.sx_words.specs.Settings.{least_of, most_of}
 use Rattle.sx_words.specs.declared.setting.Setting.{Setting}
-use Rattle.sx_words.specs.declared.setting.Setting.TheVariants.{Workers, Shards, Mu, Rounds}
+use Rattle.sx_words.specs.declared.setting.Setting.TheVariants.{Workers, Shards, Mu, Rounds, Searches}
 
 -- ---- the arguments
 
@@ -17,6 +17,7 @@ id_of Workers = codes "workers"
 id_of Shards = codes "shards"
 id_of Mu = codes "mu"
 id_of Rounds = codes "rounds"
+id_of Searches = codes "searches"
 
 -- the default in decimal
 abbrev pub default_text : Setting → Text
@@ -24,6 +25,7 @@ default_text Workers = codes "4"
 default_text Shards = codes "16"
 default_text Mu = codes "10"
 default_text Rounds = codes "500"
+default_text Searches = codes "1"
 
 -- an option of one value in its range
 abbrev pub option_by : Setting → Text → Text → Rule
@@ -45,9 +47,13 @@ number_rule = record (new_rule (codes "number")) {
 
 -- ---- the commands
 
-abbrev pub seal_app : App
-seal_app = with_rule (with_rule (with_rule (with_rule (new_app (codes "seal")) (option_rule Workers))
+-- a seal of one search
+abbrev pub single_app : App
+single_app = with_rule (with_rule (with_rule (with_rule (new_app (codes "seal")) (option_rule Workers))
     (option_rule Shards)) (option_rule Mu)) (option_rule Rounds)
+
+abbrev pub seal_app : App
+seal_app = with_rule single_app (option_rule Searches)
 
 abbrev pub replay_app : App
 replay_app = with_rule (new_app (codes "replay")) (option_rule Workers)

@@ -15,7 +15,7 @@ use Rattle.sx_words.specs.declared.fault.WordsFault.TheVariants.{NoMemory}
 use Rattle.sx_words.specs.declared.options.Choice.{Choice}
 use Rattle.sx_words.specs.declared.options.Written.{Written}
 use Rattle.sx_words.specs.declared.setting.Setting.{Setting}
-use Rattle.sx_words.specs.declared.setting.Setting.TheVariants.{Workers, Shards, Mu, Rounds}
+use Rattle.sx_words.specs.declared.setting.Setting.TheVariants.{Workers, Shards, Mu, Rounds, Searches}
 
 -- ---- the words that it reads
 
@@ -83,13 +83,14 @@ abbrev pub OrNoMemory : {T : Type 0} → (T → Type 0) → Result T WordsFault 
 OrNoMemory answers result = MatchResult result answers (λ fault. fault ≡ NoMemory)
 
 -- the commands that numbers make
-abbrev pub seal_from : (workers shards mu rounds : Option Text) → Option Command
-seal_from workers shards mu rounds = do
+abbrev pub seal_from : (workers shards mu rounds searches : Option Text) → Option Command
+seal_from workers shards mu rounds searches = do
   w ← number_of Workers workers
   s ← number_of Shards shards
   m ← number_of Mu mu
   r ← number_of Rounds rounds
-  Some (Seal w s m r)
+  n ← number_of Searches searches
+  Some (Seal w s m r n)
 
 abbrev pub replay_from : Option Text → Option Command
 replay_from workers = do

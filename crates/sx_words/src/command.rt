@@ -10,6 +10,8 @@ pub enum Command {
         /// The exponent `j` of the margin μ, which is `2^-j`.
         mu: u8,
         rounds: u32,
+        /// How many price searches run, the best of which is posted.
+        searches: u32,
     },
     /// Applies blocks to a state.
     Replay {

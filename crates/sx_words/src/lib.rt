@@ -7,12 +7,12 @@
 //!
 //! | command | options |
 //! | --- | --- |
-//! | `seal` | `--workers` 1 to 64, `--shards` 1 to 64, `--mu` 1 to 20, `--rounds` 0 to 10,000 |
+//! | `seal` | `--workers` 1 to 64, `--shards` 1 to 64, `--mu` 1 to 20, `--rounds` 0 to 10,000, `--searches` 1 to 8 |
 //! | `replay` | `--workers` 1 to 64 |
 //! | `check`, `show`, `interleave`, `migrate` | none |
 //! | `demo N` | `--workers` 1 to 64; N is any number below 2^64 |
 //!
-//! An option that is not given has its default: 4 workers, 16 shards, μ of 2^-10, 500 rounds.
+//! An option that is not given has its default: 4 workers, 16 shards, μ of 2^-10, 500 rounds, one search.
 //! [`Setting`] has the ranges and the defaults. Everything else is [`WordsFault::Usage`], a wish for
 //! help or for the version too. [`word_laws`] ties reading and spelling.
 //!

@@ -6,7 +6,7 @@ ghost use Rattle.sx_words.specs.Numbers.{texts};
 ghost use Rattle.sx_words.specs.Commands.{Answers, InRange, command_of, demo_of, nothing_more, replay_of, seal_of};
 ghost use Rattle.sx_words.specs.Program.{program};
 ghost use Rattle.sx_words.specs.Reading.{IsGiven, IsSeed, begun, demo_from, replay_from, seal_from, text_of};
-ghost use Rattle.sx_words.specs.declared.setting.Setting.TheVariants.{Mu, Rounds, Shards, Workers};
+ghost use Rattle.sx_words.specs.declared.setting.Setting.TheVariants.{Mu, Rounds, Searches, Shards, Workers};
 ghost use Rattle.sx_words.specs.declared.fault.WordsFault.TheVariants as words_fault;
 
 use crate::command::Command;
@@ -17,11 +17,12 @@ use crate::reading::{add, begin, number_of, option_of, read};
 use crate::setting::Setting;
 use std::alloc::Global;
 
-const SEAL: [Setting; 4] = [
+const SEAL: [Setting; 5] = [
     Setting::Workers,
     Setting::Shards,
     Setting::Mu,
     Setting::Rounds,
+    Setting::Searches,
 ];
 
 const REPLAY: [Setting; 1] = [Setting::Workers];
@@ -35,25 +36,29 @@ fn seal_by<'a>(
     shards: Option<&'a str>,
     mu: Option<&'a str>,
     rounds: Option<&'a str>,
+    searches: Option<&'a str>,
 ) -> Result<Command, WordsFault>
     requires workers { IsGiven Workers (text_of workers) }
     requires shards { IsGiven Shards (text_of shards) }
     requires mu { IsGiven Mu (text_of mu) }
     requires rounds { IsGiven Rounds (text_of rounds) }
+    requires searches { IsGiven Searches (text_of searches) }
     ensures { Answers (seal_from (text_of workers.entry) (text_of shards.entry) (text_of mu.entry)
-        (text_of rounds.entry)) result }
+        (text_of rounds.entry) (text_of searches.entry)) result }
 {
     let mut words = begin(alloc, "seal")?;
     add(&mut words, Setting::Workers, workers)?;
     add(&mut words, Setting::Shards, shards)?;
     add(&mut words, Setting::Mu, mu)?;
     add(&mut words, Setting::Rounds, rounds)?;
+    add(&mut words, Setting::Searches, searches)?;
     let matches = read(alloc, &words)?;
     Ok(Command::Seal {
         workers: option_of(&matches, Setting::Workers, "workers"),
         shards: option_of(&matches, Setting::Shards, "shards"),
         mu: option_of(&matches, Setting::Mu, "mu") as u8,
         rounds: option_of(&matches, Setting::Rounds, "rounds"),
+        searches: option_of(&matches, Setting::Searches, "searches"),
     })
 }
 
@@ -65,7 +70,8 @@ fn seal(alloc: Global, words: &[String]) -> Result<Command, WordsFault>
     let shards = word_for(&given, Setting::Shards).ok_or(WordsFault::Usage)?;
     let mu = word_for(&given, Setting::Mu).ok_or(WordsFault::Usage)?;
     let rounds = word_for(&given, Setting::Rounds).ok_or(WordsFault::Usage)?;
-    seal_by(alloc, workers, shards, mu, rounds)
+    let searches = word_for(&given, Setting::Searches).ok_or(WordsFault::Usage)?;
+    seal_by(alloc, workers, shards, mu, rounds, searches)
 }
 
 // The replay that `clap` reads.
@@ -130,11 +136,12 @@ fn alone(
     requires taken { takes program (begun name.now) ≡ true }
     ensures { Answers (nothing_more command (texts words.now)) result }
 {
-    if !words.is_empty() {
-        return Err(WordsFault::Usage);
+    if words.is_empty() {
+        read(alloc, &begin(alloc, name)?)?;
+        Ok(command)
+    } else {
+        Err(WordsFault::Usage)
     }
-    read(alloc, &begin(alloc, name)?)?;
-    Ok(command)
 }
 
 // The command of this name that the words after it ask for.

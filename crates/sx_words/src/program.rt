@@ -3,7 +3,7 @@
 ghost use Rattle.std.specs.Prelude.{◌≡◌, IfOk, false};
 ghost use Rattle.clap.specs.Words.{app_of, rule_of, with_rule, with_subcommand};
 ghost use Rattle.clap.specs.declared.builder.command.Command.TheViews.{out-Command};
-ghost use Rattle.sx_words.specs.Program.{IsApp, demo_app, number_rule, option_by, program, replay_app, seal_app};
+ghost use Rattle.sx_words.specs.Program.{IsApp, demo_app, number_rule, option_by, program, replay_app, seal_app, single_app};
 
 use crate::setting::Setting;
 use clap::builder::ValueParser;
@@ -42,8 +42,9 @@ fn with<'a>(command: Command<'a>, arg: Arg<'a>) -> Result<Command<'a>, AllocErro
     command.arg(arg)
 }
 
-fn seal<'a>(alloc: Global) -> Result<Command<'a>, AllocError>
-    ensures { IfOk result (IsApp seal_app) }
+// A seal of one search.
+fn single<'a>(alloc: Global) -> Result<Command<'a>, AllocError>
+    ensures { IfOk result (IsApp single_app) }
 {
     let mut seal = with(
         Command::new(alloc, "seal"),
@@ -52,6 +53,13 @@ fn seal<'a>(alloc: Global) -> Result<Command<'a>, AllocError>
     seal = with(seal, option(alloc, Setting::Shards, "shards", "16"))?;
     seal = with(seal, option(alloc, Setting::Mu, "mu", "10"))?;
     with(seal, option(alloc, Setting::Rounds, "rounds", "500"))
+}
+
+fn seal<'a>(alloc: Global) -> Result<Command<'a>, AllocError>
+    ensures { IfOk result (IsApp seal_app) }
+{
+    let single = single(alloc)?;
+    with(single, option(alloc, Setting::Searches, "searches", "1"))
 }
 
 fn replay<'a>(alloc: Global) -> Result<Command<'a>, AllocError>

@@ -14,6 +14,8 @@ pub enum Setting {
     Mu,
     /// How many rounds a price search has at most.
     Rounds,
+    /// How many price searches run, the best of which is posted.
+    Searches,
 }
 
 impl Setting {
@@ -26,6 +28,7 @@ impl Setting {
             Setting::Shards => "--shards",
             Setting::Mu => "--mu",
             Setting::Rounds => "--rounds",
+            Setting::Searches => "--searches",
         }
     }
 
@@ -34,7 +37,7 @@ impl Setting {
         ensures { result ≡ least_of self }
     {
         match self {
-            Setting::Workers | Setting::Shards | Setting::Mu => 1,
+            Setting::Workers | Setting::Shards | Setting::Mu | Setting::Searches => 1,
             Setting::Rounds => 0,
         }
     }
@@ -47,6 +50,7 @@ impl Setting {
             Setting::Workers | Setting::Shards => 64,
             Setting::Mu => 20,
             Setting::Rounds => 10_000,
+            Setting::Searches => 8,
         }
     }
 
@@ -61,6 +65,7 @@ impl Setting {
             Setting::Shards => 16,
             Setting::Mu => 10,
             Setting::Rounds => 500,
+            Setting::Searches => 1,
         }
     }
 }
