@@ -1,5 +1,5 @@
 -- How many searches a block of one asset may take, which has no pair and so upper bounds of no digits.
-use Rattle.std.proofs.Common.{◌≡◌, ℕ, ◌+◌, ◌*◌, ◌<◌, ◌≤◌, arith}
+use Rattle.std.proofs.Common.{◌+◌, ◌*◌, ◌≤◌, arith}
 use Rattle.sx_block.specs.declared.header.Block.{Block}
 use Rattle.sx_clear.specs.Searches.{IsCounted}
 use Rattle.sx_ledger.proofs.CaseWords.{opening}

@@ -1,5 +1,6 @@
 pub mod Quotes
 pub mod Dropping
+pub mod Digests
 pub mod Found
 pub mod Traded
 pub mod Searches

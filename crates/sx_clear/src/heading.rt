@@ -1,19 +1,19 @@
 //! The header of a block.
 
-ghost use Rattle.std.specs.Prelude.{◌≡◌, ◌+◌, ◌<◌, ◌≤◌, All, IfOk, length};
+ghost use Rattle.std.specs.Prelude.{◌≡◌, ◌+◌, ◌<◌, ◌≤◌, All, length};
 ghost use Rattle.sx_block.specs.Digest.{IsDigest};
 ghost use Rattle.sx_block.specs.Validity.{IsValid};
+ghost use Rattle.sx_clear.specs.Digests.{AreDigests};
 ghost use Rattle.sx_clear.specs.Terms.{AreTerms};
 ghost use Rattle.sx_ledger.specs.Body.{IsAdmissible};
 ghost use Rattle.sx_ledger.specs.Ledger.{IsLedger, most_height};
 ghost use Rattle.sx_tx.specs.Transactions.{IsTx, most_transactions};
 
+use crate::digests::Digests;
 use crate::ranges::potential_ranges;
 use crate::trade::Trade;
-use std::alloc::Global;
 use sx_base::Balances;
-use sx_block::{Block, Digest, Header, body_digest, ledger_digest};
-use sx_bytes::NoMemory;
+use sx_block::{Block, Digest, Header};
 use sx_ledger::Ledger;
 use sx_price::{Mu, Prices};
 use sx_tx::TxList;
@@ -28,27 +28,22 @@ pub struct Terms {
     pub after: Digest,
 }
 
-// The block of a body at these terms.
-pub fn block_of(
-    alloc: Global,
-    ledger: &Ledger,
-    height: u64,
-    txs: TxList,
-    terms: Terms,
-) -> Result<Block, NoMemory>
+// The block of a body at these terms, where these are its digests.
+pub fn block_of(ledger: &Ledger, height: u64, txs: TxList, digests: Digests, terms: Terms) -> Block
     requires kept { IsLedger ledger.now }
     requires admissible { IsAdmissible ledger.now txs }
     requires few { length txs ≤ most_transactions }
     requires each { All IsTx txs }
     requires below_last { ledger.now.height < most_height }
     requires height { height ≡ ledger.now.height + 1 }
+    requires digests { AreDigests ledger.now txs digests }
     requires terms { AreTerms ledger.now txs terms }
     requires digest { IsDigest terms.after }
-    ensures valid { IfOk result (IsValid ledger.now) }
-    ensures version { IfOk result (λ block. block.header.version ≡ 1) }
-    ensures txs { IfOk result (λ block. block.txs ≡ txs) }
-    ensures mu { IfOk result (λ block. block.header.mu ≡ terms.mu) }
-    ensures prices { IfOk result (λ block. block.header.prices ≡ terms.prices) }
+    ensures valid { IsValid ledger.now result }
+    ensures version { result.header.version ≡ 1 }
+    ensures txs { result.txs ≡ txs }
+    ensures mu { result.header.mu ≡ terms.mu }
+    ensures prices { result.header.prices ≡ terms.prices }
 {
     let Terms {
         mu,
@@ -61,13 +56,11 @@ pub fn block_of(
     let _assets = trade.flow.assets();
     let _exponent = mu.get();
     potential_ranges(&trade.potentials);
-    let parent = ledger_digest(alloc, ledger)?;
-    let body = body_digest(alloc, txs.items())?;
     let header = Header {
         version: 1,
         height,
-        parent,
-        body,
+        parent: digests.parent,
+        body: digests.body,
         mu,
         prices,
         trades: trade.flow,
@@ -76,5 +69,5 @@ pub fn block_of(
         rounding,
         after,
     };
-    Ok(Block { header, txs })
+    Block { header, txs }
 }

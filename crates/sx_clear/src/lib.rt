@@ -3,15 +3,16 @@
 //! [`clear`] answers a valid block for a ledger and an admissible body. It searches prices from those of
 //! the ledger, and at the prices that it finds it takes a circulation of greatest value within the
 //! bounds of the offers after the body. Where no circulation keeps the lower bounds, they are dropped and
-//! the block names a cut that shows it; they are dropped nowhere else. [`clear_at`] does the same at
-//! prices that are given. [`curves_of`] answers the supply curves that the search goes by.
+//! the block names a cut that shows it; they are dropped nowhere else. [`clear_many`] takes the prices of the best
+//! of several searches, and [`clear_at`] prices that are given. [`curves_of`] answers the supply curves that the search goes by.
 //!
 //! The method: one pass over the body finds what it credits and the offers after it. Their quotes make
 //! curves, on which prices are searched. The offers that must and that may trade at the prices are the
 //! bounds of each pair. `solve` of `sx_level` finds a circulation of greatest value within them, or a cut.
 //! Where it finds a cut, it is asked once more, without the lower bounds: it is asked at most twice, and so
 //! the number of its searches has a bound. The value is shared out among the offers of each pair in their
-//! order, rounded to whole units. What the block leaves of a copy of the ledger is hashed for its header.
+//! order, rounded to whole units. What the block leaves of a copy of the ledger is hashed for its header. The digests
+//! of the ledger before it and of the body are made on a thread of their own, beside the search for prices.
 //!
 //! ```text
 //!                  .-> curves -> prices -.                .-> fills, rounding -.
@@ -35,12 +36,14 @@
 mod body;
 mod clearing;
 mod curves;
+mod digests;
 mod filling;
 mod heading;
 mod leaving;
+mod opening;
 mod quotes;
 mod ranges;
 mod trade;
 
-pub use clearing::{clear, clear_at};
+pub use clearing::{clear, clear_at, clear_many};
 pub use curves::curves_of;

@@ -1,13 +1,10 @@
-use Rattle.std.proofs.Common.{List, sym, ap, ◌∙◌, arith}
-use Rattle.sha2.specs.Sha256.{sha256}
+use Rattle.std.proofs.Common.{sym, ◌∙◌, arith}
 use Rattle.sx_block.specs.declared.header.Block.{Block}
 use Rattle.sx_block.specs.Block.{IsBlock}
 use Rattle.sx_block.proofs.Rules.{fitting_is_sound, header_rules, sound_is_valid}
 use Rattle.sx_clear.proofs.BlockLaws.{rounding_small}
 use Rattle.sx_clear.proofs.heading.block_of.Goals as goal
 use Rattle.sx_ledger.proofs.BodyKeepsLedger.{body_keeps_ledger}
-use Rattle.sx_tx.specs.declared.tx.Tx.{Tx}
-use Rattle.sx_tx.specs.Transactions.{list_bytes}
 
 pub returns-clause-valid : goal.returns-clause-valid
 returns-clause-valid c =
@@ -21,8 +18,8 @@ returns-clause-valid c =
       header = record {
         version = 1;
         height = c.args.height;
-        parent = c.in_ok-parent.parent;
-        body = c.in_ok-body.body;
+        parent = c.args.digests.parent;
+        body = c.args.digests.body;
         mu = c.args.terms.mu;
         prices = c.args.terms.prices;
         trades = c.args.terms.trade.flow;
@@ -38,8 +35,8 @@ returns-clause-valid c =
         some_version = omega arith;
         few_versions = omega arith;
         height = omega (arith, asked.height, asked.below_last);
-        parent = c.in_ok-parent.ensures.digest;
-        body = c.in_ok-body.ensures.digest;
+        parent = asked.digests.parent_whole;
+        body = asked.digests.body_whole;
         some_mu = omega (arith, c.get-exponent.ensures.value, c.get-exponent.ensures.positive);
         most_mu = omega (arith, c.get-exponent.ensures.value, c.get-exponent.ensures.in_range);
         some_asset = omega (arith, terms.assets, is.some_asset);
@@ -61,6 +58,5 @@ returns-clause-valid c =
     } in
     sound_is_valid parts block
     (fitting_is_sound parts block form
-    (header_rules parts block asked.below_last asked.height c.in_ok-parent.ensures.hash
-    (c.in_ok-body.ensures.hash ∙ ap (λ (xs : List Tx). sha256 (list_bytes xs)) c.items.ensures) terms.assets)
+    (header_rules parts block asked.below_last asked.height asked.digests.parent asked.digests.body terms.assets)
     asked.admissible trade.best.fits trade.cut terms.rounded.is) terms.after

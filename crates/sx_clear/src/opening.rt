@@ -1,0 +1,130 @@
+//! What is found of a body before it is cleared: its digests, what it does, and the prices.
+
+ghost use Rattle.std.specs.Prelude.{◌≡◌, ◌≤◌, IfOk, length};
+ghost use Rattle.sx_apply.specs.Bounds.{AreOffers};
+ghost use Rattle.sx_clear.specs.Digests.{AreDigests};
+ghost use Rattle.sx_clear.specs.Found.{IsBodyOf};
+ghost use Rattle.sx_clear.specs.Quotes.{posted_at, quotes_of};
+ghost use Rattle.sx_dual.specs.Tables.{IsAssetCount};
+ghost use Rattle.sx_ledger.specs.Body.{IsAdmissible};
+ghost use Rattle.sx_ledger.specs.Ledger.{assets_of};
+ghost use Rattle.sx_multi.specs.Posted.{posted as posted_of};
+ghost use Rattle.sx_tx.specs.Transactions.{most_transactions};
+
+use crate::body::{Body, body_of};
+use crate::curves::offer_curves;
+use crate::digests::{Digests, digests_of};
+use std::alloc::Global;
+use std::thread::{Threads, join};
+use sx_bytes::NoMemory;
+use sx_ledger::{Ledger, Offer};
+use sx_multi::{posted_laws, search_many};
+use sx_price::{Mu, Prices};
+use sx_tx::Tx;
+
+// From how many transactions, or bytes of the ledger, on the digests are made on a thread of their own. Hashing takes
+// a millisecond there, and to start a thread a small part of one.
+const MANY_TRANSACTIONS: usize = 1 << 13;
+
+const MANY_BYTES: u32 = 1 << 18;
+
+// The same prices once more.
+pub fn copy_of(alloc: Global, prices: &Prices) -> Result<Prices, NoMemory>
+    ensures { IfOk result (λ copy. copy ≡ prices.now) }
+{
+    Ok(Prices::of(prices.items().to_vec(alloc)?))
+}
+
+// How prices are searched: at which margin, in at most how many rounds, and by how many searches.
+#[derive(Clone, Copy, Debug)]
+pub struct Search {
+    pub mu: Mu,
+    pub rounds: u32,
+    pub searches: u32,
+}
+
+// The prices of the best of the searches from those of the ledger: with no round these are the ledger's own.
+fn posted<R: Threads + Sync>(
+    rt: &R,
+    alloc: Global,
+    ledger: &Ledger,
+    assets: u32,
+    offers: &[Offer],
+    by: Search,
+) -> Result<Prices, NoMemory>
+    requires assets { assets ≡ assets_of ledger.now }
+    requires count { IsAssetCount assets }
+    requires offers { AreOffers (assets_of ledger.now) offers.now }
+    requires some { 1 ≤ by.searches }
+    requires few { by.searches ≤ 8 }
+    ensures exact { IfOk result (λ prices. prices ≡ posted_of (quotes_of offers.now) ledger.now.prices by.mu by.rounds by.searches) }
+{
+    posted_laws();
+    let start = &ledger.parts().prices;
+    if by.rounds == 0 {
+        return copy_of(alloc, start);
+    }
+    let curves = offer_curves(alloc, assets, offers)?;
+    search_many(rt, alloc, &curves, start, by.mu, by.rounds, by.searches)
+}
+
+// What a body does, and the prices of the best search for the offers after it.
+#[derive(Drop)]
+pub struct Opened {
+    pub body: Body,
+    pub prices: Prices,
+}
+
+// What a body does, and then the prices.
+fn open<R: Threads + Sync>(
+    rt: &R,
+    alloc: Global,
+    ledger: &Ledger,
+    txs: &[Tx],
+    by: Search,
+) -> Result<Opened, NoMemory>
+    requires admissible { IsAdmissible ledger.now txs.now }
+    requires some { 1 ≤ by.searches }
+    requires few { by.searches ≤ 8 }
+    ensures body { IfOk result (λ opened. IsBodyOf ledger.now txs.now opened.body) }
+    ensures prices { IfOk result (λ opened. opened.prices ≡ posted_at ledger.now txs.now by.mu by.rounds by.searches) }
+{
+    let assets = ledger.assets();
+    let body = body_of(alloc, ledger, txs)?;
+    let prices = posted(rt, alloc, ledger, assets, body.offers.items(), by)?;
+    Ok(Opened { body, prices })
+}
+
+// The digests, made on a thread of their own where that is worth it, and beside them what the body does and the prices.
+pub fn digests_and_prices<R: Threads + Sync>(
+    rt: &R,
+    alloc: Global,
+    ledger: &Ledger,
+    txs: &[Tx],
+    by: Search,
+) -> (Result<Digests, NoMemory>, Result<Opened, NoMemory>)
+    requires admissible { IsAdmissible ledger.now txs.now }
+    requires few { length txs.now ≤ most_transactions }
+    requires some_search { 1 ≤ by.searches }
+    requires few_searches { by.searches ≤ 8 }
+    ensures digests { IfOk result.0 (AreDigests ledger.now txs.now) }
+    ensures body { IfOk result.1 (λ opened. IsBodyOf ledger.now txs.now opened.body) }
+    ensures prices { IfOk result.1 (λ opened. opened.prices ≡ posted_at ledger.now txs.now by.mu by.rounds by.searches) }
+{
+    if txs.len() < MANY_TRANSACTIONS && ledger.state_length() < MANY_BYTES {
+        let digests = digests_of(alloc, ledger, txs);
+        return (digests, open(rt, alloc, ledger, txs, by));
+    }
+    join(
+        rt,
+        || -> Result<Digests, NoMemory>
+            requires { length txs.now ≤ most_transactions }
+            ensures { IfOk result (AreDigests ledger.entry.now txs.entry.now) }
+        { digests_of(alloc, ledger, txs) },
+        || -> Result<Opened, NoMemory>
+            requires { IsAdmissible ledger.now txs.now × (1 ≤ by.searches) × (by.searches ≤ 8) }
+            ensures body { IfOk result (λ opened. IsBodyOf ledger.entry.now txs.entry.now opened.body) }
+            ensures prices { IfOk result (λ opened. opened.prices ≡ posted_at ledger.entry.now txs.entry.now by.mu by.rounds by.searches) }
+        { open(rt, alloc, ledger, txs, by) },
+    )
+}
