@@ -1,3 +1,4 @@
 pub mod Stream
 pub mod Head
 pub mod Found
+pub mod Incoming

@@ -4,8 +4,8 @@
 //! what it holds: a ledger, candidates, a block, outcomes or a script, each of which is a [`Payload`]. [`end`]
 //! says that nothing comes after it. A command that takes records of several tags uses [`next`], which answers
 //! a record or the end, and [`decoded`], which answers what the record holds. [`take_head`] reads the state at
-//! the beginning of an input with its digest. A large payload is decoded while a thread of its own makes the
-//! digest.
+//! the beginning of an input with its digest, and [`take_block`] and [`decoded_block`] a block with that of its
+//! transactions. A large payload is decoded while a thread of its own makes the digest.
 //!
 //! ```text
 //!     source -> next -> record -> decoded -> ledger, candidates, block, outcomes or script
@@ -21,13 +21,15 @@
 #![tactic(auto)]
 
 mod head;
+mod incoming;
 mod opening;
 mod payloads;
 mod stop;
 mod stream;
 
 pub use head::{Head, written};
+pub use incoming::{Incoming, decoded_block, take_block};
 pub use opening::take_head;
-pub use payloads::{Incoming, Payload, decoded};
+pub use payloads::{Payload, decoded};
 pub use stop::Stop;
 pub use stream::{Taken, end, end_of, next, stop_at, take};

@@ -1,18 +1,16 @@
 //! What the payloads of records hold, their faults told by the offset in the whole input.
 
 ghost use Rattle.std.specs.Prelude.{◌≡◌, ◌+◌, ◌^◌, ◌≤◌, ℕ, length, IfErr, IfOk};
-ghost use Rattle.sha2.specs.Sha256.{sha256};
 ghost use Rattle.sx_bytes.specs.Grammar.{Gives};
 ghost use Rattle.sx_input.specs.Stream.{Holds, IsInPayload, IsWithin, stop_of};
 ghost use Rattle.sx_meaning.specs.Items.{Item, IsItem, payload_at, payload_of, tag_of};
 ghost use Rattle.sx_meaning.specs.Items as item;
 ghost use Rattle.sx_record.specs.Frame.{most_bytes};
 ghost use Rattle.sx_record.specs.Tags.{block_tag, candidates_tag, outcomes_tag, script_tag, state_tag};
-ghost use Rattle.sx_tx.specs.Transactions.{list_bytes};
 
 use crate::stop::Stop;
 use std::alloc::Global;
-use sx_block::{Block, Digest, block_laws, digest_of, header_length, read_block};
+use sx_block::{Block, block_laws, read_block};
 use sx_bytes::{FormFault, ReadError};
 use sx_layout::{Outcomes, Script, outcome_list_laws, read_outcomes, read_script, script_laws};
 use sx_ledger::{Ledger, read_state, state_laws};
@@ -84,30 +82,6 @@ impl Payload for Block {
     fn read(alloc: Global, payload: &[u8]) -> Result<Block, ReadError> {
         block_laws();
         read_block(alloc, payload)
-    }
-}
-
-/// A block that was read, and the digest of its transactions.
-#[derive(Debug, Drop)]
-pub struct Incoming {
-    pub block: Block,
-    pub body: Digest,
-}
-
-impl Payload for Incoming {
-    ghost TAG = { block_tag };
-
-    ghost item = { λ incoming. item.block incoming.block };
-
-    ghost goes_with = { λ incoming. incoming.body ≡ sha256 (list_bytes incoming.block.txs) };
-
-    const TAG: u8 = tag::BLOCK;
-
-    fn read(alloc: Global, payload: &[u8]) -> Result<Incoming, ReadError> {
-        block_laws();
-        let block = read_block(alloc, payload)?;
-        let body = digest_of(&payload[header_length(&block)..]);
-        Ok(Incoming { block, body })
     }
 }
 

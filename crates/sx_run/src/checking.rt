@@ -15,7 +15,7 @@ use std::alloc::Global;
 use std::thread::Threads;
 use sx_base::Source;
 use sx_check::CheckFault;
-use sx_input::{Head, Incoming, Stop, end, take, take_head};
+use sx_input::{Head, Incoming, Stop, end, take_block, take_head};
 use sx_text::{Text, check_line};
 use sx_words::Command;
 
@@ -41,7 +41,7 @@ pub fn check<R: Threads, S: Source>(rt: &R, alloc: Global, source: &mut S) -> Re
     ensures read_fault { IsErrOf result Stop.ReadFault → Rose (S.faults source.old) (S.faults source.new) }
 {
     let opening = take_head(rt, alloc, source)?;
-    let incoming = take::<Incoming, S>(alloc, source, opening.end)?;
+    let incoming = take_block(rt, alloc, source, opening.end)?;
     end(alloc, source, incoming.end)?;
     verdict(alloc, opening.held, &incoming.held)
 }

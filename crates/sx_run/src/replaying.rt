@@ -15,7 +15,7 @@ use std::thread::Threads;
 use sx_base::Source;
 use sx_bytes::{Form, FormFault, Writer};
 use sx_check::CheckFault;
-use sx_input::{Head, Incoming, Stop, decoded, end_of, next, take_head};
+use sx_input::{Head, Stop, decoded, decoded_block, end_of, next, take_head};
 use sx_layout::Outcomes;
 use sx_record::{Record, tag};
 use sx_words::Command;
@@ -45,7 +45,12 @@ fn tags(after_block: bool) -> &'static [u8]
 }
 
 // A block, judged on the ledger so far and applied.
-fn step_block(alloc: Global, place: Place, found: &Record) -> Result<Place, Stop>
+fn step_block<R: Threads>(
+    rt: &R,
+    alloc: Global,
+    place: Place,
+    found: &Record,
+) -> Result<Place, Stop>
     requires place { MayGoOn place }
     requires found { IsNext place found.now }
     requires tag { found.now.tag ≡ block_tag }
@@ -57,7 +62,7 @@ fn step_block(alloc: Global, place: Place, found: &Record) -> Result<Place, Stop
             fault: Form::TooMany,
         }));
     }
-    let incoming = decoded::<Incoming>(alloc, found)?;
+    let incoming = decoded_block(rt, alloc, found)?;
     match advance(alloc, place.head, &incoming) {
         Ok(advanced) => Ok(Place {
             head: advanced.head,
@@ -90,7 +95,7 @@ fn step_outcomes(alloc: Global, place: Place, found: &Record) -> Result<Place, S
 }
 
 // One record after the state.
-fn step(alloc: Global, place: Place, found: &Record) -> Result<Place, Stop>
+fn step<R: Threads>(rt: &R, alloc: Global, place: Place, found: &Record) -> Result<Place, Stop>
     requires place { MayGoOn place }
     requires found { IsNext place found.now }
     ensures { Steps place found.now result }
@@ -98,7 +103,7 @@ fn step(alloc: Global, place: Place, found: &Record) -> Result<Place, Stop>
     if found.tag == tag::OUTCOMES {
         step_outcomes(alloc, place, found)
     } else {
-        step_block(alloc, place, found)
+        step_block(rt, alloc, place, found)
     }
 }
 
@@ -116,7 +121,7 @@ pub fn replay<R: Threads, S: Source>(rt: &R, alloc: Global, source: &mut S) -> R
         after_block: false,
     };
     while let Some(found) = next(alloc, source, place.at, tags(place.after_block))? {
-        place = step(alloc, place, &found)?;
+        place = step(rt, alloc, place, &found)?;
     }
     Ok(place.head.into_state(alloc)?)
 }
