@@ -6,9 +6,9 @@ use Rattle.sx_meaning.specs.Outputs.{MayWrite, Writes}
 use Rattle.sx_meaning.specs.SealLaws.{DemosAlike, SealsAlike}
 use Rattle.sx_words.specs.declared.command.Command.TheVariants.{Demo, Seal}
 
-module _ (workers others shards more mu rounds : ℕ) where
-  may_come : (before items : List Item) → MayComeAll (Seal workers shards mu rounds) before items
-      → MayComeAll (Seal others more mu rounds) before items
+module _ (workers others shards more mu rounds searches : ℕ) where
+  may_come : (before items : List Item) → MayComeAll (Seal workers shards mu rounds searches) before items
+      → MayComeAll (Seal others more mu rounds searches) before items
   may_come before [] each = tt
   may_come before (next ∷ items) each = (
     record { listed = each.0.listed; form = each.0.form; goes_on = tt },
@@ -16,20 +16,20 @@ module _ (workers others shards more mu rounds : ℕ) where
   )
 
 pub seals_alike : SealsAlike
-seals_alike workers others shards more mu rounds bytes text left x =
+seals_alike workers others shards more mu rounds searches bytes text left x =
     let found = x.found in
-    let end : FindsAtEnd (Seal workers shards mu rounds) found.items found.rest no_fault left = found.finds in
+    let end : FindsAtEnd (Seal workers shards mu rounds searches) found.items found.rest no_fault left = found.finds in
     let c = end.concludes in
-    let wrote = subst (λ (l : List Item). Writes (Seal workers shards mu rounds) l text) c.are x.writes in
+    let wrote = subst (λ (l : List Item). Writes (Seal workers shards mu rounds searches) l text) c.are x.writes in
     record {
       found = record {
         items = found.items;
         rest = found.rest;
-        each = may_come workers others shards more mu rounds [] found.items found.each;
+        each = may_come workers others shards more mu rounds searches [] found.items found.each;
         read = found.read;
         finds = record { done = end.done; may = end.may; concludes = c };
       };
-      writes = subst (λ (l : List Item). Writes (Seal others more mu rounds) l text) (sym c.are) wrote;
+      writes = subst (λ (l : List Item). Writes (Seal others more mu rounds searches) l text) (sym c.are) wrote;
     }
 
 none_come : (number workers others : ℕ) (items : List Item) → MayComeAll (Demo number workers) [] items

@@ -7,7 +7,7 @@ use Rattle.sx_block.specs.Validity.{high_in, undropped_low_in}
 use Rattle.sx_bytes.specs.declared.fault.Form.TheVariants as form
 use Rattle.sx_bytes.specs.declared.fault.FormFault.{FormFault}
 use Rattle.sx_check.specs.declared.invalid.Invalid.{Invalid}
-use Rattle.sx_clear.specs.Quotes.{searched_at}
+use Rattle.sx_clear.specs.Quotes.{posted_at}
 use Rattle.sx_dual.specs.Circulation.{HaveNoCirculation}
 use Rattle.sx_ledger.specs.declared.parts.Parts.{Parts}
 use Rattle.sx_ledger.specs.Ledger.{assets_of}
@@ -110,15 +110,15 @@ not_any_bytes (suc (suc n), few, is) = absurd (omega (arith, few))
 -- ---- seals
 
 -- what a seal writes is of version 1, at the margin and the rounds of the words, and drops no bound without need
-module _ (parts : Parts) (txs : List Tx) (mu rounds : ℕ) (text : List ℕ)
-    (wrote : IsSealed parts txs mu rounds text) where
+module _ (parts : Parts) (txs : List Tx) (mu rounds searches : ℕ) (text : List ℕ)
+    (wrote : IsSealed parts txs mu rounds searches text) where
   has_version_1 : wrote.said.header.version ≡ 1
   has_version_1 = wrote.made.cleared.version
 
   has_margin : wrote.said.header.mu ≡ mu
   has_margin = wrote.made.cleared.margin
 
-  has_searched_prices : wrote.said.header.prices ≡ searched_at parts wrote.said.txs mu rounds
+  has_searched_prices : wrote.said.header.prices ≡ posted_at parts wrote.said.txs mu rounds searches
   has_searched_prices = wrote.made.cleared.prices
 
   kept_bounds_can_be_kept : HaveNoCirculation (assets_of parts) (undropped_low_in parts wrote.said)

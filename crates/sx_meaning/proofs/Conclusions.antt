@@ -120,7 +120,7 @@ module _ (one_reason : OneReason) (not_refused : ValidIsNotRefused) where
   one_conclusion Check = one_check
   one_conclusion (Replay workers) = one_replay
   one_conclusion Interleave = one_interleave
-  one_conclusion (Seal workers shards mu rounds) = one_seal
+  one_conclusion (Seal workers shards mu rounds searches) = one_seal
   one_conclusion Show = one_show
   one_conclusion Migrate = one_migration
   one_conclusion (Demo number workers) = one_demo
@@ -148,7 +148,7 @@ module _ (one_reason : OneReason) where
   one_stop (Replay workers) items said number other why reason x y =
       one_refusal items said number other why reason x y
   one_stop Interleave items said number other why reason x y = absurd x
-  one_stop (Seal workers shards mu rounds) items said number other why reason x y = absurd x
+  one_stop (Seal workers shards mu rounds searches) items said number other why reason x y = absurd x
   one_stop Show items said number other why reason x y = absurd x
   one_stop Migrate items said number other why reason x y = absurd x
   one_stop (Demo seed workers) items said number other why reason x y = absurd x

@@ -58,7 +58,7 @@ reads_to_end Check items bytes left takes done = in_turn_ends (state_tag ∷ blo
 reads_to_end (Replay workers) items bytes left takes done = replay_ends items bytes left done
 reads_to_end Interleave items bytes left takes done =
     in_turn_ends (state_tag ∷ candidates_tag ∷ script_tag ∷ []) items bytes left done
-reads_to_end (Seal workers shards mu rounds) items bytes left takes done =
+reads_to_end (Seal workers shards mu rounds searches) items bytes left takes done =
     in_turn_ends (state_tag ∷ candidates_tag ∷ []) items bytes left done
 reads_to_end Show items bytes left takes done = show_ends items bytes left done
 reads_to_end Migrate items bytes left takes done = in_turn_ends (state_tag ∷ []) items bytes left done
@@ -80,8 +80,8 @@ pub read_whole : (command : Command) (a b : Option (List ℕ)) (text : List ℕ)
 read_whole Check a b text same finds = read_to_end Check a b text refl finds
 read_whole (Replay workers) a b text same finds = read_to_end (Replay workers) a b text refl finds
 read_whole Interleave a b text same finds = read_to_end Interleave a b text refl finds
-read_whole (Seal workers shards mu rounds) a b text same finds =
-    read_to_end (Seal workers shards mu rounds) a b text refl finds
+read_whole (Seal workers shards mu rounds searches) a b text same finds =
+    read_to_end (Seal workers shards mu rounds searches) a b text refl finds
 read_whole Show a b text same finds = read_to_end Show a b text refl finds
 read_whole Migrate a b text same finds = read_to_end Migrate a b text refl finds
 read_whole (Demo number workers) a b text same finds = same refl

@@ -133,7 +133,7 @@ stops_where_expected : (command : Command) (items : List Item) (said : Block) (n
 stops_where_expected Check items said number why stops = absurd stops
 stops_where_expected (Replay workers) items said number why stops = expected_block items said number why stops
 stops_where_expected Interleave items said number why stops = absurd stops
-stops_where_expected (Seal workers shards mu rounds) items said number why stops = absurd stops
+stops_where_expected (Seal workers shards mu rounds searches) items said number why stops = absurd stops
 stops_where_expected Show items said number why stops = absurd stops
 stops_where_expected Migrate items said number why stops = absurd stops
 stops_where_expected (Demo seed workers) items said number why stops = absurd stops
@@ -161,7 +161,7 @@ module _ (one_reason : OneReason) (not_refused : ValidIsNotRefused) where
   never_goes_on (Replay workers) items said number why stops may =
       refused_next items said number why stops may.goes_on
   never_goes_on Interleave items said number why stops may = absurd stops
-  never_goes_on (Seal workers shards mu rounds) items said number why stops may = absurd stops
+  never_goes_on (Seal workers shards mu rounds searches) items said number why stops may = absurd stops
   never_goes_on Show items said number why stops may = absurd stops
   never_goes_on Migrate items said number why stops may = absurd stops
   never_goes_on (Demo seed workers) items said number why stops may = absurd stops

@@ -32,7 +32,7 @@ one_text Interleave items one other is c x y =
 one_text Migrate items one other is c x y =
     subst (λ (l : List Item). Writes Migrate l one) c.are x
     ∙ sym (subst (λ (l : List Item). Writes Migrate l other) c.are y)
-one_text (Seal workers shards mu rounds) items one other is c x y = absurd cc
+one_text (Seal workers shards mu rounds searches) items one other is c x y = absurd cc
 one_text Show items one other is c x y =
     subst (λ (l : List Item). Writes Show l one) c.are x
     ∙ sym (subst (λ (l : List Item). Writes Show l other) c.are y)
@@ -52,7 +52,7 @@ some_text Interleave items is c =
 some_text Migrate items is c =
     let text = state_record (migrated c.parts) in
     (text, subst (λ (l : List Item). Writes Migrate l text) (sym c.are) refl)
-some_text (Seal workers shards mu rounds) items is c = absurd cc
+some_text (Seal workers shards mu rounds searches) items is c = absurd cc
 some_text Show items is c =
     let text = shown_text (shown_of c.item) in
     (text, subst (λ (l : List Item). Writes Show l text) (sym c.are) refl)

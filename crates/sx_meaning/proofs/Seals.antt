@@ -78,19 +78,19 @@ module _ (parts : Parts) (said : Block) (is : IsLedger parts) (valid : IsValid p
   }
 
 pub seals_leave_their_meaning : ValidSettles → SealsLeaveTheirMeaning
-seals_leave_their_meaning settles workers shards mu rounds bytes text left x =
+seals_leave_their_meaning settles workers shards mu rounds searches bytes text left x =
     let found = x.found in
-    let end : FindsAtEnd (Seal workers shards mu rounds) found.items found.rest no_fault left = found.finds in
+    let end : FindsAtEnd (Seal workers shards mu rounds searches) found.items found.rest no_fault left = found.finds in
     let c = end.concludes in
-    let each = subst (λ (l : List Item). MayComeAll (Seal workers shards mu rounds) [] l) c.are found.each in
-    let wrote : IsSealed c.parts c.txs mu rounds text =
-    subst (λ (l : List Item). Writes (Seal workers shards mu rounds) l text) c.are x.writes in
+    let each = subst (λ (l : List Item). MayComeAll (Seal workers shards mu rounds searches) [] l) c.are found.each in
+    let wrote : IsSealed c.parts c.txs mu rounds searches text =
+    subst (λ (l : List Item). Writes (Seal workers shards mu rounds searches) l text) c.are x.writes in
     let told = gathered_form c.parts c.txs wrote.told wrote.said.txs each.1.0.form wrote.made.gathered in
     record {
       parts = c.parts;
       txs = c.txs;
       read = found.read ∙ ap (λ (r : List ℕ). records found.items ++ r)
-          (reads_to_end (Seal workers shards mu rounds) found.items found.rest left refl end.done).0
+          (reads_to_end (Seal workers shards mu rounds searches) found.items found.rest left refl end.done).0
           ∙ append-nil (records found.items) ∙ ap (λ (l : List Item). records l) c.are;
       said = wrote.said;
       told = wrote.told;

@@ -96,9 +96,9 @@ knows Interleave [] = λ tag among. inl (only_tag state_tag tag among)
 knows Interleave (one ∷ []) = λ tag among. inr (inl (only_tag candidates_tag tag among))
 knows Interleave (one ∷ other ∷ []) = λ tag among. inr (inr (inr (inr (only_tag script_tag tag among))))
 knows Interleave (one ∷ other ∷ third ∷ more) = tt
-knows (Seal workers shards mu rounds) [] = λ tag among. inl (only_tag state_tag tag among)
-knows (Seal workers shards mu rounds) (one ∷ []) = λ tag among. inr (inl (only_tag candidates_tag tag among))
-knows (Seal workers shards mu rounds) (one ∷ other ∷ more) = tt
+knows (Seal workers shards mu rounds searches) [] = λ tag among. inl (only_tag state_tag tag among)
+knows (Seal workers shards mu rounds searches) (one ∷ []) = λ tag among. inr (inl (only_tag candidates_tag tag among))
+knows (Seal workers shards mu rounds searches) (one ∷ other ∷ more) = tt
 knows Show [] = known_any
 knows Show (one ∷ more) = tt
 knows Migrate [] = λ tag among. inl (only_tag state_tag tag among)
@@ -140,17 +140,18 @@ interleave_items (one ∷ other ∷ third ∷ []) each may =
     (s.0, c.0, t.0, are)
 interleave_items (one ∷ other ∷ third ∷ fourth ∷ more) each may = absurd each.1.1.1.0.listed
 
-seal_items : (workers shards mu rounds : ℕ) (items : List Item) → MayComeAll (Seal workers shards mu rounds) [] items
-    → IsTrue (may_end (expected (Seal workers shards mu rounds) items))
+seal_items : (workers shards mu rounds searches : ℕ) (items : List Item)
+    → MayComeAll (Seal workers shards mu rounds searches) [] items
+    → IsTrue (may_end (expected (Seal workers shards mu rounds searches) items))
     → (parts : Parts) × (txs : List Tx) × (items ≡ state parts ∷ candidates txs ∷ [])
-seal_items workers shards mu rounds [] each may = absurd cc
-seal_items workers shards mu rounds (one ∷ []) each may = absurd cc
-seal_items workers shards mu rounds (one ∷ other ∷ []) each may =
+seal_items workers shards mu rounds searches [] each may = absurd cc
+seal_items workers shards mu rounds searches (one ∷ []) each may = absurd cc
+seal_items workers shards mu rounds searches (one ∷ other ∷ []) each may =
     let s = a_state one (only_tag state_tag (tag_of one) each.0.listed.0) in
     let c = are_candidates other (only_tag candidates_tag (tag_of other) each.1.0.listed.0) in
     let are = ap (λ (i : Item). i ∷ other ∷ []) s.1 ∙ ap (λ (i : Item). state s.0 ∷ i ∷ []) c.1 in
     (s.0, c.0, are)
-seal_items workers shards mu rounds (one ∷ other ∷ third ∷ more) each may = absurd each.1.1.0.listed
+seal_items workers shards mu rounds searches (one ∷ other ∷ third ∷ more) each may = absurd each.1.1.0.listed
 
 migrate_items : (items : List Item) → MayComeAll Migrate [] items → IsTrue (may_end (expected Migrate items))
     → (parts : Parts) × (items ≡ state parts ∷ [])
@@ -233,28 +234,29 @@ module _ (judged : EveryBlockIsJudged) where
       let is = interleave_items items each may in
       in_room is.0 is.1 is.2 items is.3 (room_for is.0 is.1) refl
 
-  in_room_to_seal : (workers shards mu rounds : ℕ) (parts : Parts) (txs : List Tx) (items : List Item)
+  in_room_to_seal : (workers shards mu rounds searches : ℕ) (parts : Parts) (txs : List Tx) (items : List Item)
       → items ≡ state parts ∷ candidates txs ∷ [] → (r : Result (Unit {0}) NoRoom) → room_for parts txs ≡ r
-      → Concluded (Seal workers shards mu rounds) items
-  in_room_to_seal workers shards mu rounds parts txs items are (Ok tt) e =
+      → Concluded (Seal workers shards mu rounds searches) items
+  in_room_to_seal workers shards mu rounds searches parts txs items are (Ok tt) e =
       inl (record { parts = parts; txs = txs; are = are; finds = e })
-  in_room_to_seal workers shards mu rounds parts txs items are (Err why) e =
+  in_room_to_seal workers shards mu rounds searches parts txs items are (Err why) e =
       inr (0, as_invalid why, record { parts = parts; txs = txs; are = are; finds = (refl, (why, e, refl)) })
 
-  some_seal : (workers shards mu rounds : ℕ) (items : List Item) → MayComeAll (Seal workers shards mu rounds) [] items
-      → IsTrue (may_end (expected (Seal workers shards mu rounds) items))
-      → Concluded (Seal workers shards mu rounds) items
-  some_seal workers shards mu rounds items each may =
-      let is = seal_items workers shards mu rounds items each may in
-      in_room_to_seal workers shards mu rounds is.0 is.1 items is.2 (room_for is.0 is.1) refl
+  some_seal : (workers shards mu rounds searches : ℕ) (items : List Item)
+      → MayComeAll (Seal workers shards mu rounds searches) [] items
+      → IsTrue (may_end (expected (Seal workers shards mu rounds searches) items))
+      → Concluded (Seal workers shards mu rounds searches) items
+  some_seal workers shards mu rounds searches items each may =
+      let is = seal_items workers shards mu rounds searches items each may in
+      in_room_to_seal workers shards mu rounds searches is.0 is.1 items is.2 (room_for is.0 is.1) refl
 
   some_conclusion : (command : Command) (items : List Item) → MayComeAll command [] items
       → IsTrue (may_end (expected command items)) → Concluded command items
   some_conclusion Check items each may = some_check items each may
   some_conclusion (Replay workers) items each may = some_replay workers items each may
   some_conclusion Interleave items each may = some_interleave items each may
-  some_conclusion (Seal workers shards mu rounds) items each may =
-      some_seal workers shards mu rounds items each may
+  some_conclusion (Seal workers shards mu rounds searches) items each may =
+      some_seal workers shards mu rounds searches items each may
   some_conclusion Show items each may =
       let is = show_items items each may in inl (record { item = is.0; are = is.1; finds = refl })
   some_conclusion Migrate items each may = some_migrate items each may
@@ -299,7 +301,7 @@ module _ (judged : EveryBlockIsJudged) where
         → IsExpected (expected command items) (tag_of item) → IsItem item → GoesOnOrStops command items item
     goes_or_stops Check items item each may form = inl tt
     goes_or_stops Interleave items item each may form = inl tt
-    goes_or_stops (Seal workers shards mu rounds) items item each may form = inl tt
+    goes_or_stops (Seal workers shards mu rounds searches) items item each may form = inl tt
     goes_or_stops Show items item each may form = inl tt
     goes_or_stops Migrate items item each may form = inl tt
     goes_or_stops (Demo seed workers) items item each may form = inl tt

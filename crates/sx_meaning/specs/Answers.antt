@@ -74,7 +74,7 @@ asked words = command_of (texts words)
 -- a command that reads nothing
 abbrev pub takes_no_input : Command → Bool
 takes_no_input (Demo number workers) = true
-takes_no_input (Seal workers shards mu rounds) = false
+takes_no_input (Seal workers shards mu rounds searches) = false
 takes_no_input Check = false
 takes_no_input (Replay workers) = false
 takes_no_input Interleave = false

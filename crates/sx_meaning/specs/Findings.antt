@@ -141,7 +141,7 @@ one_record (item ∷ items) = end_only
 
 -- what may come after these items
 abbrev pub expected : Command → List Item → Expected
-expected (Seal workers shards mu rounds) = in_turn (state_tag ∷ candidates_tag ∷ [])
+expected (Seal workers shards mu rounds searches) = in_turn (state_tag ∷ candidates_tag ∷ [])
 expected Check = in_turn (state_tag ∷ block_tag ∷ [])
 expected (Replay workers) = expected_in_replay
 expected Interleave = in_turn (state_tag ∷ candidates_tag ∷ script_tag ∷ [])
@@ -151,7 +151,7 @@ expected (Demo number workers) = λ items. unread
 
 -- what is found of these items where no more comes
 abbrev pub Concludes : Command → List Item → Finding → Type 0
-Concludes (Seal workers shards mu rounds) = Seals
+Concludes (Seal workers shards mu rounds searches) = Seals
 Concludes Check = Checks
 Concludes (Replay workers) = Replays
 Concludes Interleave = Interleaves

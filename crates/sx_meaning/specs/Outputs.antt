@@ -25,7 +25,8 @@ shown_of (script turns) = shown.Script turns
 -- what may be written of the items of an input: how many workers there are is said nowhere
 abbrev pub Writes : Command → List Item → List ℕ → Type 0
 -- a block and what became of each candidate
-Writes (Seal workers shards mu rounds) (state parts ∷ candidates txs ∷ []) text = IsSealed parts txs mu rounds text
+Writes (Seal workers shards mu rounds searches) (state parts ∷ candidates txs ∷ []) text =
+    IsSealed parts txs mu rounds searches text
 -- the line of a valid block
 Writes Check (state parts ∷ block said ∷ []) text = text ≡ checked_text (checked_of said)
 -- the record of the ledger after all blocks
@@ -49,7 +50,7 @@ writes_one (Replay workers) = true
 writes_one Interleave = true
 writes_one Migrate = true
 writes_one Show = true
-writes_one (Seal workers shards mu rounds) = false
+writes_one (Seal workers shards mu rounds searches) = false
 writes_one (Demo number workers) = false
 
 -- no fault is found of an input, this may be written of its items, and this is left of it

@@ -3,7 +3,7 @@ use Rattle.std.specs.Prelude.{◌≡◌, ℕ, List, [], ◌∷◌, ◌++◌, len
 use Rattle.sx_block.specs.declared.header.Block.{Block}
 use Rattle.sx_block.specs.Validity.{ledger_after}
 use Rattle.sx_check.specs.Checked.{checked_of}
-use Rattle.sx_clear.specs.Quotes.{searched_at}
+use Rattle.sx_clear.specs.Quotes.{posted_at}
 use Rattle.sx_gen.specs.State.{demo_parts}
 use Rattle.sx_layout.specs.declared.outcome.Outcome.{Outcome}
 use Rattle.sx_layout.specs.Gathering.{body_of, decisions}
@@ -18,7 +18,7 @@ use Rattle.sx_words.specs.declared.command.Command.TheVariants.{Check, Demo, Rep
 
 -- a state and candidates were read, and what was written is a block, with outcomes after it, that leaves exactly what
 -- its transactions and its header mean
-pub record LeavesItsMeaning (mu rounds : ℕ) (bytes text : List ℕ) : Type 0 where
+pub record LeavesItsMeaning (mu rounds searches : ℕ) (bytes text : List ℕ) : Type 0 where
   pub parts : Parts
   pub txs : List Tx
   pub read : bytes ≡ records (state parts ∷ candidates txs ∷ [])
@@ -31,7 +31,7 @@ pub record LeavesItsMeaning (mu rounds : ℕ) (bytes text : List ℕ) : Type 0 w
   -- the version, the margin and the prices are those that were asked for
   pub version : said.header.version ≡ 1
   pub margin : said.header.mu ≡ mu
-  pub prices : said.header.prices ≡ searched_at parts said.txs mu rounds
+  pub prices : said.header.prices ≡ posted_at parts said.txs mu rounds searches
   -- a check of the state and the block tells that it is valid
   pub checks : MayWrite Check (records (state parts ∷ block said ∷ [])) (checked_text (checked_of said)) []
   -- a replay of the state and of what was written, by any number of workers, writes the ledger after the block
@@ -42,14 +42,15 @@ pub record LeavesItsMeaning (mu rounds : ℕ) (bytes text : List ℕ) : Type 0 w
 -- so it is with all that a seal may write, however many workers and shards there are
 abbrev pub SealsLeaveTheirMeaning : Type 0
 SealsLeaveTheirMeaning =
-    (workers shards mu rounds : ℕ) (bytes text left : List ℕ) → MayWrite (Seal workers shards mu rounds) bytes text left
-    → LeavesItsMeaning mu rounds bytes text
+    (workers shards mu rounds searches : ℕ) (bytes text left : List ℕ)
+    → MayWrite (Seal workers shards mu rounds searches) bytes text left → LeavesItsMeaning mu rounds searches bytes text
 
 -- how many workers and shards there are does not change what may be written
 abbrev pub SealsAlike : Type 0
 SealsAlike =
-    (workers others shards more mu rounds : ℕ) (bytes text left : List ℕ)
-    → MayWrite (Seal workers shards mu rounds) bytes text left → MayWrite (Seal others more mu rounds) bytes text left
+    (workers others shards more mu rounds searches : ℕ) (bytes text left : List ℕ)
+    → MayWrite (Seal workers shards mu rounds searches) bytes text left
+    → MayWrite (Seal others more mu rounds searches) bytes text left
 
 -- and so it is with a demonstration
 abbrev pub DemosAlike : Type 0

@@ -27,7 +27,7 @@ use Rattle.sx_meaning.specs.Sealing.{IsDemonstrated, IsMadeOf}
 use Rattle.sx_text.specs.Demonstration.{demo_text}
 use Rattle.sx_tx.specs.declared.tx.Tx.{Tx}
 use Rattle.sx_words.specs.declared.command.Command.TheVariants.{Demo}
-use Rattle.sx_words.specs.declared.setting.Setting.TheVariants.{Mu, Rounds}
+use Rattle.sx_words.specs.declared.setting.Setting.TheVariants.{Mu, Rounds, Searches}
 use Rattle.sx_words.specs.Settings.{default_of}
 
 -- ---- room
@@ -89,14 +89,17 @@ pub eight_assets : (said : Block) → IsValid demo_parts said → length said.he
 unfolding demo_parts
 eight_assets said valid = valid.rules rule.Assets
 
-pub summed_up : (number mu rounds : ℕ) (said : Block) (told : List Outcome) (checked : Checked) (text : List ℕ)
-    → mu ≡ default_of Mu → rounds ≡ default_of Rounds → IsMadeOf demo_parts (demo_txs number) mu rounds said told
-    → checked ≡ checked_of said → text ≡ demo_text number told checked said.header → IsDemonstrated number text
-summed_up number mu rounds said told checked text margin most made is summed = record {
+pub summed_up : (number mu rounds searches : ℕ) (said : Block) (told : List Outcome) (checked : Checked)
+    (text : List ℕ)
+    → mu ≡ default_of Mu → rounds ≡ default_of Rounds → searches ≡ default_of Searches
+    → IsMadeOf demo_parts (demo_txs number) mu rounds searches said told → checked ≡ checked_of said
+    → text ≡ demo_text number told checked said.header → IsDemonstrated number text
+summed_up number mu rounds searches said told checked text margin most count made is summed = record {
   said = said;
   told = told;
-  made = subst (λ (n : ℕ). IsMadeOf demo_parts (demo_txs number) (default_of Mu) n said told) most
-      (subst (λ (n : ℕ). IsMadeOf demo_parts (demo_txs number) n rounds said told) margin made);
+  made = subst (λ (n : ℕ). IsMadeOf demo_parts (demo_txs number) (default_of Mu) (default_of Rounds) n said told) count
+      (subst (λ (n : ℕ). IsMadeOf demo_parts (demo_txs number) (default_of Mu) n searches said told) most
+      (subst (λ (n : ℕ). IsMadeOf demo_parts (demo_txs number) n rounds searches said told) margin made));
   summed = summed ∙ ap (λ (c : Checked). demo_text number told c said.header) is;
 }
 

@@ -3,3 +3,4 @@ pub mod Steps
 pub mod Answering
 pub mod Demonstrations
 pub mod Shown
+pub mod ListLengths

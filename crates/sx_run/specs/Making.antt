@@ -15,10 +15,12 @@ pub record AreNumbers (numbers : Numbers) : Type 0 where
   pub few_workers : numbers.workers ≤ 64
   pub some_shard : 1 ≤ numbers.shards
   pub few_shards : numbers.shards ≤ 64
+  pub some_search : 1 ≤ numbers.searches
+  pub few_searches : numbers.searches ≤ 8
 
 -- the seal of these numbers
 abbrev pub seal_of : Numbers → Command
-seal_of numbers = Seal numbers.workers numbers.shards numbers.mu numbers.rounds
+seal_of numbers = Seal numbers.workers numbers.shards numbers.mu numbers.rounds numbers.searches
 
 -- why a seal stops where candidates are not gathered
 abbrev pub IsStoppedBy : GatherFault → Stop → Type 0

@@ -36,12 +36,14 @@ fn numbers_of(workers: u32) -> Numbers
     ensures range { AreNumbers result }
     ensures mu { result.mu ≡ default_of Setting.Mu }
     ensures rounds { result.rounds ≡ default_of Setting.Rounds }
+    ensures searches { result.searches ≡ default_of Setting.Searches }
 {
     Numbers {
         workers,
         shards: Setting::Shards.default(),
         mu: Mu::new(Setting::Mu.default() as u8).unwrap(),
         rounds: Setting::Rounds.default(),
+        searches: Setting::Searches.default(),
     }
 }
 
@@ -69,7 +71,7 @@ fn made<R: Threads + Sync, G: Gate + Sync, L: ledger::Ledger>(
     requires ledger { IsLedger ledger.now }
     requires parts { ledger.now ≡ demo_parts }
     requires numbers { AreNumbers numbers }
-    ensures made { IfOk result (λ made. IsMadeOf demo_parts (demo_txs number) numbers.mu numbers.rounds made.block made.outcomes) }
+    ensures made { IfOk result (λ made. IsMadeOf demo_parts (demo_txs number) numbers.mu numbers.rounds numbers.searches made.block made.outcomes) }
     ensures counted { steps.new ≤ steps.old + most_clearing_searches }
     ensures rising { steps.old ≤ steps.new }
 {

@@ -35,6 +35,7 @@ mod advancing;
 mod checking;
 mod demonstrating;
 mod interleaving;
+mod lengths;
 mod making;
 mod migrating;
 mod output;

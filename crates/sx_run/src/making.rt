@@ -16,7 +16,7 @@ use std::sync::ledger;
 use std::thread::Threads;
 use sx_block::Block;
 use sx_bytes::NoMemory;
-use sx_clear::clear;
+use sx_clear::clear_many;
 use sx_gather::{GatherFault, Sealed};
 use sx_layout::{Outcomes, gathering_laws};
 use sx_ledger::Ledger;
@@ -25,14 +25,15 @@ use sx_price::Mu;
 use sx_tx::TxList;
 use sx_workers::{Gate, gather_all};
 
-// How a block is made: how many threads gather on how many shards, the margin, and how many rounds the
-// search for prices has at most.
+// How a block is made: how many threads gather on how many shards, the margin, how many rounds a search for
+// prices has at most, and how many searches there are.
 #[derive(Clone, Copy, Debug)]
 pub struct Numbers {
     pub workers: u32,
     pub shards: u32,
     pub mu: Mu,
     pub rounds: u32,
+    pub searches: u32,
 }
 
 // A block of candidates, and what became of each of them.
@@ -80,14 +81,24 @@ fn cleared<R: Threads + Sync, L: ledger::Ledger>(
     requires admissible { IsAdmissible ledger.now sealed.txs }
     requires few { length sealed.txs ≤ most_transactions }
     requires below_last { ledger.now.height < most_height }
-    ensures cleared { IfOk result (λ made. IsClearedFor ledger.now numbers.mu numbers.rounds made.block) }
+    requires numbers { AreNumbers numbers }
+    ensures cleared { IfOk result (λ made. IsClearedFor ledger.now numbers.mu numbers.rounds numbers.searches made.block) }
     ensures txs { IfOk result (λ made. made.block.txs ≡ sealed.txs) }
     ensures outcomes { IfOk result (λ made. made.outcomes ≡ sealed.outcomes) }
     ensures counted { steps.new ≤ steps.old + most_clearing_searches }
     ensures rising { steps.old ≤ steps.new }
 {
     let Sealed { txs, outcomes } = sealed;
-    let block = clear(rt, alloc, ledger, txs, numbers.mu, numbers.rounds, steps)?;
+    let block = clear_many(
+        rt,
+        alloc,
+        ledger,
+        txs,
+        numbers.mu,
+        numbers.rounds,
+        numbers.searches,
+        steps,
+    )?;
     Ok(Made { block, outcomes })
 }
 
@@ -105,7 +116,7 @@ pub fn make<R: Threads + Sync, G: Gate + Sync, L: ledger::Ledger>(
     requires ledger { IsLedger ledger.now }
     requires few { length candidates ≤ most_transactions }
     requires numbers { AreNumbers numbers }
-    ensures made { IfOk result (λ made. IsMadeOf ledger.now candidates numbers.mu numbers.rounds made.block made.outcomes) }
+    ensures made { IfOk result (λ made. IsMadeOf ledger.now candidates numbers.mu numbers.rounds numbers.searches made.block made.outcomes) }
     ensures room { IfOk result (λ _. room_for ledger.now candidates ≡ Ok tt) }
     ensures fault { IfErr result (IsFaultOf (room_for ledger.now candidates)) }
     ensures counted { steps.new ≤ steps.old + most_clearing_searches }

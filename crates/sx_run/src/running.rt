@@ -35,10 +35,10 @@ use sx_words::{Command, WordsFault, parse};
 use sx_workers::Gate;
 
 // The numbers of a seal that words ask for.
-fn numbers_of(workers: u32, shards: u32, mu: u8, rounds: u32) -> Numbers
-    requires { InRange (Command.Seal workers shards mu rounds) }
+fn numbers_of(workers: u32, shards: u32, mu: u8, rounds: u32, searches: u32) -> Numbers
+    requires { InRange (Command.Seal workers shards mu rounds searches) }
     ensures range { AreNumbers result }
-    ensures same { seal_of result ≡ Command.Seal workers shards mu rounds }
+    ensures same { seal_of result ≡ Command.Seal workers shards mu rounds searches }
 {
     match Mu::new(mu) {
         Ok(mu) => Numbers {
@@ -46,6 +46,7 @@ fn numbers_of(workers: u32, shards: u32, mu: u8, rounds: u32) -> Numbers
             shards,
             mu,
             rounds,
+            searches,
         },
         Err(_) => unreachable!(),
     }
@@ -82,8 +83,9 @@ fn output_of<R: Threads + Sync, S: Source, G: Gate + Sync, L: Ledger>(
             shards,
             mu,
             rounds,
+            searches,
         } => {
-            let numbers = numbers_of(workers, shards, mu, rounds);
+            let numbers = numbers_of(workers, shards, mu, rounds, searches);
             recorded(seal(rt, alloc, numbers, source, gate, steps))
         }
     }
@@ -121,9 +123,10 @@ fn conclude<K: Sink>(sink: &mut K, found: Result<Output, Stop>) -> Status
 ///
 /// `seal` reads a state and candidates, and writes a block of them, of version 1, and what became of each.
 /// It takes `--workers`, how many threads gather (1 to 64, else 4), `--shards`, on how many shards (1 to 64,
-/// else 16), `--mu`, the exponent of the margin (1 to 20, else 10), and `--rounds` of the search for prices
-/// (0 to 10,000, else 500). How many workers there are does not change what may be written. `check` reads a
-/// state and a block, and writes one line where the block is valid for the state. `replay`, to which
+/// else 16), `--mu`, the exponent of the margin (1 to 20, else 10), `--rounds` of a search for prices (0 to
+/// 10,000, else 500), and `--searches`, how many searches run, the best of which posts its prices (1 to 8, else
+/// 1). How many workers there are does not change what may be written. `check` reads a state and a block, and writes
+/// one line where the block is valid for the state. `replay`, to which
 /// `--workers` with a number from 1 to 64 may be added, reads a state and up to 1,000,000 blocks, each of which
 /// may have the outcomes of its candidates after it, and writes the state after all of them, where each block
 /// is valid for what the one before it left. `interleave` reads a state, candidates and a script of who makes
@@ -140,8 +143,9 @@ fn conclude<K: Sink>(sink: &mut K, found: Result<Output, Stop>) -> Status
 /// `steps` counts the searches of circulations, which these two alone make.
 ///
 /// `seal` and `demo` return where their worker threads return. For `check` and `replay` a state whose payload
-/// has 1 MiB or more is decoded while a thread of its own makes the digest, and the call returns where that
-/// thread returns. Where no thread can be started, the two are done in turn.
+/// has 1 MiB or more, and a block whose transactions take 256 KiB or more, is decoded while a thread of its own
+/// makes the digest, and the call returns where that thread returns. Where no thread can be started, the two are
+/// done in turn.
 pub fn run<R: Threads + Sync, S: Source, K: Sink, G: Gate + Sync, L: Ledger>(
     rt: &R,
     alloc: Global,

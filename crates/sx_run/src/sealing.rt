@@ -4,7 +4,6 @@
 ghost use Rattle.std.specs.Prelude.{◌≡◌, ◌+◌, ◌≤◌, ◌++◌, [], ◌∷◌, Err, IfErr, IfOk, IsErrOf, IsTrue};
 ghost use Rattle.sx_base.specs.Outside.{Rose};
 ghost use Rattle.sx_block.specs.Block.{IsBlock};
-ghost use Rattle.sx_block.specs.Encoding.{block_bytes};
 ghost use Rattle.sx_clear.specs.Searches.{most_clearing_searches};
 ghost use Rattle.sx_input.specs.Found.{ConcludesAs, Found};
 ghost use Rattle.sx_input.specs.Stream.{UnlessReadFault};
@@ -16,6 +15,7 @@ ghost use Rattle.sx_meaning.specs.Sealing.{IsMadeOf};
 ghost use Rattle.sx_run.specs.Making.{AreNumbers, IsStoppedBy, seal_of};
 ghost use Rattle.sx_tx.specs.Transactions.{IsTxList};
 
+use crate::lengths::block_length;
 use crate::making::{Made, Numbers, make};
 use std::alloc::Global;
 use std::sync::ledger;
@@ -29,7 +29,7 @@ use sx_input::{Stop, end, take};
 use sx_layout::{Outcomes, outcome_list_laws, write_outcomes};
 use sx_ledger::Ledger;
 use sx_net::Steps;
-use sx_record::{tag, write_record};
+use sx_record::{tag, write_frame, write_record};
 use sx_tx::TxList;
 use sx_workers::Gate;
 
@@ -50,14 +50,16 @@ fn stop_of(fault: GatherFault) -> Stop
     }
 }
 
-// The payload of a block, which is let go.
-fn payload_of(alloc: Global, block: Block) -> Result<Writer, NoMemory>
+// The record of a block, which is let go.
+fn block_record(alloc: Global, block: Block) -> Result<Writer, NoMemory>
     requires { IsBlock block }
-    ensures { IfOk result (λ payload. payload ≡ block_bytes block) }
+    ensures { IfOk result (λ told. told ≡ item_record (item.block block)) }
 {
-    let mut payload = Writer::new(alloc);
-    write_block(&mut payload, &block)?;
-    Ok(payload)
+    block_laws();
+    let mut told = Writer::new(alloc);
+    write_frame(&mut told, tag::BLOCK, block_length(&block))?;
+    write_block(&mut told, &block)?;
+    Ok(told)
 }
 
 // The record of a block, and then that of outcomes.
@@ -66,12 +68,9 @@ fn written(alloc: Global, block: Block, outcomes: &Outcomes) -> Result<Writer, N
     requires outcomes { AreOutcomes outcomes.now }
     ensures { IfOk result (λ told. told ≡ item_record (item.block block) ++ item_record (item.outcomes outcomes.now)) }
 {
-    block_laws();
     outcome_list_laws();
-    let mut payload = payload_of(alloc, block)?;
-    let mut told = Writer::new(alloc);
-    write_record(&mut told, tag::BLOCK, payload.bytes())?;
-    payload.cut(0);
+    let mut told = block_record(alloc, block)?;
+    let mut payload = Writer::new(alloc);
     write_outcomes(&mut payload, outcomes)?;
     write_record(&mut told, tag::OUTCOMES, payload.bytes())?;
     Ok(told)
@@ -89,7 +88,7 @@ fn made<R: Threads + Sync, G: Gate + Sync, L: ledger::Ledger>(
 ) -> Result<Made, Stop>
     requires candidates { IsTxList candidates }
     requires numbers { AreNumbers numbers }
-    ensures made { IfOk result (λ made. IsMadeOf ledger candidates numbers.mu numbers.rounds made.block made.outcomes) }
+    ensures made { IfOk result (λ made. IsMadeOf ledger candidates numbers.mu numbers.rounds numbers.searches made.block made.outcomes) }
     ensures told { IfOk result (λ made. AreOutcomes made.outcomes) }
     ensures room { IfOk result (λ _. Concludes (seal_of numbers) (item.state ledger ∷ item.candidates candidates ∷ []) no_fault) }
     ensures stops { IfErr result (λ why. ConcludesAs (seal_of numbers) (item.state ledger ∷ item.candidates candidates ∷ []) (Err why)) }

@@ -10,6 +10,6 @@ returns-clause-found g c = λ before.
     let made = c.in_ok-made.made in
     let numbers = c.numbers_of-numbers in
     demonstrates c.args.number c.args.workers before c.in_ok-demo_lines.field-0
-    (summed_up c.args.number numbers.result.mu numbers.result.rounds made.block made.outcomes
-    c.in_ok-checked.checked c.in_ok-demo_lines.field-0 numbers.ensures.mu numbers.ensures.rounds
+    (summed_up c.args.number numbers.result.mu numbers.result.rounds numbers.result.searches made.block made.outcomes
+    c.in_ok-checked.checked c.in_ok-demo_lines.field-0 numbers.ensures.mu numbers.ensures.rounds numbers.ensures.searches
     c.in_ok-made.ensures.made c.in_ok-checked.ensures c.in_ok-demo_lines.ensures)
