@@ -13,4 +13,5 @@ complete -c speedex -n '__fish_seen_subcommand_from replay' -l workers -x -d 'fr
 complete -c speedex -n '__fish_seen_subcommand_from seal' -l workers -x -d 'threads, from 1 to 64'
 complete -c speedex -n '__fish_seen_subcommand_from seal' -l shards -x -d 'tables of words, from 1 to 64'
 complete -c speedex -n '__fish_seen_subcommand_from seal' -l mu -x -d 'exponent of the margin, from 1 to 20'
-complete -c speedex -n '__fish_seen_subcommand_from seal' -l rounds -x -d 'of the price search, from 0 to 10000'
+complete -c speedex -n '__fish_seen_subcommand_from seal' -l rounds -x -d 'of a price search, from 0 to 10000'
+complete -c speedex -n '__fish_seen_subcommand_from seal' -l searches -x -d 'for prices, from 1 to 8'
