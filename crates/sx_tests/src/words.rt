@@ -12,12 +12,13 @@ fn parsed(alloc: Global, line: &str) -> Option<Result<Command, WordsFault>> {
     Some(parse(alloc, &words))
 }
 
-fn seal(workers: u32, shards: u32, mu: u8, rounds: u32) -> Command {
+fn seal(workers: u32, shards: u32, mu: u8, rounds: u32, searches: u32) -> Command {
     Command::Seal {
         workers,
         shards,
         mu,
         rounds,
+        searches,
     }
 }
 
@@ -27,16 +28,16 @@ fn demo(number: u64, workers: u32) -> Command {
 
 fn commands() -> [(&'static str, Command); 14] {
     [
-        ("seal", seal(4, 16, 10, 500)),
-        ("seal --workers 8 --mu 10", seal(8, 16, 10, 500)),
-        ("seal --workers=8 --mu=10", seal(8, 16, 10, 500)),
+        ("seal", seal(4, 16, 10, 500, 1)),
+        ("seal --workers 8 --mu 10", seal(8, 16, 10, 500, 1)),
+        ("seal --workers=8 --mu=10", seal(8, 16, 10, 500, 1)),
         (
-            "seal --rounds 10000 --mu=20 --shards 64 --workers 64",
-            seal(64, 64, 20, 10_000),
+            "seal --rounds 10000 --mu=20 --searches 8 --shards 64 --workers 64",
+            seal(64, 64, 20, 10_000, 8),
         ),
         (
-            "seal --rounds=0 --mu 1 --shards=1 --workers 1",
-            seal(1, 1, 1, 0),
+            "seal --rounds=0 --mu 1 --shards=1 --searches=1 --workers 1",
+            seal(1, 1, 1, 0, 1),
         ),
         ("replay", Command::Replay { workers: 4 }),
         ("replay --workers=1", Command::Replay { workers: 1 }),
@@ -50,7 +51,7 @@ fn commands() -> [(&'static str, Command); 14] {
     ]
 }
 
-fn refused() -> [&'static str; 32] {
+fn refused() -> [&'static str; 34] {
     [
         "",
         "sael",
@@ -63,6 +64,8 @@ fn refused() -> [&'static str; 32] {
         "seal --mu 21",
         "seal --rounds 10001",
         "seal --rounds 00",
+        "seal --searches 0",
+        "seal --searches 9",
         "seal --workers 08",
         "seal --workers +8",
         "seal --workers -8",
