@@ -1,4 +1,2 @@
-pub mod Making
-pub mod Replaying
 pub mod Showing
 pub mod Running

@@ -24,24 +24,16 @@
 //! circulations it takes, that two ledgers of one digest are the same, and what a source gave or a sink
 //! received that tells nothing of its bytes.
 //!
-//! The way of the data: `sx_input` (bytes to what records hold), `advancing` (a block on a ledger), `making` (a
-//! block of candidates), `sealing`, `checking`, `replaying`, `interleaving`, `migrating`, `showing` and
-//! `demonstrating` (the commands), `output` (what a command writes), `running` (what a command found to what is
-//! written and to a status). What is found of an input is defined in `sx_meaning`, and texts and statuses are
-//! those of `sx_text`.
+//! The way of the data: `sx_input` (bytes to what records hold), `sx_chain` and `sx_seal` (the commands `check` and
+//! `replay`, `seal` and `demo`), `interleaving`, `migrating` and `showing` (the other commands), `output` (what a
+//! command writes), `running` (what a command found to what is written and to a status). What is found of an input
+//! is defined in `sx_meaning`, and texts and statuses are those of `sx_text`.
 #![tactic(auto)]
 
-mod advancing;
-mod checking;
-mod demonstrating;
 mod interleaving;
-mod lengths;
-mod making;
 mod migrating;
 mod output;
-mod replaying;
 mod running;
-mod sealing;
 mod showing;
 
 pub use running::run;

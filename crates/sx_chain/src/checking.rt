@@ -1,0 +1,47 @@
+//! `check`: a state, a block, and nothing more.
+
+ghost use Rattle.std.specs.Prelude.{◌≡◌, ◌^◌, ◌≤◌, [], ◌∷◌, IsErrOf, IsTrue};
+ghost use Rattle.sha2.specs.Sha256.{sha256};
+ghost use Rattle.sx_base.specs.Outside.{Rose};
+ghost use Rattle.sx_block.specs.Block.{IsBlock};
+ghost use Rattle.sx_input.specs.Found.{ConcludesAs, Found};
+ghost use Rattle.sx_input.specs.Head.{IsHead};
+ghost use Rattle.sx_input.specs.Stream.{UnlessReadFault};
+ghost use Rattle.sx_meaning.specs.Items as item;
+ghost use Rattle.sx_tx.specs.Transactions.{list_bytes};
+
+use crate::advancing::advance;
+use std::alloc::Global;
+use std::thread::Threads;
+use sx_base::Source;
+use sx_check::CheckFault;
+use sx_input::{Head, Incoming, Stop, end, take_block, take_head};
+use sx_text::{Text, check_line};
+use sx_words::Command;
+
+// The line of a valid block, or the first reason why the block is refused.
+fn verdict(alloc: Global, head: Head, incoming: &Incoming) -> Result<Text, Stop>
+    requires head { IsHead head }
+    requires form { IsBlock incoming.now.block }
+    requires body { incoming.now.body ≡ sha256 (list_bytes incoming.now.block.txs) }
+    ensures concludes { ConcludesAs Command.Check (item.state head.ledger ∷ item.block incoming.now.block ∷ []) result }
+    ensures calm { IsErrOf result Stop.ReadFault → ⊥ }
+{
+    match advance(alloc, head, incoming) {
+        Ok(advanced) => Ok(check_line(alloc, &advanced.checked)?),
+        Err(CheckFault::Invalid(why)) => Err(Stop::Refused { block: 0, why }),
+        Err(CheckFault::NoMemory) => Err(Stop::NoMemory),
+    }
+}
+
+/// Checks the block of the input.
+pub fn check<R: Threads, S: Source>(rt: &R, alloc: Global, source: &mut S) -> Result<Text, Stop>
+    ensures found { Found Command.Check (S.left source.old) (S.left source.new) result }
+    ensures steady { UnlessReadFault result (IsTrue (S.strict source.old) → S.faults source.new ≡ S.faults source.old) }
+    ensures read_fault { IsErrOf result Stop.ReadFault → Rose (S.faults source.old) (S.faults source.new) }
+{
+    let opening = take_head(rt, alloc, source)?;
+    let incoming = take_block(rt, alloc, source, opening.end)?;
+    end(alloc, source, incoming.end)?;
+    verdict(alloc, opening.held, &incoming.held)
+}

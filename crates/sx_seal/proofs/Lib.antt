@@ -1,0 +1,2 @@
+pub mod Demonstrations
+pub mod ListLengths

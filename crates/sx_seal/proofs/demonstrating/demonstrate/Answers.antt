@@ -1,0 +1,14 @@
+use Rattle.sx_seal.proofs.Demonstrations.{demonstrates, eight_assets, summed_up}
+use Rattle.sx_seal.proofs.demonstrating.demonstrate.Goals as goal
+
+pub demo_lines-requires : goal.demo_lines-requires
+demo_lines-requires g c = eight_assets c.in_ok-made.made.block c.in_ok-made.ensures.made.cleared.valid
+
+pub returns-clause-found : goal.returns-clause-found
+returns-clause-found g c = λ before.
+    let made = c.in_ok-made.made in
+    let numbers = c.numbers_of-numbers in
+    demonstrates c.args.number c.args.workers before c.in_ok-demo_lines.field-0
+    (summed_up c.args.number numbers.result.mu numbers.result.rounds numbers.result.searches made.block made.outcomes
+    c.in_ok-checked.checked c.in_ok-demo_lines.field-0 numbers.ensures.mu numbers.ensures.rounds numbers.ensures.searches
+    c.in_ok-made.ensures.made c.in_ok-checked.ensures c.in_ok-demo_lines.ensures)

@@ -1,0 +1,128 @@
+//! A block of candidates: worker threads gather them, and the body that they make is cleared.
+
+ghost use Rattle.std.specs.Prelude.{◌≡◌, ◌+◌, ◌≤◌, ◌<◌, Ok, IfErr, IfOk, length};
+ghost use Rattle.sx_clear.specs.Searches.{most_clearing_searches};
+ghost use Rattle.sx_gather.specs.Start.{IsFaultOf};
+ghost use Rattle.sx_layout.specs.Gathering.{IsGathered};
+ghost use Rattle.sx_layout.specs.Room.{room_for};
+ghost use Rattle.sx_ledger.specs.Body.{IsAdmissible};
+ghost use Rattle.sx_ledger.specs.Ledger.{IsLedger, most_height};
+ghost use Rattle.sx_meaning.specs.Sealing.{IsClearedFor, IsMadeOf};
+ghost use Rattle.sx_seal.specs.Making.{AreNumbers};
+ghost use Rattle.sx_tx.specs.Transactions.{most_transactions};
+
+use std::alloc::Global;
+use std::sync::ledger;
+use std::thread::Threads;
+use sx_block::Block;
+use sx_bytes::NoMemory;
+use sx_clear::clear_many;
+use sx_gather::{GatherFault, Sealed};
+use sx_layout::{Outcomes, gathering_laws};
+use sx_ledger::Ledger;
+use sx_net::Steps;
+use sx_price::Mu;
+use sx_tx::TxList;
+use sx_workers::{Gate, gather_all};
+
+/// How a block is made: how many threads gather on how many shards, the margin, how many rounds a search for
+/// prices has at most, and how many searches there are.
+#[derive(Clone, Copy, Debug)]
+pub struct Numbers {
+    pub workers: u32,
+    pub shards: u32,
+    pub mu: Mu,
+    pub rounds: u32,
+    pub searches: u32,
+}
+
+// A block of candidates, and what became of each of them.
+#[derive(Debug, Drop)]
+pub struct Made {
+    pub block: Block,
+    pub outcomes: Outcomes,
+}
+
+// What worker threads make of the candidates, which are let go.
+fn gathered<R: Threads + Sync, G: Gate + Sync>(
+    rt: &R,
+    alloc: Global,
+    ledger: &Ledger,
+    candidates: TxList,
+    numbers: Numbers,
+    gate: &G,
+) -> Result<Sealed, GatherFault>
+    requires few { length candidates ≤ most_transactions }
+    requires numbers { AreNumbers numbers }
+    ensures gathered { IfOk result (λ sealed. IsGathered ledger.now candidates sealed.outcomes sealed.txs) }
+    ensures room { IfOk result (λ _. room_for ledger.now candidates ≡ Ok tt) }
+    ensures fault { IfErr result (IsFaultOf (room_for ledger.now candidates)) }
+{
+    gather_all(
+        rt,
+        alloc,
+        ledger,
+        candidates.items(),
+        numbers.shards,
+        numbers.workers,
+        gate,
+    )
+}
+
+// The block of what was gathered.
+fn cleared<R: Threads + Sync, L: ledger::Ledger>(
+    rt: &R,
+    alloc: Global,
+    ledger: &Ledger,
+    sealed: Sealed,
+    numbers: Numbers,
+    steps: &mut Steps<L>,
+) -> Result<Made, NoMemory>
+    requires admissible { IsAdmissible ledger.now sealed.txs }
+    requires few { length sealed.txs ≤ most_transactions }
+    requires below_last { ledger.now.height < most_height }
+    requires numbers { AreNumbers numbers }
+    ensures cleared { IfOk result (λ made. IsClearedFor ledger.now numbers.mu numbers.rounds numbers.searches made.block) }
+    ensures txs { IfOk result (λ made. made.block.txs ≡ sealed.txs) }
+    ensures outcomes { IfOk result (λ made. made.outcomes ≡ sealed.outcomes) }
+    ensures counted { steps.new ≤ steps.old + most_clearing_searches }
+    ensures rising { steps.old ≤ steps.new }
+{
+    let Sealed { txs, outcomes } = sealed;
+    let block = clear_many(
+        rt,
+        alloc,
+        ledger,
+        txs,
+        numbers.mu,
+        numbers.rounds,
+        numbers.searches,
+        steps,
+    )?;
+    Ok(Made { block, outcomes })
+}
+
+// A block of the candidates and what became of each, or why there is no room for them. The candidates are
+// let go before the body is cleared.
+pub fn make<R: Threads + Sync, G: Gate + Sync, L: ledger::Ledger>(
+    rt: &R,
+    alloc: Global,
+    ledger: &Ledger,
+    candidates: TxList,
+    numbers: Numbers,
+    gate: &G,
+    steps: &mut Steps<L>,
+) -> Result<Made, GatherFault>
+    requires ledger { IsLedger ledger.now }
+    requires few { length candidates ≤ most_transactions }
+    requires numbers { AreNumbers numbers }
+    ensures made { IfOk result (λ made. IsMadeOf ledger.now candidates numbers.mu numbers.rounds numbers.searches made.block made.outcomes) }
+    ensures room { IfOk result (λ _. room_for ledger.now candidates ≡ Ok tt) }
+    ensures fault { IfErr result (IsFaultOf (room_for ledger.now candidates)) }
+    ensures counted { steps.new ≤ steps.old + most_clearing_searches }
+    ensures rising { steps.old ≤ steps.new }
+{
+    gathering_laws();
+    let sealed = gathered(rt, alloc, ledger, candidates, numbers, gate)?;
+    Ok(cleared(rt, alloc, ledger, sealed, numbers, steps)?)
+}

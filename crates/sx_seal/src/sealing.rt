@@ -1,0 +1,154 @@
+//! `seal`: a state, candidates, and nothing more. A block is made of the candidates, and it and what became
+//! of each candidate are written.
+
+ghost use Rattle.std.specs.Prelude.{◌≡◌, ◌+◌, ◌≤◌, ◌++◌, [], ◌∷◌, Err, IfErr, IfOk, IsErrOf, IsTrue};
+ghost use Rattle.sx_base.specs.Outside.{Rose};
+ghost use Rattle.sx_block.specs.Block.{IsBlock};
+ghost use Rattle.sx_clear.specs.Searches.{most_clearing_searches};
+ghost use Rattle.sx_input.specs.Found.{ConcludesAs, Found};
+ghost use Rattle.sx_input.specs.Stream.{UnlessReadFault};
+ghost use Rattle.sx_layout.specs.Outcomes.{AreOutcomes};
+ghost use Rattle.sx_meaning.specs.Findings.{Concludes, no_fault};
+ghost use Rattle.sx_meaning.specs.Items.{item_record};
+ghost use Rattle.sx_meaning.specs.Items as item;
+ghost use Rattle.sx_meaning.specs.Sealing.{IsMadeOf};
+ghost use Rattle.sx_seal.specs.Making.{AreNumbers, IsStoppedBy, seal_of};
+ghost use Rattle.sx_tx.specs.Transactions.{IsTxList};
+
+use crate::lengths::block_length;
+use crate::making::{Made, Numbers, make};
+use std::alloc::Global;
+use std::sync::ledger;
+use std::thread::Threads;
+use sx_base::Source;
+use sx_block::{Block, block_laws, write_block};
+use sx_bytes::{NoMemory, Writer};
+use sx_check::Invalid;
+use sx_gather::GatherFault;
+use sx_input::{Stop, end, take};
+use sx_layout::{Outcomes, outcome_list_laws, write_outcomes};
+use sx_ledger::Ledger;
+use sx_net::Steps;
+use sx_record::{tag, write_frame, write_record};
+use sx_tx::TxList;
+use sx_workers::Gate;
+
+// Why a seal stops that could not gather.
+fn stop_of(fault: GatherFault) -> Stop
+    ensures { IsStoppedBy fault result }
+{
+    match fault {
+        GatherFault::NoMemory => Stop::NoMemory,
+        GatherFault::Ended => Stop::Refused {
+            block: 0,
+            why: Invalid::Ended,
+        },
+        GatherFault::Crowded { have, more, limit } => Stop::Refused {
+            block: 0,
+            why: Invalid::Crowded { have, more, limit },
+        },
+    }
+}
+
+// The record of a block, which is let go.
+fn block_record(alloc: Global, block: Block) -> Result<Writer, NoMemory>
+    requires { IsBlock block }
+    ensures { IfOk result (λ told. told ≡ item_record (item.block block)) }
+{
+    block_laws();
+    let mut told = Writer::new(alloc);
+    write_frame(&mut told, tag::BLOCK, block_length(&block))?;
+    write_block(&mut told, &block)?;
+    Ok(told)
+}
+
+// The record of a block, and then that of outcomes.
+fn written(alloc: Global, block: Block, outcomes: &Outcomes) -> Result<Writer, NoMemory>
+    requires block { IsBlock block }
+    requires outcomes { AreOutcomes outcomes.now }
+    ensures { IfOk result (λ told. told ≡ item_record (item.block block) ++ item_record (item.outcomes outcomes.now)) }
+{
+    outcome_list_laws();
+    let mut told = block_record(alloc, block)?;
+    let mut payload = Writer::new(alloc);
+    write_outcomes(&mut payload, outcomes)?;
+    write_record(&mut told, tag::OUTCOMES, payload.bytes())?;
+    Ok(told)
+}
+
+// A block of the candidates, or why there is no room for them. The ledger is let go.
+fn made<R: Threads + Sync, G: Gate + Sync, L: ledger::Ledger>(
+    rt: &R,
+    alloc: Global,
+    ledger: Ledger,
+    candidates: TxList,
+    numbers: Numbers,
+    gate: &G,
+    steps: &mut Steps<L>,
+) -> Result<Made, Stop>
+    requires candidates { IsTxList candidates }
+    requires numbers { AreNumbers numbers }
+    ensures made { IfOk result (λ made. IsMadeOf ledger candidates numbers.mu numbers.rounds numbers.searches made.block made.outcomes) }
+    ensures told { IfOk result (λ made. AreOutcomes made.outcomes) }
+    ensures room { IfOk result (λ _. Concludes (seal_of numbers) (item.state ledger ∷ item.candidates candidates ∷ []) no_fault) }
+    ensures stops { IfErr result (λ why. ConcludesAs (seal_of numbers) (item.state ledger ∷ item.candidates candidates ∷ []) (Err why)) }
+    ensures calm { IsErrOf result Stop.ReadFault → ⊥ }
+    ensures counted { steps.new ≤ steps.old + most_clearing_searches }
+    ensures rising { steps.old ≤ steps.new }
+{
+    match make(rt, alloc, &ledger, candidates, numbers, gate, steps) {
+        Ok(made) => Ok(made),
+        Err(fault) => Err(stop_of(fault)),
+    }
+}
+
+// The records of a block of the candidates and of what became of them, or why there is no room for them.
+fn sealed<R: Threads + Sync, G: Gate + Sync, L: ledger::Ledger>(
+    rt: &R,
+    alloc: Global,
+    ledger: Ledger,
+    candidates: TxList,
+    numbers: Numbers,
+    gate: &G,
+    steps: &mut Steps<L>,
+) -> Result<Writer, Stop>
+    requires candidates { IsTxList candidates }
+    requires numbers { AreNumbers numbers }
+    ensures concludes { ConcludesAs (seal_of numbers) (item.state ledger ∷ item.candidates candidates ∷ []) result }
+    ensures calm { IsErrOf result Stop.ReadFault → ⊥ }
+    ensures counted { steps.new ≤ steps.old + most_clearing_searches }
+    ensures rising { steps.old ≤ steps.new }
+{
+    let Made { block, outcomes } = made(rt, alloc, ledger, candidates, numbers, gate, steps)?;
+    Ok(written(alloc, block, &outcomes)?)
+}
+
+/// The block of the candidates of the input, and what became of each.
+pub fn seal<R: Threads + Sync, S: Source, G: Gate + Sync, L: ledger::Ledger>(
+    rt: &R,
+    alloc: Global,
+    numbers: Numbers,
+    source: &mut S,
+    gate: &G,
+    steps: &mut Steps<L>,
+) -> Result<Writer, Stop>
+    requires { AreNumbers numbers }
+    ensures found { Found (seal_of numbers) (S.left source.old) (S.left source.new) result }
+    ensures steady { UnlessReadFault result (IsTrue (S.strict source.old) → S.faults source.new ≡ S.faults source.old) }
+    ensures read_fault { IsErrOf result Stop.ReadFault → Rose (S.faults source.old) (S.faults source.new) }
+    ensures counted { steps.new ≤ steps.old + most_clearing_searches }
+    ensures rising { steps.old ≤ steps.new }
+{
+    let opening = take::<Ledger, S>(alloc, source, 0)?;
+    let candidates = take::<TxList, S>(alloc, source, opening.end)?;
+    end(alloc, source, candidates.end)?;
+    sealed(
+        rt,
+        alloc,
+        opening.held,
+        candidates.held,
+        numbers,
+        gate,
+        steps,
+    )
+}
