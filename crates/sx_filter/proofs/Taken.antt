@@ -10,7 +10,7 @@ use Rattle.std.specs.Ordering.{is_eq, nat_cmp}
 use Rattle.sx_filter.specs.declared.tally.Tally.{Tally}
 use Rattle.sx_filter.specs.Alone.{is_twice}
 use Rattle.sx_filter.specs.Kept.{both, same_id, same_number, same_offer}
-use Rattle.sx_filter.specs.Tally.{IsTally, numbers, pair_cmp}
+use Rattle.sx_filter.specs.Tally.{IsTally, pair_cmp}
 use Rattle.sx_filter.proofs.Counts.{count_is, times}
 use Rattle.sx_filter.proofs.InOrder.{nat_same, number_same, number_total}
 use Rattle.sx_layout.proofs.Totals.{total_none}

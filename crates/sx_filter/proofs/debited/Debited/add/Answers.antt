@@ -1,4 +1,4 @@
-use Rattle.std.proofs.Common.{◌≡◌, ◌+◌, ◌-◌, ◌<◌, ◌≤◌, ℕ, cond, Some, refl, ap, ◌∙◌, arith}
+use Rattle.std.proofs.Common.{◌≡◌, ◌+◌, ◌<◌, ◌≤◌, ℕ, cond, Some, refl, ap, ◌∙◌, arith}
 use Rattle.std.specs.BTreeMap.{get as get_at}
 use Rattle.std.specs.Map.{count_at}
 use Rattle.std.specs.Ordering.{is_eq}
