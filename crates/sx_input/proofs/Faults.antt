@@ -10,7 +10,7 @@ use Rattle.sx_input.specs.Stream.{FailsAs, FaultsAt, Reads, Stops, TakesRecord, 
 use Rattle.sx_meaning.specs.Expected.{as_some, end_only, item_at, item_in, item_of, needed, record_of, shifted}
 use Rattle.sx_meaning.specs.Items.{Item, payload_at}
 use Rattle.sx_record.specs.declared.frame.Record.{Record}
-use Rattle.sx_record.specs.Decoding.{StreamDecoding, go_on, record_at}
+use Rattle.sx_record.specs.Decoding.{go_on, record_at}
 use Rattle.sx_record.specs.Frame.{record_bytes}
 use Rattle.sx_record.specs.Stream.{DecodesStream, Took}
 use Rattle.sx_record.specs.Tags.{block_tag}

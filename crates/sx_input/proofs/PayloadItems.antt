@@ -1,5 +1,5 @@
 -- From a payload's value to an item.
-use Rattle.std.proofs.Common.{◌≡◌, ℕ, ◌+◌, ◌^◌, ◌<◌, ◌≤◌, List, length, Result, Ok, Err, ap, arith}
+use Rattle.std.proofs.Common.{ℕ, ◌+◌, ◌^◌, ◌<◌, List, length, Result, Ok, Err, ap, arith}
 use Rattle.std.specs.Prelude.{IfErr}
 use Rattle.sx_bytes.specs.declared.fault.FormFault.{FormFault}
 use Rattle.sx_bytes.specs.declared.fault.ReadError.{ReadError}

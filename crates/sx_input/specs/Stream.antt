@@ -5,8 +5,7 @@ use Rattle.sx_bytes.specs.declared.fault.ReadError.{ReadError}
 use Rattle.sx_bytes.specs.declared.fault.ReadError.TheVariants as read_error
 use Rattle.sx_input.specs.declared.stop.Stop.{Stop}
 use Rattle.sx_input.specs.declared.stop.Stop.TheVariants as stop
-use Rattle.sx_meaning.specs.Expected.{Expected, fault_in, item_at, shifted}
-use Rattle.sx_meaning.specs.Items.{Item}
+use Rattle.sx_meaning.specs.Expected.{fault_in, shifted}
 use Rattle.sx_record.specs.declared.frame.Record.{Record}
 use Rattle.sx_record.specs.Decoding.{StreamDecoding}
 use Rattle.sx_record.specs.Frame.{record_bytes}

@@ -1,8 +1,8 @@
 -- How many workers and shards there are does not change what a seal or a demonstration may write.
-use Rattle.std.proofs.Common.{◌≡◌, ℕ, List, [], ◌∷◌, ◌++◌, sym, subst}
+use Rattle.std.proofs.Common.{ℕ, List, [], ◌∷◌, ◌++◌, sym, subst}
 use Rattle.sx_meaning.specs.Findings.{FindsAtEnd, MayComeAll, no_fault}
 use Rattle.sx_meaning.specs.Items.{Item}
-use Rattle.sx_meaning.specs.Outputs.{MayWrite, Writes}
+use Rattle.sx_meaning.specs.Outputs.{Writes}
 use Rattle.sx_meaning.specs.SealLaws.{DemosAlike, SealsAlike}
 use Rattle.sx_words.specs.declared.command.Command.TheVariants.{Demo, Seal}
 

@@ -1,5 +1,5 @@
 -- Definitions at single answers, and what is found of worked inputs.
-use Rattle.std.proofs.Common.{◌≡◌, ℕ, zero, suc, ◌≤◌, true, List, [], ◌∷◌, Option, Some, None, Result, Ok, Err, inl}
+use Rattle.std.proofs.Common.{◌≡◌, ℕ, zero, suc, true, List, [], ◌∷◌, Some, None, inl}
 use Rattle.std.proofs.Common.{inr, refl, arith}
 use Rattle.std.specs.Prelude.{◌⊎◌}
 use Rattle.sx_base.specs.Outside.{AppendsPrefix}
@@ -11,9 +11,9 @@ use Rattle.sx_clear.specs.Quotes.{posted_at}
 use Rattle.sx_dual.specs.Circulation.{HaveNoCirculation}
 use Rattle.sx_ledger.specs.declared.parts.Parts.{Parts}
 use Rattle.sx_ledger.specs.Ledger.{assets_of}
-use Rattle.sx_meaning.specs.Answers.{Answers, Completes, FitsWords}
+use Rattle.sx_meaning.specs.Answers.{Completes, FitsWords}
 use Rattle.sx_meaning.specs.Expected.{item_at}
-use Rattle.sx_meaning.specs.Findings.{Finding, Finds, malformed, no_fault}
+use Rattle.sx_meaning.specs.Findings.{Finds, malformed, no_fault}
 use Rattle.sx_meaning.specs.Sealing.{IsSealed}
 use Rattle.sx_meaning.specs.Status.{UnlessReadFails, UnlessWriteFails, is_silent}
 use Rattle.sx_record.specs.Decoding.{after_tag, length_at, record_at}

@@ -1,15 +1,15 @@
 -- The outcomes of a gathering have their form.
-use Rattle.std.proofs.Common.{◌≡◌, ℕ, suc, zero, ◌≤◌, List, [], ◌∷◌, length, Some, refl, sym, ap, ◌∙◌, arith}
+use Rattle.std.proofs.Common.{◌≡◌, ℕ, suc, ◌≤◌, List, [], ◌∷◌, length, Some, refl, ap, arith}
 use Rattle.std.proofs.lemmas.List.Elements.{All-from_recursion, recursion_from_All}
-use Rattle.std.specs.List.{All, AllByRecursion}
+use Rattle.std.specs.List.{AllByRecursion}
 use Rattle.std.specs.Prelude.{slice_get}
 use Rattle.sx_base.specs.Ranges.{most_amount}
 use Rattle.sx_layout.specs.declared.outcome.Outcome.{Outcome}
 use Rattle.sx_layout.specs.declared.outcome.Outcome.TheVariants as outcome
-use Rattle.sx_layout.specs.Gathering.{Decision, IsGathered, IsOverdrawn, Shows, decisions}
+use Rattle.sx_layout.specs.Gathering.{Decision, IsGathered, Shows, decisions}
 use Rattle.sx_layout.specs.Outcomes.{AreOutcomes, IsOutcome}
 use Rattle.sx_ledger.specs.declared.parts.Parts.{Parts}
-use Rattle.sx_ledger.specs.Effects.{Posting, debit, debit_of}
+use Rattle.sx_ledger.specs.Effects.{Posting, debit_of}
 use Rattle.sx_tx.specs.declared.kind.Kind.{Kind}
 use Rattle.sx_tx.specs.declared.kind.Kind.TheVariants as kind
 use Rattle.sx_tx.specs.declared.tx.Tx.{Tx}

@@ -1,6 +1,6 @@
 -- The record of an item decodes to it, wherever it stands, and what decodes is the record of an item.
-use Rattle.std.proofs.Common.{◌≡◌, ℕ, ◌+◌, ◌<◌, ◌≤◌, Bool, true, false, cond, eqb, List, [], ◌∷◌, ◌++◌, length}
-use Rattle.std.proofs.Common.{Contains, Option, Some, None, Result, Ok, Err, refl, sym, ap, subst, ◌∙◌, arith}
+use Rattle.std.proofs.Common.{◌≡◌, ℕ, ◌+◌, ◌<◌, ◌≤◌, Bool, false, List, [], ◌++◌, length}
+use Rattle.std.proofs.Common.{Option, Some, Result, Ok, Err, ap, ◌∙◌, arith}
 use Rattle.std.proofs.lemmas.List.{length-append}
 use Rattle.std.specs.Prelude.{◌&&◌, ◌==◌, if◌then◌else◌}
 use Rattle.byteorder.specs.Endian.{big_bytes}
@@ -20,7 +20,7 @@ use Rattle.sx_meaning.specs.Items.{script, state, tag_of}
 use Rattle.sx_meaning.proofs.Encodings.{block_again, block_short, candidates_short, outcomes_again, outcomes_short}
 use Rattle.sx_meaning.proofs.Encodings.{script_again, script_short, state_short}
 use Rattle.sx_record.specs.declared.frame.Record.{Record}
-use Rattle.sx_record.specs.Decoding.{go_on, record_at}
+use Rattle.sx_record.specs.Decoding.{go_on}
 use Rattle.sx_record.specs.Frame.{frame_bytes, most_bytes, record_bytes}
 use Rattle.sx_record.specs.Tags.{block_tag}
 use Rattle.sx_record.proofs.Encoding.{decodes_every_record}

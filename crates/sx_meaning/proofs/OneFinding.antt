@@ -1,20 +1,18 @@
 -- One thing is found of an input, for every command.
-use Rattle.std.proofs.Common.{◌≡◌, ℕ, ◌+◌, ◌<◌, ◌≤◌, Bool, true, false, List, [], ◌∷◌, ◌++◌, length, Contains}
+use Rattle.std.proofs.Common.{◌≡◌, ℕ, ◌<◌, Bool, true, false, List, [], ◌∷◌, ◌++◌, length, Contains}
 use Rattle.std.proofs.Common.{Option, Some, None, Result, Ok, Err, inl, inr, refl, sym, ap, subst, ◌∙◌, append_assoc}
 use Rattle.std.proofs.Common.{arith}
 use Rattle.std.proofs.lemmas.List.{append-nil}
 use Rattle.std.specs.Prelude.{IsTrue, nat_le, ◌&&◌, ◌==◌}
 use Rattle.sx_block.specs.declared.header.Block.{Block}
-use Rattle.sx_block.specs.Validity.{IsValid}
 use Rattle.sx_bytes.specs.declared.fault.FormFault.{FormFault}
 use Rattle.sx_check.specs.declared.invalid.Invalid.{Invalid}
 use Rattle.sx_check.specs.Laws.{OneReason, ValidIsNotRefused}
-use Rattle.sx_check.specs.Refusals.{Refuses}
 use Rattle.sx_meaning.specs.Expected.{Expected, IsDoneWith, IsExpected, end_only, item_at, may_end, record_of, unread}
-use Rattle.sx_meaning.specs.Findings.{Concludes, Finding, Finds, FindsAfter, FindsAtBlock, FindsAtEnd, IsNextValid}
+use Rattle.sx_meaning.specs.Findings.{Finding, Finds, FindsAfter, FindsAtBlock, FindsAtEnd, IsNextValid}
 use Rattle.sx_meaning.specs.Findings.{MayCome}
 use Rattle.sx_meaning.specs.Findings.{MayComeAll, RefusesNext, StopsAt, expected, malformed, no_fault, refused}
-use Rattle.sx_meaning.specs.Items.{IsItem, Item, block, item_record, records, state, tag_of}
+use Rattle.sx_meaning.specs.Items.{IsItem, Item, block, item_record, records, tag_of}
 use Rattle.sx_meaning.specs.Laws.{FindsOne}
 use Rattle.sx_meaning.specs.Replays.{blocks_of, ends_with_block, expected_in_replay, ledger_after_all, most_blocks}
 use Rattle.sx_meaning.specs.Replays.{tags_after}

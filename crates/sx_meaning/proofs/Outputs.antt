@@ -1,14 +1,14 @@
 -- The output of each command but a seal and a demonstration is one.
-use Rattle.std.proofs.Common.{◌≡◌, ℕ, List, ◌∷◌, [], refl, sym, subst, ◌∙◌}
+use Rattle.std.proofs.Common.{◌≡◌, ℕ, List, refl, sym, subst, ◌∙◌}
 use Rattle.std.specs.Prelude.{IsTrue}
 use Rattle.sx_check.specs.Checked.{checked_of}
 use Rattle.sx_check.specs.Laws.{OneReason, ValidIsNotRefused}
 use Rattle.sx_layout.specs.Running.{outcomes_of_run}
 use Rattle.sx_ledger.specs.Ledger.{migrated}
-use Rattle.sx_meaning.specs.Findings.{Concludes, Finds, FindsAtEnd, no_fault}
+use Rattle.sx_meaning.specs.Findings.{Concludes, FindsAtEnd, no_fault}
 use Rattle.sx_meaning.specs.Items.{Item, item_record, outcomes, state_record}
 use Rattle.sx_meaning.specs.Laws.{WritesOne, WritesSome}
-use Rattle.sx_meaning.specs.Outputs.{MayWrite, Writes, shown_of, writes_one}
+use Rattle.sx_meaning.specs.Outputs.{Writes, shown_of, writes_one}
 use Rattle.sx_meaning.specs.Replays.{blocks_of, ledger_after_all}
 use Rattle.sx_meaning.proofs.OneFinding.{one_reading}
 use Rattle.sx_text.specs.Shown.{shown_text}

@@ -2,7 +2,6 @@
 use Rattle.std.proofs.Common.{◌≡◌, ℕ, List, [], ◌∷◌, ◌++◌, refl, sym, ap, subst, ◌∙◌, arith}
 use Rattle.std.proofs.lemmas.List.{append-nil}
 use Rattle.sx_block.specs.declared.header.Block.{Block}
-use Rattle.sx_block.specs.Block.{IsBlock}
 use Rattle.sx_block.specs.Validity.{IsValid, ledger_after}
 use Rattle.sx_check.specs.Checked.{checked_of}
 use Rattle.sx_gen.specs.State.{demo_parts}
@@ -12,9 +11,9 @@ use Rattle.sx_layout.specs.Outcomes.{AreOutcomes}
 use Rattle.sx_ledger.specs.declared.parts.Parts.{Parts}
 use Rattle.sx_ledger.specs.Ledger.{IsLedger}
 use Rattle.sx_meaning.specs.Findings.{FindsAtEnd, MayComeAll, no_fault}
-use Rattle.sx_meaning.specs.Items.{Item, block, candidates, item_record, outcomes, records, state, state_record}
+use Rattle.sx_meaning.specs.Items.{Item, block, item_record, outcomes, records, state, state_record}
 use Rattle.sx_meaning.specs.Outputs.{MayWrite, Writes}
-use Rattle.sx_meaning.specs.SealLaws.{DemosSettle, LeavesItsMeaning, SealsLeaveTheirMeaning}
+use Rattle.sx_meaning.specs.SealLaws.{DemosSettle, SealsLeaveTheirMeaning}
 use Rattle.sx_meaning.specs.Sealing.{IsDemonstrated, IsSealed}
 use Rattle.sx_meaning.specs.Settling.{ValidSettles}
 use Rattle.sx_meaning.proofs.Ends.{reads_to_end}
@@ -22,7 +21,6 @@ use Rattle.sx_meaning.proofs.Gathered.{gathered_form}
 use Rattle.sx_meaning.proofs.ItemLists.{needed_listed}
 use Rattle.sx_record.specs.Tags.{block_tag, state_tag}
 use Rattle.sx_text.specs.Texts.{checked_text}
-use Rattle.sx_tx.specs.declared.tx.Tx.{Tx}
 use Rattle.sx_words.specs.declared.command.Command.TheVariants.{Check, Demo, Replay, Seal}
 
 module _ (parts : Parts) (said : Block) (is : IsLedger parts) (valid : IsValid parts said) where

@@ -1,11 +1,11 @@
 -- Each block of a chain settles.
-use Rattle.std.proofs.Common.{◌≡◌, ℕ, List, [], ◌∷◌}
+use Rattle.std.proofs.Common.{List, [], ◌∷◌}
 use Rattle.sx_block.specs.declared.header.Block.{Block}
 use Rattle.sx_block.specs.EffectLaws.{BlockDropsTheImpossible, BlockGetsItsValue, BlockGivesItsValue, BlockHeldFalls}
 use Rattle.sx_block.specs.EffectLaws.{BlockKeepsLedger, BlockKeepsRounding, BlockTradesInFull, BlockTradesMost}
 use Rattle.sx_block.specs.EffectLaws.{BlockTradesWithinLimits, OneInPart}
 use Rattle.sx_block.specs.Rule as rule
-use Rattle.sx_block.specs.Validity.{IsValid, ledger_after}
+use Rattle.sx_block.specs.Validity.{ledger_after}
 use Rattle.sx_ledger.specs.declared.parts.Parts.{Parts}
 use Rattle.sx_ledger.specs.Ledger.{IsLedger}
 use Rattle.sx_meaning.specs.Replays.{AreValid, blocks_of}

@@ -1,26 +1,24 @@
 -- Something is found of every input, for every command.
-use Rattle.std.proofs.Common.{◌≡◌, ℕ, zero, suc, ◌+◌, ◌<◌, ◌≤◌, Bool, true, false, List, [], ◌∷◌, ◌++◌, length}
+use Rattle.std.proofs.Common.{◌≡◌, ℕ, zero, suc, ◌<◌, Bool, true, false, List, [], ◌∷◌, ◌++◌, length}
 use Rattle.std.proofs.Common.{Contains}
 use Rattle.std.proofs.Common.{Option, Some, None, Result, Ok, Err, inl, inr, refl, sym, ap, subst, ◌∙◌, append_assoc}
 use Rattle.std.proofs.Common.{arith}
-use Rattle.std.proofs.lemmas.List.{append-nil, length-append}
+use Rattle.std.proofs.lemmas.List.{length-append}
 use Rattle.std.specs.Prelude.{IsTrue, ◌⊎◌}
 use Rattle.sx_block.specs.declared.header.Block.{Block}
 use Rattle.sx_block.specs.Block.{IsBlock}
 use Rattle.sx_block.specs.EffectLaws.{BlockKeepsLedger}
-use Rattle.sx_block.specs.Validity.{IsValid}
 use Rattle.sx_bytes.specs.declared.fault.FormFault.{FormFault}
 use Rattle.sx_bytes.specs.Field.{AreBytes}
 use Rattle.sx_check.specs.declared.invalid.Invalid.{Invalid}
 use Rattle.sx_check.specs.Laws.{EveryBlockIsJudged}
-use Rattle.sx_check.specs.Refusals.{Refuses}
 use Rattle.sx_layout.specs.declared.script.Script.{Script}
 use Rattle.sx_layout.specs.declared.space.NoRoom.{NoRoom}
 use Rattle.sx_layout.specs.Room.{room_for}
 use Rattle.sx_ledger.specs.declared.parts.Parts.{Parts}
 use Rattle.sx_ledger.specs.Ledger.{IsLedger}
-use Rattle.sx_meaning.specs.Expected.{Expected, IsDoneWith, IsExpected, item_at, may_end}
-use Rattle.sx_meaning.specs.Findings.{Concludes, Finding, Finds, FindsAtEnd, GoesOn, MayCome, MayComeAll, StopsAt}
+use Rattle.sx_meaning.specs.Expected.{IsDoneWith, IsExpected, item_at, may_end}
+use Rattle.sx_meaning.specs.Findings.{Concludes, Finding, Finds, GoesOn, MayComeAll, StopsAt}
 use Rattle.sx_meaning.specs.Findings.{all_tags, as_invalid, expected, malformed, no_fault, refused}
 use Rattle.sx_meaning.specs.Items.{IsItem, Item, block, candidates, item_record, outcomes, payload_of, records, script}
 use Rattle.sx_meaning.specs.Items.{state, tag_of}
@@ -30,7 +28,7 @@ use Rattle.sx_meaning.proofs.Chains.{chain_keeps_ledger, replays_chains, room_fo
 use Rattle.sx_meaning.proofs.ItemLaws.{length-record}
 use Rattle.sx_meaning.proofs.ItemLists.{come_then, records_then}
 use Rattle.sx_meaning.proofs.SomeItem.{IsKnown, IsThere, KnowsTags, no_item, some_item}
-use Rattle.sx_record.specs.Tags.{block_tag, candidates_tag, outcomes_tag, script_tag, state_tag}
+use Rattle.sx_record.specs.Tags.{block_tag, candidates_tag, script_tag, state_tag}
 use Rattle.sx_tx.specs.declared.tx.Tx.{Tx}
 use Rattle.sx_words.specs.declared.command.Command.{Command}
 use Rattle.sx_words.specs.declared.command.Command.TheVariants.{Check, Demo, Interleave, Migrate, Replay, Seal, Show}

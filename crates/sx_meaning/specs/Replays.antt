@@ -1,12 +1,12 @@
 -- The blocks of a replay.
-use Rattle.std.specs.Prelude.{◌≡◌, ℕ, ◌+◌, ◌<◌, Bool, true, false, List, [], ◌∷◌, fold, length, nat_le, Option, None}
+use Rattle.std.specs.Prelude.{ℕ, Bool, true, false, List, [], ◌∷◌, fold, length, nat_le, Option, None}
 use Rattle.std.specs.Prelude.{Some}
 use Rattle.std.specs.List.{filter_map}
 use Rattle.sx_block.specs.declared.header.Block.{Block}
 use Rattle.sx_block.specs.Validity.{IsValid, ledger_after}
 use Rattle.sx_ledger.specs.declared.parts.Parts.{Parts}
 use Rattle.sx_meaning.specs.Expected.{Expected, needed, record_of}
-use Rattle.sx_meaning.specs.Items.{Item, block, candidates, outcomes, script, state}
+use Rattle.sx_meaning.specs.Items.{Item, block}
 use Rattle.sx_record.specs.Tags.{block_tag, outcomes_tag, state_tag}
 
 -- how many blocks a replay may have
