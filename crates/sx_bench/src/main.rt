@@ -3,45 +3,46 @@
 //! `sx_bench NAME SIZE` makes the input of a benchmark, runs the call several times and prints the
 //! name, the size, the least time in seconds, and how many bytes a second that is. `sx_bench NAME
 //! SIZE input` writes the bytes of that input to standard output, so that another program can be
-//! timed on them. Without words it lists the benchmarks. `sx_bench bounds KIND ASSETS SEED SHIFT` prints
-//! the bounds of the instance of a circulation, so that another program can be timed on these.
+//! timed on them. Without words it lists the benchmarks. `sx_bench bounds SIZE ASSETS` prints the bounds of drawn
+//! offers, from which `sx_bench circulation`, or another program, finds a circulation.
 //!
 //! It proves nothing of time. The scripts under `bench/` compare its figures with other programs.
 #![tactic(auto)]
 
-mod base;
 mod benchmark;
+mod book;
+mod bounds;
 mod candidates;
 mod circulation;
 mod clear;
 mod digest;
 mod drawing;
 mod gather;
-mod instance;
-mod kind;
-mod market;
 mod quotes;
 mod report;
 mod search;
 mod shard;
 mod show;
-mod span;
 mod state;
 
-ghost use Rattle.std.specs.Prelude.{◌≤◌, ◌<◌, IfOk};
-
-use anyhow::{Context, Result, bail, ensure};
+use anyhow::{Context, Result, bail};
 use benchmark::{Benchmark, time};
+use bounds::read_bounds;
 use candidates::Candidates;
+use circulation::Method;
 use digest::Hashed;
-use instance::Instance;
-use kind::kind_of;
 use show::ShownState;
 use state::State;
 use std::env;
-use std::io::Write;
-use std::rt::Env;
+use std::io::{self, Write};
+use std::rt::{Clock, Env};
+use std::thread::Threads;
 use sx_base::StdSource;
+
+const USAGE: &str = "usage: sx_bench, or sx_bench NAME SIZE, or sx_bench NAME SIZE input";
+
+// The word for the input of a benchmark in place of its time.
+const INPUT: &str = "input";
 
 // What is wanted of a benchmark: its size, and whether only its input is to be written.
 #[derive(Clone, Copy)]
@@ -61,35 +62,12 @@ fn request_of(size: &str, rest: &[String]) -> Result<Request> {
             size,
             wants_input: false,
         }),
-        [word] if word.as_str() == "input" => Ok(Request {
+        [word] if word.as_str() == INPUT => Ok(Request {
             size,
             wants_input: true,
         }),
-        _ => bail!("usage: sx_bench, or sx_bench NAME SIZE, or sx_bench NAME SIZE input"),
+        _ => bail!("{USAGE}"),
     }
-}
-
-// The instance of these words.
-fn instance_of(words: &[String]) -> Result<Instance>
-    ensures some { IfOk result (λ instance. 1 ≤ instance.assets) }
-    ensures few { IfOk result (λ instance. instance.assets ≤ 32) }
-    ensures shift { IfOk result (λ instance. instance.shift < 128) }
-{
-    let [kind, assets, seed, shift] = words else {
-        bail!("usage: sx_bench circulation KIND ASSETS SEED SHIFT, or the same with bounds");
-    };
-    let instance = Instance {
-        kind: kind_of(kind)?,
-        assets: number_of(assets)?,
-        seed: u64::from(number_of(seed)?),
-        shift: number_of(shift)?,
-    };
-    ensure!(
-        1 <= instance.assets && instance.assets <= 32,
-        "from 1 to 32 assets"
-    );
-    ensure!(instance.shift < 128, "a shift below 128");
-    Ok(instance)
 }
 
 fn words_of(rt: &(impl Env + AllocGlobal)) -> Result<Vec<String>> {
@@ -113,25 +91,78 @@ fn serve(rt: &HostRuntime, name: &str, request: Request, benchmark: &impl Benchm
     Ok(())
 }
 
+// Lists the benchmarks.
+fn list(rt: &impl Print) -> Result<()> {
+    println!(rt; "{} SIZE: {}", candidates::NAME, candidates::WHAT)?;
+    println!(rt; "{} SIZE: {}", state::NAME, state::WHAT)?;
+    println!(rt; "{} SIZE: {}", show::NAME, show::WHAT)?;
+    println!(rt; "{} SIZE: {}", digest::NAME, digest::WHAT)?;
+    println!(rt; "{} THREADS PURSES: {}", shard::NAME, shard::WHAT)?;
+    println!(rt; "{} SIZE ASSETS: {}", search::NAME, search::WHAT)?;
+    println!(rt; "{}: {}", circulation::NAME, circulation::WHAT)?;
+    println!(rt; "{}: the same, level by level", circulation::LEVELS)?;
+    println!(rt; "{} SIZE ASSETS: {}", book::NAME, book::WHAT)?;
+    println!(rt; "{} ROUNDS: {}", clear::NAME, clear::WHAT)?;
+    println!(rt; "{} WORKERS: {}", gather::NAME, gather::WHAT)?;
+    Ok(())
+}
+
+fn method_of(name: &str) -> Result<Method> {
+    if name == circulation::NAME {
+        Ok(Method::Pair)
+    } else if name == circulation::LEVELS {
+        Ok(Method::Levels)
+    } else {
+        bail!("{USAGE}")
+    }
+}
+
+// A benchmark of bounds that are read.
+fn serve_bounds(rt: &HostRuntime, name: &str) -> Result<()> {
+    let method = method_of(name)?;
+    let text = io::read_to_string(rt.alloc(), rt.stdin())?;
+    circulation::measure(rt, method, &read_bounds(rt.alloc(), text.as_str())?)
+}
+
+// A benchmark of two numbers.
+fn serve_numbers<R: Threads + Sync + Clock + Print + AllocGlobal>(
+    rt: &R,
+    name: &str,
+    first: u32,
+    second: u32,
+) -> Result<()> {
+    if name == shard::NAME {
+        shard::measure(rt, first, second)
+    } else if name == search::NAME {
+        search::measure(rt, first, second)
+    } else if name == book::NAME {
+        book::print_bounds(rt, first, second)
+    } else {
+        bail!("{USAGE}")
+    }
+}
+
+// A benchmark of an input that is made.
+fn serve_made(rt: &HostRuntime, name: &str, request: Request) -> Result<()> {
+    let (alloc, size) = (rt.alloc(), request.size);
+    if name == candidates::NAME {
+        serve(rt, name, request, &Candidates::new(alloc, size)?)
+    } else if name == state::NAME {
+        serve(rt, name, request, &State::new(alloc, size)?)
+    } else if name == show::NAME {
+        serve(rt, name, request, &ShownState::new(alloc, size)?)
+    } else if name == digest::NAME {
+        serve(rt, name, request, &Hashed::new(alloc, size)?)
+    } else {
+        bail!("{USAGE}")
+    }
+}
+
 fn main(rt: HostRuntime) -> Result<()> {
     let words = words_of(&rt)?;
     match words.as_slice() {
-        [] => {
-            println!(rt; "{} SIZE: {}", candidates::NAME, candidates::WHAT)?;
-            println!(rt; "{} SIZE: {}", state::NAME, state::WHAT)?;
-            println!(rt; "{} SIZE: {}", show::NAME, show::WHAT)?;
-            println!(rt; "{} SIZE: {}", digest::NAME, digest::WHAT)?;
-            println!(rt; "{} THREADS PURSES: {}", shard::NAME, shard::WHAT)?;
-            println!(rt; "{} SIZE ASSETS: {}", search::NAME, search::WHAT)?;
-            println!(rt;
-                "{} KIND ASSETS SEED SHIFT: {}",
-                circulation::NAME,
-                circulation::WHAT
-            )?;
-            println!(rt; "{} ROUNDS: {}", clear::NAME, clear::WHAT)?;
-            println!(rt; "{} WORKERS: {}", gather::NAME, gather::WHAT)?;
-            Ok(())
-        }
+        [] => list(&rt),
+        [name] => serve_bounds(&rt, name),
         [name, rounds] if name.as_str() == clear::NAME => {
             let mut source = StdSource::new(rt.stdin());
             clear::measure(&rt, &mut source, number_of(rounds)?)
@@ -140,38 +171,9 @@ fn main(rt: HostRuntime) -> Result<()> {
             let mut source = StdSource::new(rt.stdin());
             gather::measure(&rt, &mut source, number_of(workers)?)
         }
-        [name, rest @ ..] if name.as_str() == circulation::NAME => {
-            circulation::measure(&rt, instance_of(rest)?)
+        [name, first, second] if second.as_str() != INPUT => {
+            serve_numbers(&rt, name, number_of(first)?, number_of(second)?)
         }
-        [name, rest @ ..] if name.as_str() == "bounds" => {
-            circulation::print_bounds(&rt, instance_of(rest)?)
-        }
-        [name, threads, purses] if name.as_str() == shard::NAME => {
-            shard::measure(&rt, number_of(threads)?, number_of(purses)?)
-        }
-        [name, size, assets] if name.as_str() == search::NAME => {
-            search::measure(&rt, number_of(size)?, number_of(assets)?)
-        }
-        [name, size, rest @ ..] if name.as_str() == candidates::NAME => {
-            let request = request_of(size, rest)?;
-            let candidates = Candidates::new(rt.alloc(), request.size)?;
-            serve(&rt, candidates::NAME, request, &candidates)
-        }
-        [name, size, rest @ ..] if name.as_str() == state::NAME => {
-            let request = request_of(size, rest)?;
-            let state = State::new(rt.alloc(), request.size)?;
-            serve(&rt, state::NAME, request, &state)
-        }
-        [name, size, rest @ ..] if name.as_str() == show::NAME => {
-            let request = request_of(size, rest)?;
-            let shown = ShownState::new(rt.alloc(), request.size)?;
-            serve(&rt, show::NAME, request, &shown)
-        }
-        [name, size, rest @ ..] if name.as_str() == digest::NAME => {
-            let request = request_of(size, rest)?;
-            let hashed = Hashed::new(rt.alloc(), request.size)?;
-            serve(&rt, digest::NAME, request, &hashed)
-        }
-        _ => bail!("usage: sx_bench, or sx_bench NAME SIZE, or sx_bench NAME SIZE input"),
+        [name, size, rest @ ..] => serve_made(&rt, name, request_of(size, rest)?),
     }
 }

@@ -7,6 +7,7 @@ use crate::benchmark::ROUNDS;
 use crate::quotes::draw_quotes;
 use crate::report;
 use anyhow::{Result, ensure};
+use std::alloc::Global;
 use std::rt::Clock;
 use std::thread::Threads;
 use std::time::Instant;
@@ -18,12 +19,24 @@ pub const NAME: &str = "search";
 pub const WHAT: &str =
     "builds the curves of SIZE offers of ASSETS assets, and searches prices for 500 rounds";
 
-const MOST_OFFERS: usize = 1 << 20;
+/// The most offers that are drawn.
+pub const MOST_OFFERS: usize = 1 << 20;
 
-const TRIALS: u32 = 500;
+/// How many rounds a search makes at most.
+pub const TRIALS: u32 = 500;
 
 // The exponent of μ: the least margin, which makes a search longest.
 const MU: u8 = Mu::MOST;
+
+/// The curves of these offers.
+pub fn curves_of(alloc: Global, assets: u32, quotes: &[Quote]) -> Result<Curves>
+    requires assets { (2 ≤ assets) × (assets ≤ 32) }
+    requires count { length quotes.now ≤ 2 ^ 20 }
+    requires small { All (IsSmall assets) quotes.now }
+    ensures { IfOk result (λ curves. curves.assets ≡ assets) }
+{
+    Ok(Curves::build(alloc, assets, quotes)?)
+}
 
 // The curves, and the nanoseconds that it took to build them.
 fn build_once<R: Clock + AllocGlobal>(
@@ -37,7 +50,7 @@ fn build_once<R: Clock + AllocGlobal>(
     ensures { IfOk result (λ made. made.0.assets ≡ assets) }
 {
     let start = Instant::now(rt)?;
-    let curves = Curves::build(rt.alloc(), assets, quotes)?;
+    let curves = curves_of(rt.alloc(), assets, quotes)?;
     Ok((curves, start.elapsed(rt)?.as_nanos()))
 }
 

@@ -1,7 +1,7 @@
 use Rattle.sx_bench.proofs.SmallMarket.{small_market}
-use Rattle.sx_bench.proofs.search.build_once.Goals as goal
+use Rattle.sx_bench.proofs.search.curves_of.Goals as goal
 
 pub build-requires : goal.build-requires
-build-requires g c =
+build-requires c =
     small_market c.args.assets c.args.quotes.now c.requires.assets.0 c.requires.assets.1 c.requires.count
     c.requires.small
