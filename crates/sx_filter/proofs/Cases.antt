@@ -1,6 +1,9 @@
 -- What is kept of candidates, computed at cases that were worked out by hand.
-use Rattle.std.proofs.Common.{◌≡◌, ◌^◌, ℕ, List, [], ◌∷◌, refl}
+use Rattle.std.proofs.Common.{◌≡◌, ◌^◌, ℕ, List, [], ◌∷◌, Ok, Err, refl}
+use Rattle.sx_filter.specs.declared.fault.FilterFault.TheVariants as fault
+use Rattle.sx_filter.specs.Fault.{IsFaultOf, fault_of}
 use Rattle.sx_filter.specs.Kept.{kept_of}
+use Rattle.sx_layout.specs.declared.space.NoRoom.TheVariants as no_room
 use Rattle.sx_ledger.specs.declared.account.Account.{Account}
 use Rattle.sx_ledger.specs.declared.parts.Parts.{Parts}
 use Rattle.sx_tx.specs.declared.kind.Kind.{Kind}
@@ -58,8 +61,15 @@ all_of_it = refl
 refused_counts_nothing : kept_of ledger (pays 1 65 2 60 ∷ pays 1 2 2 60 ∷ []) ≡ pays 1 2 2 60 ∷ []
 refused_counts_nothing = refl
 
+-- a candidate that the ledger refuses stands in nobody's way: not by its number, and not by the account that it creates
+refused_has_no_number : kept_of ledger (pays 1 1 9 5 ∷ pays 1 1 2 5 ∷ []) ≡ pays 1 1 2 5 ∷ []
+refused_has_no_number = refl
+
+refused_creates_nothing : kept_of ledger (creates 1 65 9 ∷ creates 2 1 9 ∷ []) ≡ creates 2 1 9 ∷ []
+refused_creates_nothing = refl
+
 -- one that falls out for its number counts: account 1 has 60 and 50 to pay
-fallen_counts : kept_of ledger (pays 1 1 2 60 ∷ pays 2 2 1 1 ∷ pays 2 2 1 2 ∷ pays 1 2 2 50 ∷ []) ≡ []
+fallen_counts : kept_of ledger (pays 1 1 2 60 ∷ creates 1 1 9 ∷ pays 1 2 2 50 ∷ []) ≡ []
 fallen_counts = refl
 
 -- where an account is overdrawn, its creations fall out too
@@ -98,6 +108,10 @@ cancels seq of = tx 1 seq (kind.Cancel 0 1 (2 ^ 24) of)
 one_offer : kept_of offered (cancels 4 3 ∷ cancels 5 3 ∷ cancels 6 2 ∷ []) ≡ cancels 6 2 ∷ []
 one_offer = refl
 
+-- one that the ledger refuses, of number 70, cancels nothing
+refused_cancels_nothing : kept_of offered (cancels 4 3 ∷ cancels 70 3 ∷ []) ≡ cancels 4 3 ∷ []
+refused_cancels_nothing = refl
+
 not_spent : kept_of offered (cancels 4 3 ∷ tx 1 5 (kind.Pay (record { 0 = 2 }) 0 11) ∷ []) ≡ []
 not_spent = refl
 
@@ -111,3 +125,55 @@ assets_apart = refl
 by_account : kept_of ledger (pays 2 1 1 1 ∷ pays 1 3 2 1 ∷ pays 1 2 2 1 ∷ [])
     ≡ pays 1 2 2 1 ∷ pays 1 3 2 1 ∷ pays 2 1 1 1 ∷ []
 by_account = refl
+
+-- offers that differ in one of their numbers are not one offer: here what is bought and sold, the limit, the account
+-- or the number
+abbrev apart : Parts
+apart = record {
+  version = 1;
+  height = 0;
+  prices = 2 ^ 24 ∷ 2 ^ 24 ∷ 2 ^ 24 ∷ [];
+  rounding = 0 ∷ 0 ∷ 0 ∷ [];
+  accounts = account 1 4 0 (0 ∷ 0 ∷ 0 ∷ []) ∷ account 2 4 0 (0 ∷ 0 ∷ 0 ∷ []) ∷ [];
+  offers =
+      record { sell = 0; buy = 1; limit = 2 ^ 24; account = record { 0 = 1 }; seq = 3; amount = 40 }
+      ∷ record { sell = 0; buy = 1; limit = 2 ^ 24; account = record { 0 = 1 }; seq = 4; amount = 40 }
+      ∷ record { sell = 0; buy = 1; limit = 2 ^ 24; account = record { 0 = 2 }; seq = 3; amount = 40 }
+      ∷ record { sell = 0; buy = 1; limit = 2 ^ 25; account = record { 0 = 1 }; seq = 3; amount = 40 }
+      ∷ record { sell = 0; buy = 2; limit = 2 ^ 24; account = record { 0 = 1 }; seq = 3; amount = 40 }
+      ∷ record { sell = 2; buy = 1; limit = 2 ^ 24; account = record { 0 = 1 }; seq = 3; amount = 40 }
+      ∷ [];
+}
+
+abbrev six : List Tx
+six =
+    tx 1 5 (kind.Cancel 0 1 (2 ^ 24) 3) ∷ tx 1 6 (kind.Cancel 0 1 (2 ^ 24) 4) ∷ tx 1 7 (kind.Cancel 0 1 (2 ^ 25) 3)
+    ∷ tx 1 8 (kind.Cancel 0 2 (2 ^ 24) 3) ∷ tx 1 9 (kind.Cancel 2 1 (2 ^ 24) 3) ∷ tx 2 5 (kind.Cancel 0 1 (2 ^ 24) 3)
+    ∷ []
+
+six_offers : kept_of apart six ≡ six
+six_offers = refl
+
+-- ---- why a filter does not answer a list
+
+ended : fault_of no_room.Ended ≡ fault.Ended
+ended = refl
+
+crowded : fault_of (no_room.Crowded 3 2 4) ≡ fault.Crowded 3 2 4
+crowded = refl
+
+crowded_is_why : IsFaultOf (Err (no_room.Crowded 3 2 4)) (fault.Crowded 3 2 4)
+crowded_is_why = refl
+
+-- not in another order, and not where there is room
+crowded_otherwise : IsFaultOf (Err (no_room.Crowded 3 2 4)) (fault.Crowded 2 3 4) → ⊥
+crowded_otherwise why = absurd cc
+
+not_crowded : IsFaultOf (Ok tt) (fault.Crowded 3 2 4) → ⊥
+not_crowded why = absurd cc
+
+not_ended : IsFaultOf (Ok tt) fault.Ended → ⊥
+not_ended why = absurd cc
+
+not_the_end : IsFaultOf (Err (no_room.Crowded 3 2 4)) fault.Ended → ⊥
+not_the_end why = absurd cc

@@ -13,7 +13,7 @@ use Rattle.std.proofs.lemmas.List.Elements.{Contains-get_or}
 use Rattle.std.proofs.lemmas.List.Sorted.{Contains-permutation, IsPermutation-sym, sum_by-IsPermutation}
 use Rattle.sx_filter.specs.Alone.{is_alone, is_twice}
 use Rattle.sx_filter.specs.Kept.{both, covers, kept_of, passes, passing, same_id, same_number, same_offer}
-use Rattle.sx_filter.specs.Laws.{CoversAll, KeptIsAdmissible, KeptPermuted}
+use Rattle.sx_filter.specs.Laws.{CoversAll, KeptIsAdmissible, KeptPermuted, RefusedAreNothing}
 use Rattle.sx_filter.proofs.Counts.{contains_in, count_is, filter_in, in_contains, in_filter, times, total_left}
 use Rattle.sx_filter.proofs.Counts.{total_less}
 use Rattle.sx_filter.proofs.InOrder.{Once, ordered, ordered_in, same_ordered}
@@ -349,3 +349,18 @@ module _ (parts : Parts) (xs ys : List Tx) (moves : IsPermutation xs ys) where
 
 pub kept_permuted : KeptPermuted
 kept_permuted parts xs ys moves = same_kept parts xs ys moves
+
+-- ---- what is refused
+
+passing_again : (parts : Parts) (txs : List Tx) → passing parts (passing parts txs) ≡ passing parts txs
+passing_again parts [] = refl
+passing_again parts (tx ∷ txs) = elim (cases_Bool (passes parts tx)) [
+  | inl e ↦ rw e (rw e (ap (λ (list : List Tx). tx ∷ list) (passing_again parts txs)))
+  | inr e ↦ rw e (passing_again parts txs)
+]
+
+pub refused_are_nothing : RefusedAreNothing
+refused_are_nothing parts candidates =
+    kept_is parts (passing parts candidates)
+    ∙ ap (λ (list : List Tx). in_tx_order (filter (is_alone parts list) list)) (passing_again parts candidates)
+    ∙ sym (kept_is parts candidates)

@@ -36,3 +36,8 @@ CoversAll =
     (parts : Parts) (candidates : List Tx) (account : ℕ)
     → (covers parts (passing parts candidates) account (assets_of parts) ≡ true)
     ↔ ((asset : ℕ) → debits (passing parts candidates) account asset ≤ holding_of parts.accounts account asset)
+
+-- what the ledger refuses stands in nobody's way
+abbrev pub RefusedAreNothing : Type 0
+RefusedAreNothing =
+    (parts : Parts) (candidates : List Tx) → kept_of parts (passing parts candidates) ≡ kept_of parts candidates

@@ -1,5 +1,5 @@
 use Rattle.sx_filter.proofs.Accepting.{kept_is_accepted}
-use Rattle.sx_filter.proofs.KeptLaws.{covers_all, kept_is_admissible, kept_permuted}
+use Rattle.sx_filter.proofs.KeptLaws.{covers_all, kept_is_admissible, kept_permuted, refused_are_nothing}
 use Rattle.sx_filter.proofs.laws.filter_laws.Goals as goal
 
 pub returns-clause-admissible : goal.returns-clause-admissible
@@ -13,3 +13,6 @@ returns-clause-accepted c = kept_is_accepted
 
 pub returns-clause-covers_all : goal.returns-clause-covers_all
 returns-clause-covers_all c = covers_all
+
+pub returns-clause-refused : goal.returns-clause-refused
+returns-clause-refused c = refused_are_nothing
