@@ -1,5 +1,5 @@
 -- Small passes, submits and faults, computed.
-use Rattle.std.proofs.Common.{◌≡◌, ℕ, ◌≤◌, List, [], ◌∷◌, Ok, Err, refl, arith}
+use Rattle.std.proofs.Common.{◌≡◌, ℕ, ◌≤◌, List, [], ◌∷◌, ◌++◌, map, All, Ok, Err, refl, ap, arith}
 use Rattle.std.proofs.lemmas.List.Elements.{All-from_recursion}
 use Rattle.sx_event.specs.declared.marks.Claim.TheVariants.{Bit, Debit}
 use Rattle.sx_event.specs.declared.marks.Note.{Note}
@@ -97,6 +97,28 @@ low_found = (
     notes_are = refl;
   },
 )
+
+-- 50 is too little too, so the call would have ended with it, and not seen 40 after it
+abbrev after_low : ℕ → List Note
+after_low shard = Low 3 50 ∷ Low 3 40 ∷ []
+
+abbrev first_value : List Note → ℕ
+first_value [] = 0
+first_value (Low purse value ∷ notes) = value
+first_value (Set word bit ∷ notes) = 0
+
+not_after_low : FoundLow after_low spot 40 60 → ⊥
+not_after_low low = by low.earlier low.finds.enough low.notes_are
+  where
+    by : (earlier : List ℕ) → All (λ value. 60 ≤ value) earlier → after_low 1 ≡ map (Low 3) (earlier ++ 40 ∷ []) → ⊥
+    by [] enough is =
+        let last : ℕ = 40 in
+        let first : 50 ≡ last = ap first_value is in
+        omega (arith, first)
+    by (value ∷ rest) enough is =
+        let first : 50 ≡ value = ap first_value is in
+        let more : 60 ≤ value = enough 0 0 (omega arith) in
+        omega (arith, first, more)
 
 -- what is enough is not too little, and units are not a bit
 enough_found : FoundLow two_lows spot 60 60 → ⊥
