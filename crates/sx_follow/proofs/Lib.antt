@@ -1,0 +1,4 @@
+pub mod Chains
+pub mod Existence
+pub mod Steps
+pub mod Followers

@@ -1,0 +1,124 @@
+//! A follower.
+
+ghost use Rattle.std.specs.Prelude.{◌≡◌, ◌++◌, ◌∷◌, [], ◌<◌, ◌≤◌, true, false, length, IfOk, OnErr, OnOk};
+ghost use Rattle.sx_block.specs.Block.{IsBlock};
+ghost use Rattle.sx_follow.specs.Chain.{NoneIsValid};
+ghost use Rattle.sx_follow.specs.Follower.{Advances, IsFollower, begun, most_blocks};
+
+use crate::finding::find;
+use std::alloc::Global;
+use std::marker::Model;
+use sx_block::{Block, Digest, block_effect_laws, ledger_digest};
+use sx_bytes::NoMemory;
+use sx_check::check_laws;
+use sx_ledger::Ledger;
+
+/// A ledger, blocks that were proposed on top of it, and the ledger after as many blocks of their chain as it has
+/// applied. Contracts see a `Followed`.
+#[derive(Debug, Drop)]
+pub struct Follower {
+    opening: Ledger,
+    blocks: Vec<Block>,
+    steps: u32,
+    head: Ledger,
+    digest: Digest,
+}
+
+impl Model for Follower {
+    ghost use Rattle.std.specs.Prelude.{◌≡◌};
+    ghost use Rattle.sx_block.specs.Validity.{digest_of_ledger};
+    ghost use Rattle.sx_follow.specs.Follower.{Followed, IsFollower};
+
+    ghost Value = { Followed };
+
+    ghost view = { λ f. record {
+      opening = f.opening;
+      blocks = f.blocks.items;
+      steps = f.steps;
+      head = f.head;
+    } };
+
+    ghost invariant = { λ f. (f.digest ≡ digest_of_ledger f.head) × IsFollower (record {
+      opening = f.opening;
+      blocks = f.blocks.items;
+      steps = f.steps;
+      head = f.head;
+    }) };
+}
+
+impl Follower {
+    /// The most blocks.
+    pub const MOST_BLOCKS: u32 = 1_000_000;
+
+    /// A follower that has taken no block yet. It works on a copy of the ledger.
+    pub fn start(alloc: Global, ledger: Ledger) -> Result<Follower, NoMemory>
+        ensures { IfOk result (λ follower. follower ≡ begun ledger) }
+    {
+        let digest = ledger_digest(alloc, &ledger)?;
+        let head = ledger.copy()?;
+        Ok(Follower {
+            opening: ledger,
+            blocks: Vec::new(alloc),
+            steps: 0,
+            head,
+            digest,
+        })
+    }
+
+    /// Takes a block, good or bad, and looks no further into it. The block has the form of one, as those have
+    /// that are read.
+    pub fn offer(&mut self, block: Block) -> Result<(), NoMemory>
+        requires few { length self.old.blocks < most_blocks }
+        requires form { IsBlock block }
+        ensures taken { OnOk result (self.new ≡ record self.old { blocks = self.old.blocks ++ block ∷ [] }) }
+        ensures kept { OnErr result (self.new ≡ self.old) }
+    {
+        block_effect_laws();
+        check_laws();
+        self.blocks.push(block)?;
+        Ok(())
+    }
+
+    /// Applies the first block that is valid for the head, and answers whether there was one. It works on a copy
+    /// of the head.
+    pub fn advance(&mut self) -> Result<bool, NoMemory>
+        ensures advances { result ≡ Ok true → Advances self.old self.new }
+        ensures stays { result ≡ Ok false → NoneIsValid self.old.head self.old.blocks × (self.new ≡ self.old) }
+        ensures kept { OnErr result (self.new ≡ self.old) }
+    {
+        let alloc = *self.blocks.allocator();
+        match find(alloc, &self.head, &self.digest, &self.blocks)? {
+            Some(left) => {
+                self.steps += 1;
+                self.head = left.ledger;
+                self.digest = left.digest;
+                Ok(true)
+            }
+            None => Ok(false),
+        }
+    }
+
+    /// The ledger after the blocks that were applied.
+    pub fn head(&self) -> &Ledger
+        ensures head { result.now ≡ self.now.head }
+        ensures follows { IsFollower self.now }
+    {
+        &self.head
+    }
+
+    /// How many blocks were taken, those among them that come twice or never serve.
+    pub fn taken(&self) -> u32
+        ensures number { result ≡ length self.now.blocks }
+        ensures few { result ≤ most_blocks }
+    {
+        self.blocks.len() as u32
+    }
+
+    /// How many blocks were applied.
+    pub fn steps(&self) -> u32
+        ensures number { result ≡ self.now.steps }
+        ensures few { result ≤ length self.now.blocks }
+    {
+        self.steps
+    }
+}

@@ -1,0 +1,32 @@
+//! Laws of chains.
+
+ghost use Rattle.sx_follow.specs.Laws.{
+  ChainGrows,
+  EveryListHasChain,
+  FollowersAgree,
+  FollowersReplay,
+  OneChain,
+  PartGoesAsFar,
+  ValidAreChain,
+};
+
+use sx_block::block_effect_laws;
+use sx_check::check_laws;
+
+/// Each list of blocks has one chain from a ledger on. Blocks that come behind leave it as it was up to its
+/// end. Where no two different blocks have one parent, the chain of a part of them is the beginning of the
+/// chain of all; so followers of the same blocks, in any order and with any repeats, have the same head
+/// where none can advance. Where each block is valid in turn, the chain is the list, and the head is what a
+/// replay gives.
+pub fn follow_laws()
+    ensures some { EveryListHasChain }
+    ensures one { OneChain }
+    ensures grows { ChainGrows }
+    ensures part { PartGoesAsFar }
+    ensures agree { FollowersAgree }
+    ensures chain { ValidAreChain }
+    ensures replay { FollowersReplay }
+{
+    block_effect_laws();
+    check_laws();
+}

@@ -1,0 +1,67 @@
+//! One block on the head.
+
+ghost use Rattle.std.specs.Prelude.{◌≡◌, IfNone, IfOk, IfSome};
+ghost use Rattle.sx_apply.specs.Effects.{AreEffects};
+ghost use Rattle.sx_block.specs.Block.{IsBlock};
+ghost use Rattle.sx_block.specs.Validity.{IsSound, IsValid, digest_of_ledger};
+ghost use Rattle.sx_follow.specs.Follower.{Leaves};
+
+use std::alloc::Global;
+use sx_apply::{Effects, apply};
+use sx_block::{Block, Digest, body_digest, ledger_digest, validity_laws};
+use sx_bytes::NoMemory;
+use sx_check::{CheckFault, check_laws, close, judge};
+use sx_ledger::Ledger;
+
+// What a block leaves: the ledger, and its digest.
+#[derive(Debug, Drop)]
+pub struct Leaving {
+    pub ledger: Ledger,
+    pub digest: Digest,
+}
+
+// Applies a sound block to a copy of the head. It leaves something where it names the digest of that.
+fn leave(
+    alloc: Global,
+    head: &Ledger,
+    block: &Block,
+    effects: Effects,
+) -> Result<Option<Leaving>, NoMemory>
+    requires sound { IsSound head.now block.now }
+    requires effects { AreEffects head.now block.now effects }
+    ensures valid { IfOk result (λ found. IfSome found (Leaves head.now block.now)) }
+    ensures refused { IfOk result (λ found. IfNone found (¬ IsValid head.now block.now)) }
+{
+    validity_laws();
+    check_laws();
+    let ledger = apply(alloc, head.copy()?, block, effects)?;
+    let digest = ledger_digest(alloc, &ledger)?;
+    match close(&block.header, &digest) {
+        Ok(()) => Ok(Some(Leaving { ledger, digest })),
+        Err(_) => Ok(None),
+    }
+}
+
+// What a block leaves of the head, if it is valid for it.
+pub(crate) fn step(
+    alloc: Global,
+    head: &Ledger,
+    digest: &Digest,
+    block: &Block,
+) -> Result<Option<Leaving>, NoMemory>
+    requires digest { digest.now ≡ digest_of_ledger head.now }
+    requires form { IsBlock block.now }
+    ensures valid { IfOk result (λ found. IfSome found (Leaves head.now block.now)) }
+    ensures refused { IfOk result (λ found. IfNone found (¬ IsValid head.now block.now)) }
+{
+    check_laws();
+    if block.header.parent != *digest {
+        return Ok(None);
+    }
+    let body = body_digest(alloc, block.txs.items())?;
+    match judge(alloc, head, block, digest, &body) {
+        Ok(judged) => leave(alloc, head, block, judged.effects),
+        Err(CheckFault::Invalid(_)) => Ok(None),
+        Err(CheckFault::NoMemory) => Err(NoMemory),
+    }
+}

@@ -1,0 +1,36 @@
+//! A follower of proposed blocks.
+//!
+//! A [`Follower`] begins with a ledger and takes blocks that somebody proposes: in any order, with repeats and
+//! gaps, and with bad ones among them. [`Follower::offer`] takes a block and judges nothing.
+//! [`Follower::advance`] applies the first of all blocks taken that is valid for the head, and tells whether
+//! there was one:
+//!
+//! ```text
+//!     opening ──► head                 blocks taken, in the order in which they came
+//!     height 0    height 0             B2   X1   B1   B1         X1 is refused
+//!                 advance: B1 is the first that is valid
+//!                 height 1             advance: B2
+//!                 height 2             advance: none
+//! ```
+//!
+//! A block that comes too early waits; one that was refused is looked at again where the head has its parent. So the
+//! head is what the first blocks of the chain leave, by `IsChain` in `specs/Chain`: the first block of the list that is
+//! valid for the opening ledger, then the first that is valid for what this leaves, and so on.
+//! [`follow_laws`] says that there is one such chain, that blocks that come later only make it longer, that
+//! followers of the same blocks agree where no two different ones have one parent, and that blocks in their order
+//! give what a replay gives.
+//!
+//! Cost: an advance compares the parent of each block that was taken with the head's digest, and judges those that
+//! have it. A block that is judged to its end is applied to a copy of the ledger.
+//!
+//! Not here: no block is ever dropped, so a follower takes 1,000,000 at most. Of two valid blocks with one
+//! parent the one that came first counts, and nothing says which of them others take.
+#![tactic(auto)]
+
+mod finding;
+mod follower;
+mod laws;
+mod leaving;
+
+pub use follower::Follower;
+pub use laws::follow_laws;
