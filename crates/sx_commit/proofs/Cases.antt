@@ -1,0 +1,61 @@
+-- The definitions of commitments, computed at cases that were worked out by hand.
+use Rattle.std.proofs.Common.{◌≡◌, ◌^◌, ℕ, List, [], ◌∷◌, ◌++◌, refl}
+use Rattle.sha2.specs.Sha256.{sha256}
+use Rattle.sx_commit.specs.Commitments.{digest_at, folded, leaf_bytes, listed, place_beside, root_of}
+use Rattle.sx_commit.specs.Commitments.{siblings_of}
+use Rattle.sx_ledger.specs.declared.account.Account.{Account}
+use Rattle.sx_ledger.specs.declared.parts.Parts.{Parts}
+
+-- account 7 used the numbers up to 3, and 5; it holds 100 units of one asset
+abbrev seven : Account
+seven = record { id = record { 0 = 7 }; window = record { last = 3; used = 2 }; balances = 100 ∷ [] }
+
+-- a ledger of version 2 with that account alone
+abbrev ledger : Parts
+ledger = record {
+  version = 2;
+  height = 0;
+  prices = 2 ^ 24 ∷ [];
+  rounding = 0 ∷ [];
+  accounts = seven ∷ [];
+  offers = [];
+}
+
+-- ---- the bytes of which digests are made
+
+abbrev word : ℕ → List ℕ
+word low = 0 ∷ 0 ∷ 0 ∷ 0 ∷ 0 ∷ 0 ∷ 0 ∷ low ∷ []
+
+-- version 1 has no map of used numbers
+leaves : (leaf_bytes 1 seven ≡ 0 ∷ 1 ∷ word 7 ++ word 3 ++ word 100)
+    × (leaf_bytes 2 seven ≡ 0 ∷ 2 ∷ word 7 ++ word 3 ++ word 2 ++ word 100)
+leaves = (refl, refl)
+
+-- place 0 has the account, and place 1 has none; over the two stands the byte 1
+lowest : (digest_at ledger 0 0 ≡ sha256 (leaf_bytes 2 seven)) × (digest_at ledger 0 1 ≡ sha256 (2 ∷ []))
+    × (digest_at ledger 1 0 ≡ sha256 (1 ∷ digest_at ledger 0 0 ++ digest_at ledger 0 1))
+    × (digest_at ledger 1 3 ≡ sha256 (1 ∷ digest_at ledger 0 6 ++ digest_at ledger 0 7))
+unfolding digest_at
+lowest = (refl, refl, refl, refl)
+
+root : root_of ledger ≡ digest_at ledger 16 0
+root = refl
+
+-- ---- the way from place 5: it goes through 5, 2, 1 and then 0
+
+places : (place_beside 5 ≡ 4) × (place_beside 2 ≡ 3) × (place_beside 1 ≡ 0) × (place_beside 0 ≡ 1)
+places = (refl, refl, refl, refl)
+
+beside_five : siblings_of ledger 5
+    ≡ digest_at ledger 0 4 ∷ digest_at ledger 1 3 ∷ digest_at ledger 2 0 ∷ digest_at ledger 3 1 ∷ digest_at ledger 4 1
+    ∷ digest_at ledger 5 1 ∷ digest_at ledger 6 1 ∷ digest_at ledger 7 1 ∷ digest_at ledger 8 1 ∷ digest_at ledger 9 1
+    ∷ digest_at ledger 10 1 ∷ digest_at ledger 11 1 ∷ digest_at ledger 12 1 ∷ digest_at ledger 13 1
+    ∷ digest_at ledger 14 1 ∷ digest_at ledger 15 1 ∷ []
+unfolding listed
+beside_five = refl
+
+-- from place 5 a digest stands right, left and right again
+folded_thrice : (leaf a b c : List ℕ) → folded 5 (a ∷ b ∷ c ∷ []) leaf 3
+    ≡ sha256 (1 ∷ c ++ sha256 (1 ∷ sha256 (1 ∷ a ++ leaf) ++ b))
+unfolding folded
+folded_thrice leaf a b c = refl

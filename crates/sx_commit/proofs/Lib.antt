@@ -1,0 +1,4 @@
+pub mod Listing
+pub mod Levels
+pub mod Folding
+pub mod Cases

@@ -1,0 +1,17 @@
+use Rattle.std.proofs.Common.{Some, ap, arith, sym, ◌∙◌}
+use Rattle.sx_commit.proofs.Folding.{true_is_good}
+use Rattle.sx_commit.proofs.committing.prove.Goals as goal
+
+pub returns-clause-good : goal.returns-clause-good
+returns-clause-good c =
+    true_is_good c.args.ledger.now
+    record {
+      version = c.version-version.result;
+      place = c.args.place;
+      account = c.in_ok-account.account;
+      siblings = c.in_ok-siblings.siblings;
+    }
+    (omega (arith, c.requires, c.account.ensures.kept.few_accounts))
+    c.version-version.ensures.version
+    (c.account.ensures.account ∙ ap Some (sym c.in_ok-account.ensures))
+    c.in_ok-siblings.ensures

@@ -1,0 +1,8 @@
+use Rattle.std.proofs.Common.{◌≡◌}
+use Rattle.sx_commit.specs.Commitments.{listed, sibling_at}
+use Rattle.sx_commit.specs.Levels.{IsLevel}
+use Rattle.sx_commit.proofs.committing.siblings.Given as goal
+
+abbrev pub invariant-loop-k : goal.invariant-loop-k
+invariant-loop-k l =
+    IsLevel l.ledger l.k l.level × (l.siblings.items ≡ listed (sibling_at l.ledger l.fn.place) l.k)

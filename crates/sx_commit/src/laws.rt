@@ -1,0 +1,9 @@
+//! Laws of commitments.
+
+ghost use Rattle.sx_commit.specs.Laws.{GoodForOne, TrueIsGood};
+
+/// A proof of what the ledger says is good for the root of its accounts. A proof is good for one root alone.
+pub fn commitment_laws()
+    ensures true_is_good { TrueIsGood }
+    ensures one_root { GoodForOne }
+{}

@@ -1,0 +1,42 @@
+//! One digest over all accounts of a ledger, and proofs of one account.
+//!
+//! [`commit`] answers the root of a tree of digests. Its leaves are the digests of the accounts, each at its
+//! place in the ledger, and of nothing at the places after them:
+//!
+//! ```text
+//!     level 2             r
+//!                     /       \
+//!     level 1       p           q
+//!                 /   \       /   \
+//!     level 0   a       b   c       -        a, b and c: three accounts; -: a place without one
+//! ```
+//!
+//! There are sixteen levels above the leaves, and so a place for each account that a ledger may have. [`prove`]
+//! answers the [`Proof`] of one account: the account, and the digest beside the way from its leaf to the root at
+//! each level. In the drawing, what shows that b stands at place 1 is b itself and the digests a and q.
+//! [`verify`] tells whether a proof leads up to a root, without the ledger. [`commitment_laws`] says that the
+//! proof of what the ledger says does, and that no proof leads up to two roots.
+//!
+//! The bytes of which a digest is made begin with 0 for an account, 1 for two digests and 2 for a place without an
+//! account, so that none is taken for another.
+//!
+//! Cost: all places after the accounts have one digest at each level, so that a root or a proof takes about
+//! twice as many digests as there are accounts, and memory for one level and the one above it.
+//!
+//! Not here: that nobody finds other bytes with the same digest, which SHA-256 is trusted for.
+//!
+//! Source: Ralph C. Merkle, "A Digital Signature Based on a Conventional Encryption Function" (CRYPTO 1987). The
+//! bytes of the leaves and the number of levels are this project's own.
+#![tactic(auto)]
+
+mod committing;
+mod hashing;
+mod laws;
+mod level;
+mod proof;
+mod verifying;
+
+pub use committing::{commit, prove};
+pub use laws::commitment_laws;
+pub use proof::Proof;
+pub use verifying::verify;

@@ -1,0 +1,47 @@
+//! Whether a proof is good.
+
+ghost use Rattle.std.specs.Prelude.{◌≡◌, ◌<◌, ◌≤◌, ◌↔◌, IfOk, IsTrue, length};
+ghost use Rattle.sx_commit.specs.Commitments.{IsGood, folded, joined, leaf_of, levels};
+
+use crate::committing::LEVELS;
+use crate::hashing::{leaf_digest, node_digest};
+use crate::proof::Proof;
+use std::alloc::Global;
+use sx_block::Digest;
+use sx_bytes::{NoMemory, Writer};
+
+// The digest over a digest at a place and its sibling.
+pub(crate) fn join(place: u32, digest: &Digest, sibling: &Digest) -> Digest
+    ensures { result ≡ joined place digest.now sibling.now }
+{
+    if place % 2 == 0 {
+        node_digest(digest, sibling)
+    } else {
+        node_digest(sibling, digest)
+    }
+}
+
+// The digest that a leaf leads up to.
+fn fold(place: u32, siblings: &[Digest], leaf: &Digest) -> Digest
+    requires { length siblings.now ≡ levels }
+    ensures { result ≡ folded place siblings.now leaf.now levels }
+{
+    let mut digest = *leaf;
+    for k in 0..LEVELS {
+        digest = join(place >> k, &digest, &siblings[k]);
+    }
+    digest
+}
+
+/// Whether a proof is good for a root: whether its account's leaf, with the siblings one after the other,
+/// leads up to the root. `NoMemory` is the only error.
+pub fn verify(alloc: Global, root: &Digest, proof: &Proof) -> Result<bool, NoMemory>
+    requires siblings { length proof.now.siblings ≡ levels }
+    ensures exact { IfOk result (λ good. IsTrue good ↔ IsGood root.now proof.now) }
+{
+    let mut bytes = Writer::new(alloc);
+    let leaf = leaf_digest(&mut bytes, proof.version, &proof.account)?;
+    let reached = fold(proof.place, proof.siblings.items(), &leaf);
+    let said = *root;
+    Ok(reached == said)
+}
