@@ -1,4 +1,5 @@
 pub mod Listing
 pub mod Levels
 pub mod Folding
+pub mod Clashes
 pub mod Cases

@@ -60,10 +60,13 @@ siblings_of parts place = listed (sibling_at parts place) levels
 
 -- ---- a good proof
 
--- a digest and its sibling under one: it stands on the left where its place is even
+-- the bytes of a digest and its sibling: it stands on the left where its place is even
+abbrev pub joined_bytes : ℕ → List ℕ → List ℕ → List ℕ
+joined_bytes place digest sibling =
+    if place % 2 == 0 then node_bytes digest sibling else node_bytes sibling digest
+
 abbrev pub joined : ℕ → List ℕ → List ℕ → List ℕ
-joined place digest sibling =
-    sha256 (if place % 2 == 0 then node_bytes digest sibling else node_bytes sibling digest)
+joined place digest sibling = sha256 (joined_bytes place digest sibling)
 
 -- the digest k levels above a leaf
 unfoldable pub folded : ℕ → List (List ℕ) → List ℕ → ℕ → List ℕ

@@ -1,3 +1,4 @@
 pub mod Commitments
 pub mod Levels
+pub mod Clashes
 pub mod Laws

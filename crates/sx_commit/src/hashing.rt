@@ -13,9 +13,9 @@ use sx_ledger::{Account, write_account};
 // What the bytes begin with of which a digest is made, so that none of the three is taken for another.
 const LEAF: u8 = 0;
 
-const NODE: u8 = 1;
+pub(crate) const NODE: u8 = 1;
 
-const EMPTY: u8 = 2;
+pub(crate) const EMPTY: u8 = 2;
 
 // Writes the bytes of an account's leaf in place of what was written before.
 pub(crate) fn write_leaf(to: &mut Writer, version: u8, account: &Account) -> Result<(), NoMemory>

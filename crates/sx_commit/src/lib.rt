@@ -15,7 +15,8 @@
 //! answers the [`Proof`] of one account: the account, and the digest beside the way from its leaf to the root at
 //! each level. In the drawing, what shows that b stands at place 1 is b itself and the digests a and q.
 //! [`verify`] tells whether a proof leads up to a root, without the ledger. [`commitment_laws`] says that the
-//! proof of what the ledger says does, and that no proof leads up to two roots.
+//! proof of what the ledger says does, and that no proof leads up to two roots. Of a good proof of anything else
+//! [`clash`] makes a [`Collision`]: two different byte strings with the same SHA-256.
 //!
 //! The bytes of which a digest is made begin with 0 for an account, 1 for two digests and 2 for a place without an
 //! account, so that none is taken for another.
@@ -23,12 +24,14 @@
 //! Cost: all places after the accounts have one digest at each level, so that a root or a proof takes about
 //! twice as many digests as there are accounts, and memory for one level and the one above it.
 //!
-//! Not here: that nobody finds other bytes with the same digest, which SHA-256 is trusted for.
+//! Not here: that nobody finds such a collision, for which SHA-256 is trusted.
 //!
 //! Source: Ralph C. Merkle, "A Digital Signature Based on a Conventional Encryption Function" (CRYPTO 1987). The
 //! bytes of the leaves and the number of levels are this project's own.
 #![tactic(auto)]
 
+mod clashing;
+mod collision;
 mod committing;
 mod hashing;
 mod laws;
@@ -36,6 +39,8 @@ mod level;
 mod proof;
 mod verifying;
 
+pub use clashing::clash;
+pub use collision::Collision;
 pub use committing::{commit, prove};
 pub use laws::commitment_laws;
 pub use proof::Proof;
