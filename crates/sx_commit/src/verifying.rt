@@ -34,7 +34,8 @@ fn fold(place: u32, siblings: &[Digest], leaf: &Digest) -> Digest
 }
 
 /// Whether a proof is good for a root: whether its account's leaf, with the siblings one after the other,
-/// leads up to the root. `NoMemory` is the only error.
+/// leads up to the root. It takes the sixteen lowest bits of the place, and looks at no range: a place of
+/// 65,536 or more has to be refused before. `NoMemory` is the only error.
 pub fn verify(alloc: Global, root: &Digest, proof: &Proof) -> Result<bool, NoMemory>
     requires siblings { length proof.now.siblings ≡ levels }
     ensures exact { IfOk result (λ good. IsTrue good ↔ IsGood root.now proof.now) }
