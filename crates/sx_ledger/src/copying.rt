@@ -1,4 +1,4 @@
-//! Copies of a ledger. Each list is copied with its own allocator.
+//! Copies of a ledger and of an account. Each list is copied with its own allocator.
 
 ghost use Rattle.std.specs.Prelude.{◌≡◌, IfOk};
 
@@ -26,14 +26,17 @@ fn copy_prices(prices: &Prices) -> Result<Prices, NoMemory>
     Ok(Prices::of(copy))
 }
 
-fn copy_account(account: &Account) -> Result<Account, NoMemory>
-    ensures { IfOk result (λ copy. copy ≡ account.now) }
-{
-    Ok(Account {
-        id: account.id,
-        window: account.window,
-        balances: copy_balances(&account.balances)?,
-    })
+impl Account {
+    /// An account of its own with the same parts. `NoMemory` is the only error.
+    pub fn copy(&self) -> Result<Account, NoMemory>
+        ensures { IfOk result (λ copy. copy ≡ self.now) }
+    {
+        Ok(Account {
+            id: self.id,
+            window: self.window,
+            balances: copy_balances(&self.balances)?,
+        })
+    }
 }
 
 fn copy_accounts(accounts: &Accounts) -> Result<Accounts, NoMemory>
@@ -42,7 +45,7 @@ fn copy_accounts(accounts: &Accounts) -> Result<Accounts, NoMemory>
     let entries = accounts.items();
     let mut copy = Vec::with_capacity(accounts.allocator(), entries.len())?;
     for account in entries {
-        copy.push(copy_account(account)?)?;
+        copy.push(account.copy()?)?;
     }
     Ok(Accounts::of(copy))
 }

@@ -15,3 +15,6 @@ outcomes_tag = 4
 
 abbrev pub script_tag : ℕ
 script_tag = 5
+
+abbrev pub proof_tag : ℕ
+proof_tag = 6

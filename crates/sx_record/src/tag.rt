@@ -14,3 +14,6 @@ pub const OUTCOMES: u8 = 4;
 
 /// A script, the turns of actors.
 pub const SCRIPT: u8 = 5;
+
+/// A proof of one account.
+pub const PROOF: u8 = 6;
