@@ -1,6 +1,6 @@
 -- An arc goes into its list, and out of it.
 use Rattle.std.proofs.Common.{◌≡◌, ◌≢◌, ℕ, zero, suc, ◌+◌, ◌*◌, ◌^◌, ◌<◌, ◌⊎◌, List, [], ◌∷◌, ◌++◌, length, set, Some}
-use Rattle.std.proofs.Common.{slice_get, slice_index, get_or, replicate, refl, sym, ap, ◌∙◌, inl, inr, arith, length-set, Bool, true, false}
+use Rattle.std.proofs.Common.{slice_get, slice_index, replicate, refl, sym, ap, ◌∙◌, inl, inr, arith, length-set, Bool, true, false}
 use Rattle.std.specs.Prelude.{if◌then◌else◌, ◌==◌, ◌&&◌, not, nat_lt, ◌/◌}
 use Rattle.std.specs.List.{remove}
 use Rattle.std.proofs.lemmas.Bool.{cases_eq}

@@ -5,11 +5,11 @@ ghost use Rattle.sx_net.specs.Arcs.{arc_at, reverse_of, IsOpen};
 
 #[derive(Clone, Copy)]
 pub struct Arc {
+    // What is left of its room. It stands first, so that an arc takes 32 bytes.
+    pub left: u128,
     // The node that it leaves and the node that it leads to.
     pub tail: u32,
     pub head: u32,
-    // What is left of its room.
-    pub left: u128,
     pub allowed: bool,
 }
 

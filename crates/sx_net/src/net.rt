@@ -129,13 +129,16 @@ impl Net {
     {
         let before = look_up(self.arcs.as_slice(), arc);
         let allowed = on;
-        replace(
-            &mut self.leaving,
-            self.links.as_mut_slice(),
-            self.arcs.as_mut_slice(),
-            arc,
-            Arc { allowed, ..before },
-        );
+        let changes = before.allowed != on;
+        if changes {
+            replace(
+                &mut self.leaving,
+                self.links.as_mut_slice(),
+                self.arcs.as_mut_slice(),
+                arc,
+                Arc { allowed, ..before },
+            );
+        }
     }
 
     /// Whether allowed arcs that have at least `least` left lead from one node to another. Where they do,

@@ -24,7 +24,7 @@ fn follow(arcs: &[Arc], least: u128, tree: &mut Tree, from: u32, arc: u32)
     ensures visited { IsOpen arcs.now least arc → IsVisited tree.new.visits (head_of arcs.now arc) }
 {
     let node = look_up(arcs, arc).head;
-    if is_open(arcs, least, arc) && tree.place(node).is_none() {
+    if tree.place(node).is_none() && is_open(arcs, least, arc) {
         tree.visit(Visit { node, arc, from });
     }
 }

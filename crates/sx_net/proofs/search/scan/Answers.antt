@@ -1,6 +1,6 @@
-use Rattle.std.proofs.Common.{◌≡◌, ◌+◌, ◌/◌, sym, ap, ◌∙◌}
+use Rattle.std.proofs.Common.{◌+◌, ◌/◌, sym, ap, ◌∙◌}
 use Rattle.sx_links.specs.Lists.{list_at}
-use Rattle.sx_net.specs.Arcs.{arc_at, head_of, tail_of, IsOpen}
+use Rattle.sx_net.specs.Arcs.{arc_at, head_of, IsOpen}
 use Rattle.sx_net.specs.Visits.{IsVisited}
 use Rattle.sx_net.proofs.Growing.{node_same, Extends-then, IsVisited-more}
 use Rattle.sx_net.proofs.Listing.{list_half}

@@ -7,7 +7,7 @@ pub invariant_of-self : goal.invariant_of-self
 invariant_of-self c =
     let within = rw (← c.self.view_is) at c.requires in
     let was = rw c.as_slice.ensures.value at c.look_up-before.ensures in
-    let now = rw c.as_mut_slice-2.ensures.value at c.replace.ensures.arcs in
+    let now = rw c.as_mut_slice-then-changes.ensures.value at c.replace.ensures.arcs in
     let ends = SameEnds-set _ c.args.arc _ within (ap (λ x. x.tail) was) (ap (λ x. x.head) was) (ap (λ x. x.left) was) in
     let many : length c.replace.new.arcs ≡ c.self.inside.arcs.len = omega arith in
     let links : length c.replace.new.links ≡ c.self.inside.links.len = omega arith in

@@ -1,4 +1,4 @@
-use Rattle.std.proofs.Common.{◌≡◌, ◌+◌, ◌*◌, ◌<◌, ◌≤◌, ◌^◌, ap, arith}
+use Rattle.std.proofs.Common.{◌≡◌, ◌*◌, ◌<◌, ◌^◌, ap, arith}
 use Rattle.sx_net.proofs.Sounding.{IsSound-none}
 use Rattle.sx_net.proofs.net.Net.new.Goals as goal
 
