@@ -2,11 +2,11 @@
 
 ghost use Rattle.std.specs.Prelude.{◌≡◌, ℕ, ◌+◌, ◌-◌, ◌<◌, ◌≤◌, ◌^◌, ◌⊎◌, List, length, slice_index, IsBitSet};
 ghost use Rattle.sx_base.specs.Ranges.{most_seq};
-ghost use Rattle.sx_body.specs.Accounts.{with_known_accounts};
+ghost use Rattle.sx_body.specs.Accounts.{IsAccountAfter, StandsAt, with_known_accounts};
 ghost use Rattle.sx_body.specs.Postings.{HasRows, credit_at, debit_at};
 ghost use Rattle.sx_body.specs.Tally.{IsTally, IsTallyOfBody};
 ghost use Rattle.sx_ledger.specs.Body.{IsAdmissibleIn};
-ghost use Rattle.sx_ledger.specs.Ledger.{balance_at};
+ghost use Rattle.sx_ledger.specs.Ledger.{IsLedger, balance_at};
 ghost use Rattle.sx_tx.specs.declared.tx.Tx.{Tx as Transaction};
 ghost use Rattle.sx_tx.specs.Window.{Next, open_numbers};
 
@@ -69,8 +69,8 @@ fn post_account(alloc: Global, account: &mut Account, debits: &[u128], credits: 
     account.balances = Balances::of(balances);
 }
 
-// Makes the account at a place what it is after the body.
-fn apply_to_account(alloc: Global, version: u8, account: &mut Account, place: usize, tally: &Tally)
+// Gives an account the window and the balances that the sums at its place make.
+fn change_account(alloc: Global, version: u8, account: &mut Account, place: usize, tally: &Tally)
     requires version { (version ≡ 1) ⊎ (version ≡ 2) }
     requires last { account.old.window.last ≤ most_seq }
     requires place { place < length tally.now.used.items }
@@ -98,12 +98,30 @@ fn apply_to_account(alloc: Global, version: u8, account: &mut Account, place: us
     }
 }
 
+/// Makes the account at a place of a ledger what it is after the body of a block, where the tally of the
+/// body is known: the one that [`precheck`](crate::precheck) answers. The account changes in place, and
+/// no other is looked at, so that accounts may change in any order and at the same time. The version is
+/// that of the ledger.
+pub fn apply_to_account(
+    alloc: Global,
+    version: u8,
+    account: &mut Account,
+    place: usize,
+    tally: &Tally,
+)
+    requires { StandsAt version place account.old tally.now }
+    ensures { IsAccountAfter version place tally.now account.old account.new }
+{
+    change_account(alloc, version, account, place, tally);
+}
+
 // The parts of the ledger, with each account that is there as it is after the body. Accounts change in
 // place.
 pub fn apply_to_known(alloc: Global, ledger: Ledger, tally: &Tally) -> Parts
     requires body { IsTallyOfBody ledger tally.now }
-    ensures { (txs : List Transaction) → IsAdmissibleIn 2 ledger txs → IsTally ledger txs tally.now
+    ensures known { (txs : List Transaction) → IsAdmissibleIn 2 ledger txs → IsTally ledger txs tally.now
         → result ≡ with_known_accounts ledger txs }
+    ensures kept { IsLedger ledger }
 {
     let Parts {
         version,

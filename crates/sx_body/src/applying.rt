@@ -1,9 +1,11 @@
 //! The ledger after a body.
 
 ghost use Rattle.std.specs.Prelude.{◌≡◌, List, IfOk};
-ghost use Rattle.sx_body.specs.Accounts.{with_all_accounts};
+ghost use Rattle.sx_body.specs.Accounts.{AreKnownAfter, with_all_accounts, with_known_accounts};
 ghost use Rattle.sx_body.specs.Tally.{IsTally, IsTallyOfBody};
+ghost use Rattle.sx_ledger.specs.declared.parts.Parts.{Parts as Ledgers};
 ghost use Rattle.sx_ledger.specs.Body.{IsAdmissibleIn, body_after, offers_after as all_offers};
+ghost use Rattle.sx_ledger.specs.Ledger.{IsLedger};
 ghost use Rattle.sx_tx.specs.declared.tx.Tx.{Tx as Transaction};
 
 use crate::accounts::apply_to_known;
@@ -13,14 +15,12 @@ use std::alloc::Global;
 use sx_bytes::NoMemory;
 use sx_ledger::{Accounts, Ledger, Offers, Parts};
 
-// The parts of the ledger, with all accounts as they are after the body.
-fn with_accounts(alloc: Global, ledger: Ledger, tally: &Tally) -> Result<Parts, NoMemory>
-    requires body { IsTallyOfBody ledger tally.now }
-    ensures { (txs : List Transaction) → IsAdmissibleIn 2 ledger txs → IsTally ledger txs tally.now
-        → IfOk result (λ parts. parts ≡ with_all_accounts ledger txs) }
+// The parts of a ledger whose accounts are as they are after the body, with those too that are created.
+fn with_all(alloc: Global, parts: Parts, tally: &Tally) -> Result<Parts, NoMemory>
+    ensures { (before : Ledgers) (txs : List Transaction) → IsLedger before → IsAdmissibleIn 2 before txs
+        → IsTally before txs tally.now → parts ≡ with_known_accounts before txs
+        → IfOk result (λ after. after ≡ with_all_accounts before txs) }
 {
-    let assets = ledger.assets() as usize;
-    let parts = apply_to_known(alloc, ledger, tally);
     let ids = &tally.creations.ids;
     if ids.is_empty() {
         return Ok(parts);
@@ -33,6 +33,7 @@ fn with_accounts(alloc: Global, ledger: Ledger, tally: &Tally) -> Result<Parts, 
         accounts,
         offers,
     } = parts;
+    let assets = prices.items().len();
     let accounts = with_created(alloc, accounts.into_items(), ids, assets)?;
     Ok(Parts {
         version,
@@ -42,6 +43,32 @@ fn with_accounts(alloc: Global, ledger: Ledger, tally: &Tally) -> Result<Parts, 
         accounts: Accounts::of(accounts),
         offers,
     })
+}
+
+/// The ledger after the body of a block, before anything trades, where each account that was there is as
+/// it is after the body already ([`apply_to_account`](crate::apply_to_account)): the accounts that are
+/// created stand among them, and these are the offers, which [`offers_after`](crate::offers_after)
+/// answers. `NoMemory` comes only where an account is created.
+pub fn complete_accounts(
+    alloc: Global,
+    parts: Parts,
+    tally: &Tally,
+    offers: Offers,
+) -> Result<Ledger, NoMemory>
+    requires { AreKnownAfter parts tally.now offers }
+    ensures { (before : Ledgers) (txs : List Transaction) → IsLedger before → IsAdmissibleIn 2 before txs
+        → IsTally before txs tally.now → parts ≡ with_known_accounts before txs → offers ≡ all_offers before txs
+        → IfOk result (λ after. after ≡ body_after before txs) }
+{
+    let parts = with_all(alloc, parts, tally)?;
+    Ok(Ledger::of(Parts {
+        version: parts.version,
+        height: parts.height,
+        prices: parts.prices,
+        rounding: parts.rounding,
+        accounts: parts.accounts,
+        offers,
+    }))
 }
 
 /// The ledger after the body of a block, before anything trades, where the tally of the body is known
@@ -59,14 +86,6 @@ pub fn apply_accounts(
     ensures { (txs : List Transaction) → IsAdmissibleIn 2 ledger txs → IsTally ledger txs tally.now
         → IfOk result (λ after. after ≡ body_after ledger txs) }
 {
-    let height = ledger.height();
-    let parts = with_accounts(alloc, ledger, tally)?;
-    Ok(Ledger::of(Parts {
-        version: parts.version,
-        height,
-        prices: parts.prices,
-        rounding: parts.rounding,
-        accounts: parts.accounts,
-        offers,
-    }))
+    let parts = apply_to_known(alloc, ledger, tally);
+    complete_accounts(alloc, parts, tally, offers)
 }

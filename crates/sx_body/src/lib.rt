@@ -13,7 +13,9 @@
 //! and asset whose debits are above what may be spent, by the rule of either version.
 //!
 //! [`offers_after`] answers the offers after an admissible body, and [`apply_accounts`] the ledger after
-//! it: exactly those of the definitions of `sx_ledger`.
+//! it: exactly those of the definitions of `sx_ledger`. [`apply_to_account`] makes one account what it is
+//! after the body, and [`complete_accounts`] the ledger once each account is so, for callers that change
+//! many accounts at the same time.
 //!
 //! Each payee and each cancelled offer is searched for once, and an account once where its transactions
 //! stand together. Only accounts that are debited or credited have sums of their own, and only their
@@ -40,7 +42,8 @@ mod repeats;
 mod tally;
 mod used;
 
-pub use applying::apply_accounts;
+pub use accounts::apply_to_account;
+pub use applying::{apply_accounts, complete_accounts};
 pub use laws::refusal_laws;
 pub use offers::offers_after;
 pub use overdraft::Overdraft;

@@ -1,25 +1,19 @@
-use Rattle.std.proofs.Common.{List, ap, subst, sym, ◌∙◌}
-use Rattle.sx_body.specs.Accounts.{with_all_accounts}
 use Rattle.sx_body.proofs.applying.apply_accounts.Goals as goal
-use Rattle.sx_ledger.specs.declared.offer.Offer.{Offer}
-use Rattle.sx_ledger.specs.declared.parts.Parts.{Parts}
-use Rattle.sx_ledger.specs.Ledger.{IsLedger}
-use Rattle.sx_ledger.proofs.BodyKeepsLedger.{body_keeps_ledger}
 
-pub of-requires : goal.of-requires
-of-requires c =
-    let txs = c.requires.body.txs in
-    let body = c.requires.body.body in
-    let is = c.requires.body.is in
-    let made : Parts → List Offer → Parts = λ p os. record p { height = c.args.ledger.height; offers = os } in
-    let whole = ap (λ (p : Parts). made p c.args.offers) (c.in_ok-parts.ensures txs body is)
-    ∙ ap (made (with_all_accounts c.args.ledger txs)) (c.requires.offers txs body is) in
-    rw c.height-height.ensures.height
-    (subst IsLedger (sym whole) (body_keeps_ledger 2 c.args.ledger txs c.height-height.ensures.kept is.in_range body))
+pub complete_accounts-requires : goal.complete_accounts-requires
+complete_accounts-requires c =
+    let body = c.requires.body in
+    record {
+      before = c.args.ledger;
+      ledger = c.apply_to_known-parts.ensures.kept;
+      txs = body.txs;
+      body = body.body;
+      is = body.is;
+      known = c.apply_to_known-parts.ensures.known body.txs body.body body.is;
+      after = c.requires.offers body.txs body.body body.is;
+    }
 
 pub returns : goal.returns
 returns c = λ txs body is.
-    let made : Parts → List Offer → Parts = λ p os. record p { height = c.args.ledger.height; offers = os } in
-    let whole = ap (λ (p : Parts). made p c.args.offers) (c.in_ok-parts.ensures txs body is)
-    ∙ ap (made (with_all_accounts c.args.ledger txs)) (c.requires.offers txs body is) in
-    c.of.ensures ∙ rw c.height-height.ensures.height whole
+    c.complete_accounts.ensures c.args.ledger txs c.apply_to_known-parts.ensures.kept body is
+    (c.apply_to_known-parts.ensures.known txs body is) (c.requires.offers txs body is)
