@@ -6,8 +6,10 @@ use Rattle.std.specs.List.{Contains}
 use Rattle.std.proofs.lemmas.List.{get_or-map, length-map}
 use Rattle.std.proofs.lemmas.List.Elements.{All-contains}
 use Rattle.sx_apply.specs.FillSums.{balances_paid, paid_by, proceeds_by}
+use Rattle.sx_apply.specs.Paying.{CanPay}
 use Rattle.sx_apply.specs.Trading.{CanTrade, Clears, GetsItsValue, GivesItsValue, TradesInFull, TradesWithinLimits}
 use Rattle.sx_apply.proofs.FillPlaces.{proceeds_is}
+use Rattle.sx_apply.proofs.FillTotals.{places_of}
 use Rattle.sx_apply.proofs.PaidAccounts.{paid_at, paid_length}
 use Rattle.sx_block.specs.declared.header.Header.{Header}
 use Rattle.sx_block.specs.EffectLaws.{IsRounded, IsTradable}
@@ -77,7 +79,7 @@ module _ (parts : Parts) (prices : List ℕ) (flow : Flow) (rounding : List ℕ)
       omega arith
 
   -- and so are the balances with the proceeds
-  pub balances_fit : (fills : List Fill) → fills ≡ all_fills prices flow parts.offers
+  balances_fit : (fills : List Fill) → fills ≡ all_fills prices flow parts.offers
       → All (λ account. (asset : ℕ) → asset < length account.balances →
       balance_at asset account + proceeds_by parts.offers fills account.id.0 asset < 2 ^ 64) parts.accounts
   balances_fit fills are k d lt asset below_all =
@@ -102,9 +104,20 @@ module _ (parts : Parts) (prices : List ℕ) (flow : Flow) (rounding : List ℕ)
       (let e : 0 + asset ≡ asset = omega arith in e) in
       omega arith
 
-  pub buys_known : All (λ offer. All (λ account. offer.buy < length account.balances) parts.accounts) parts.offers
+  buys_known : All (λ offer. All (λ account. offer.buy < length account.balances) parts.accounts) parts.offers
   buys_known k d lt i e within =
       let offer = is.offers k d lt in let account = is.accounts i e within in omega (arith, offer.buy, account.balances)
+
+  -- so the sellers can be credited
+  pub can_pay : (fills : List Fill) → fills ≡ all_fills prices flow parts.offers
+      → CanPay parts.offers fills parts.accounts
+  can_pay fills are = record {
+    by_id = is.by_id;
+    few = is.few_accounts;
+    places = places_of prices flow parts.offers fills are;
+    assets = buys_known;
+    fits = balances_fit fills are;
+  }
 
 -- ---- a header that clears a ledger
 

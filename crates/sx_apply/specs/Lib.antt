@@ -2,5 +2,6 @@ pub mod Bounds
 pub mod Trading
 pub mod Effects
 pub mod FillSums
+pub mod Paying
 pub mod NextFill
 pub mod Laws

@@ -6,7 +6,8 @@
 //! one. The two in turn give the ledger after the block. [`apply`] does both with [`Effects`] that are
 //! known already, since whoever judged the block had to find them. All answers are exactly those of the
 //! definitions of `sx_ledger` and `sx_block`, which are plain sums. [`execute`] is the trade where it is
-//! known what each offer trades, for callers that have no header yet.
+//! known what each offer trades, for callers that have no header yet. [`pay_sellers`] does the part of it that
+//! lies in the accounts, some of them at a time, and [`settle`] the rest.
 //!
 //! [`bounds_of`] answers what each pair of assets must and may trade at some prices, and [`without_low`]
 //! the same once lower bounds are dropped. [`tally_of`] answers what a body does, [`fills_of`] what each
@@ -31,6 +32,7 @@ pub use bounds::{bounds_of, without_low};
 pub use effects::Effects;
 pub use fills::fills_of;
 pub use laws::apply_laws;
+pub use proceeds::pay_sellers;
 pub use rounding::rounding_of;
 pub use tallying::tally_of;
-pub use trading::{execute, trade};
+pub use trading::{execute, settle, trade};

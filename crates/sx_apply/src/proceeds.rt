@@ -1,9 +1,9 @@
 //! What sellers get.
 
-ghost use Rattle.std.specs.Prelude.{◌≡◌, ℕ, ◌+◌, ◌^◌, ◌<◌, ◌≤◌, IfOk, length, map, slice_set, All};
-ghost use Rattle.std.specs.List.Sorted.{IsStrictlyIncreasing};
+ghost use Rattle.std.specs.Prelude.{◌≡◌, ℕ, ◌+◌, ◌^◌, ◌<◌, IfOk, OnErr, OnOk, length, map, slice_set, All};
 ghost use Rattle.sx_apply.specs.FillSums.{paid_by, proceeds_by};
-ghost use Rattle.sx_ledger.specs.Ledger.{balance_at, ids, most_accounts};
+ghost use Rattle.sx_apply.specs.Paying.{CanPay};
+ghost use Rattle.sx_ledger.specs.Ledger.{balance_at, ids};
 
 use std::alloc::Global;
 use std::mem;
@@ -45,26 +45,39 @@ fn credit_sellers(
     }
 }
 
-// The accounts, each with what the fills of its offers get. Where nothing was filled, no account is
-// looked up.
+/// Credits the sellers among some accounts, which stand by id, with what the fills of their offers get, and
+/// passes over the fills of others. So the accounts of a ledger may be credited in parts, in any order and at
+/// the same time. The accounts are indexed first: at `NoMemory` none has changed. Where nothing was filled, no
+/// account is looked up, and no memory is taken.
+pub fn pay_sellers(
+    alloc: Global,
+    offers: &[Offer],
+    fills: &[Fill],
+    accounts: &mut [Account],
+) -> Result<(), NoMemory>
+    requires { CanPay offers.now fills.now accounts.old }
+    ensures paid { OnOk result (accounts.new ≡ map (paid_by offers.now fills.now) accounts.old) }
+    ensures kept { OnErr result (accounts.new ≡ accounts.old) }
+{
+    if fills.is_empty() {
+        return Ok(());
+    }
+    let index = AccountIndex::of(alloc, accounts)?;
+    credit_sellers(alloc, accounts, &index, offers, fills);
+    Ok(())
+}
+
+// The accounts, each with what the fills of its offers get.
 pub fn with_proceeds(
     alloc: Global,
     accounts: Accounts,
     offers: &[Offer],
     fills: &[Fill],
 ) -> Result<Accounts, NoMemory>
-    requires by_id { IsStrictlyIncreasing (ids accounts) }
-    requires few { length accounts ≤ most_accounts }
-    requires places { All (λ fill. fill.place < length offers.now) fills.now }
-    requires assets { All (λ offer. All (λ account. offer.buy < length account.balances) accounts) offers.now }
-    requires fits { All (λ account. (asset : ℕ) → asset < length account.balances → balance_at asset account + proceeds_by offers.now fills.now account.id.0 asset < 2 ^ 64) accounts }
+    requires { CanPay offers.now fills.now accounts }
     ensures { IfOk result (λ paid. paid ≡ map (paid_by offers.now fills.now) accounts) }
 {
-    if fills.is_empty() {
-        return Ok(accounts);
-    }
-    let index = AccountIndex::of(alloc, accounts.items())?;
     let mut entries = accounts.into_items();
-    credit_sellers(alloc, &mut entries, &index, offers, fills);
+    pay_sellers(alloc, offers, fills, &mut entries)?;
     Ok(Accounts::of(entries))
 }

@@ -1,10 +1,12 @@
 //! Trading at the prices of a header.
 
 ghost use Rattle.std.specs.Prelude.{◌≡◌, ℕ, ◌+◌, ◌^◌, ◌<◌, IfOk, length, slice_index};
+ghost use Rattle.sx_apply.specs.Paying.{CanSettle, with_sellers_paid};
 ghost use Rattle.sx_apply.specs.Trading.{CanExecute, Clears, GetsItsValue, GivesItsValue, TradesInFull, TradesWithinLimits};
 ghost use Rattle.sx_block.specs.EffectLaws.{circulating};
 ghost use Rattle.sx_dual.specs.Tables.{value_of};
 ghost use Rattle.sx_fill.specs.AllFills.{all_fills};
+ghost use Rattle.sx_ledger.specs.declared.parts.Parts.{Parts as Ledgers};
 ghost use Rattle.sx_ledger.specs.Fills.{Flow};
 ghost use Rattle.sx_ledger.specs.Ledger.{assets_of, most_height};
 ghost use Rattle.sx_ledger.specs.Trade.{added, traded};
@@ -41,6 +43,31 @@ fn with_rounding(rounding: Balances, more: &[u64]) -> Balances
     Balances::of(numbers)
 }
 
+/// The ledger after trading at these prices, with this rounding, where the sellers are credited already
+/// ([`pay_sellers`](crate::pay_sellers)) and it is known what each offer trades: offers lose what they give, and
+/// those with nothing left are gone; the rounding is kept, the prices are the ledger's, and the height rises by
+/// one. Offers change in place.
+pub fn settle(
+    alloc: Global,
+    parts: Parts,
+    prices: &Prices,
+    rounding: &Balances,
+    fills: &[Fill],
+) -> Result<Ledger, NoMemory>
+    requires { CanSettle parts prices.now rounding.now fills.now }
+    ensures { (before : Ledgers) (flow : Flow) → parts ≡ with_sellers_paid fills.now before → fills.now ≡ all_fills prices.now flow before.offers → IfOk result (λ after. after ≡ traded before prices.now flow rounding.now) }
+{
+    let copy = Prices::of(prices.items().to_vec(alloc)?);
+    Ok(Ledger::of(Parts {
+        version: parts.version,
+        height: parts.height + 1,
+        prices: copy,
+        rounding: with_rounding(parts.rounding, rounding.items()),
+        accounts: parts.accounts,
+        offers: Offers::of(lessened(parts.offers.into_items(), fills)),
+    }))
+}
+
 /// The ledger after trading at these prices, with this rounding, where it is known what each offer trades:
 /// these are the fills of all its offers, for some flow that can trade. Offers lose what they give, and
 /// those with nothing left are gone; sellers are credited with what they get; the rounding is kept, the
@@ -56,23 +83,23 @@ pub fn execute(
     requires fills { CanExecute ledger prices.now rounding.now fills.now }
     ensures { (flow : Flow) → fills.now ≡ all_fills prices.now flow ledger.offers → IfOk result (λ after. after ≡ traded ledger prices.now flow rounding.now) }
 {
-    let copy = Prices::of(prices.items().to_vec(alloc)?);
     let Parts {
         version,
         height,
-        prices: _,
+        prices: last,
         rounding: kept,
         accounts,
         offers,
     } = ledger.into_parts();
-    Ok(Ledger::of(Parts {
+    let paid = Parts {
         version,
-        height: height + 1,
-        prices: copy,
-        rounding: with_rounding(kept, rounding.items()),
+        height,
+        prices: last,
+        rounding: kept,
         accounts: with_proceeds(alloc, accounts, offers.items(), fills)?,
-        offers: Offers::of(lessened(offers.into_items(), fills)),
-    }))
+        offers,
+    };
+    settle(alloc, paid, prices, rounding, fills)
 }
 
 /// The ledger after trading at the prices of a header, for a ledger as it is after the body of the

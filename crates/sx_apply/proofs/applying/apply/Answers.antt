@@ -1,11 +1,10 @@
-use Rattle.std.proofs.Common.{◌≡◌, ℕ, List, IfOk, sym, ap, subst, ◌∙◌, arith}
+use Rattle.std.proofs.Common.{◌≡◌, IfOk, sym, ap, subst, ◌∙◌, arith}
 use Rattle.sx_apply.specs.Trading.{CanExecute}
 use Rattle.sx_apply.proofs.applying.apply.Goals as goal
 use Rattle.sx_block.specs.Rule as rule
 use Rattle.sx_block.specs.Validity.{flow_of_block}
 use Rattle.sx_block.proofs.Rules.{sound_is_tradable, widely_admissible}
 use Rattle.sx_fill.specs.AllFills.{all_fills}
-use Rattle.sx_ledger.specs.declared.offer.Offer.{Offer}
 use Rattle.sx_ledger.specs.declared.parts.Parts.{Parts}
 use Rattle.sx_ledger.specs.Body.{body_after}
 use Rattle.sx_ledger.specs.Trade.{traded}
