@@ -1,13 +1,17 @@
 -- The definitions of commitments, computed at cases that were worked out by hand.
-use Rattle.std.proofs.Common.{◌≡◌, ◌^◌, ℕ, List, [], ◌∷◌, ◌++◌, refl}
+use Rattle.std.proofs.Common.{◌≡◌, ◌≢◌, ◌^◌, ℕ, Some, None, List, [], ◌∷◌, ◌++◌, refl, ap, arith}
+use Rattle.std.specs.Prelude.{slice_index}
 use Rattle.sha2.specs.Sha256.{sha256}
+use Rattle.sx_commit.specs.declared.collision.Collision.{Collision}
+use Rattle.sx_commit.specs.declared.proof.Proof.{Proof}
+use Rattle.sx_commit.specs.Clashes.{IsClash, IsSaid}
 use Rattle.sx_commit.specs.Commitments.{digest_at, folded, leaf_bytes, listed, place_beside, root_of}
 use Rattle.sx_commit.specs.Commitments.{siblings_of}
 use Rattle.sx_ledger.specs.declared.account.Account.{Account}
 use Rattle.sx_ledger.specs.declared.parts.Parts.{Parts}
 
 -- account 7 used the numbers up to 3, and 5; it holds 100 units of one asset
-abbrev seven : Account
+abbrev pub seven : Account
 seven = record { id = record { 0 = 7 }; window = record { last = 3; used = 2 }; balances = 100 ∷ [] }
 
 -- a ledger of version 2 with that account alone
@@ -59,3 +63,26 @@ folded_thrice : (leaf a b c : List ℕ) → folded 5 (a ∷ b ∷ c ∷ []) leaf
     ≡ sha256 (1 ∷ c ++ sha256 (1 ∷ sha256 (1 ∷ a ++ leaf) ++ b))
 unfolding folded
 folded_thrice leaf a b c = refl
+
+-- ---- what the ledger says, and what is told of a clash
+
+abbrev proof_of : ℕ → ℕ → Proof
+proof_of version place = record { version = version; place = place; account = seven; siblings = [] }
+
+said : IsSaid ledger (proof_of 2 0)
+said = (omega arith, refl)
+
+-- no account stands at place 1
+not_beyond : IsSaid ledger (proof_of 2 1) → ⊥
+not_beyond is = omega (arith, is.0)
+
+-- the ledger is of version 2
+not_older : IsSaid ledger (proof_of 1 0) → ⊥
+not_older is = let versions : 2 ≡ 1 = ap (λ (bytes : List ℕ). slice_index bytes 1) is.1 in omega (arith, versions)
+
+told_nothing : (proof : Proof) → IsClash ledger proof None → IsSaid ledger proof
+told_nothing proof is = is
+
+told_one : (proof : Proof) (found : Collision) → IsClash ledger proof (Some found)
+    → (IsSaid ledger proof → ⊥) × (found.left ≢ found.right) × (sha256 found.left ≡ sha256 found.right)
+told_one proof found is = (is.0, is.1.0, is.1.1)

@@ -2,4 +2,11 @@ pub mod Listing
 pub mod Levels
 pub mod Folding
 pub mod Clashes
+pub mod Digests
+pub mod Ranges
+pub mod ProofLaws
+pub mod Payload
+pub mod ProofFaults
+pub mod Lengths
 pub mod Cases
+pub mod FormatCases

@@ -1,4 +1,7 @@
 pub mod Commitments
 pub mod Levels
 pub mod Clashes
+pub mod Claim
+pub mod Encoding
+pub mod Decoding
 pub mod Laws

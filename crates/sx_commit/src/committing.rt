@@ -1,15 +1,16 @@
 //! The digest over all accounts, and proofs of one of them.
 
 ghost use Rattle.std.specs.Prelude.{◌≡◌, ◌<◌, IfOk, Some, length, slice_get};
+ghost use Rattle.sx_block.specs.Digest.{IsDigest};
+ghost use Rattle.sx_commit.specs.Clashes.{IsProof};
 ghost use Rattle.sx_commit.specs.Commitments.{IsGood, most_places, place_beside, root_of, siblings_of};
 
 use crate::level::Level;
 use crate::proof::Proof;
 use std::alloc::Global;
-use sx_base::Balances;
 use sx_block::{Digest, Digests};
 use sx_bytes::NoMemory;
-use sx_ledger::{Account, Ledger};
+use sx_ledger::Ledger;
 
 // How many levels there are above the leaves.
 pub(crate) const LEVELS: usize = 16;
@@ -17,6 +18,7 @@ pub(crate) const LEVELS: usize = 16;
 /// The digest over all accounts: the root of the tree. `NoMemory` is the only error.
 pub fn commit(alloc: Global, ledger: &Ledger) -> Result<Digest, NoMemory>
     ensures root { IfOk result (λ root. root ≡ root_of ledger.now) }
+    ensures digest { IfOk result IsDigest }
 {
     let mut level = Level::leaves(alloc, ledger)?;
     for _ in 0..LEVELS {
@@ -49,17 +51,6 @@ pub(crate) fn siblings(alloc: Global, ledger: &Ledger, place: u32) -> Result<Dig
     Ok(Digests::of(siblings))
 }
 
-fn copy_account(alloc: Global, account: &Account) -> Result<Account, NoMemory>
-    ensures { IfOk result (λ copy. copy ≡ account.now) }
-{
-    let balances = Vec::from_slice(alloc, account.balances.items())?;
-    Ok(Account {
-        id: account.id,
-        window: account.window,
-        balances: Balances::of(balances),
-    })
-}
-
 /// The proof of the account at a place: it is good for the root that [`commit`] answers. `NoMemory` is the only
 /// error.
 pub fn prove(alloc: Global, ledger: &Ledger, place: u32) -> Result<Proof, NoMemory>
@@ -69,9 +60,10 @@ pub fn prove(alloc: Global, ledger: &Ledger, place: u32) -> Result<Proof, NoMemo
     ensures account { IfOk result (λ proof. slice_get ledger.now.accounts place ≡ Some proof.account) }
     ensures siblings { IfOk result (λ proof. proof.siblings ≡ siblings_of ledger.now place) }
     ensures good { IfOk result (IsGood (root_of ledger.now)) }
+    ensures ranges { IfOk result IsProof }
 {
     let version = ledger.version();
-    let account = copy_account(alloc, ledger.account(place))?;
+    let account = ledger.account(place).copy()?;
     let siblings = siblings(alloc, ledger, place)?;
     Ok(Proof {
         version,

@@ -21,6 +21,10 @@
 //! The bytes of which a digest is made begin with 0 for an account, 1 for two digests and 2 for a place without an
 //! account, so that none is taken for another.
 //!
+//! [`read_proof`] answers a root and a proof exactly where a payload is the encoding of both, and else the first
+//! fault from left to right; [`write_proof`] appends the one encoding. [`proof_laws`] says that no other root and
+//! proof have it and that each fits a record.
+//!
 //! Cost: all places after the accounts have one digest at each level, so that a root or a proof takes about
 //! twice as many digests as there are accounts, and memory for one level and the one above it.
 //!
@@ -37,11 +41,15 @@ mod hashing;
 mod laws;
 mod level;
 mod proof;
+mod reading;
 mod verifying;
+mod writing;
 
 pub use clashing::clash;
 pub use collision::Collision;
 pub use committing::{commit, prove};
-pub use laws::commitment_laws;
+pub use laws::{commitment_laws, proof_laws};
 pub use proof::Proof;
-pub use verifying::verify;
+pub use reading::read_proof;
+pub use verifying::{leads_to, verify};
+pub use writing::write_proof;

@@ -33,16 +33,25 @@ fn fold(place: u32, siblings: &[Digest], leaf: &Digest) -> Digest
     digest
 }
 
-/// Whether a proof is good for a root: whether its account's leaf, with the siblings one after the other,
-/// leads up to the root. It takes the sixteen lowest bits of the place, and looks at no range: a place of
-/// 65,536 or more has to be refused before. `NoMemory` is the only error.
+/// The root that a proof is good for: the digest that its account's leaf, with the siblings one after the other,
+/// leads up to. It takes the sixteen lowest bits of the place, and looks at no range: a place of 65,536 or more has
+/// to be refused before. `NoMemory` is the only error.
+pub fn leads_to(alloc: Global, proof: &Proof) -> Result<Digest, NoMemory>
+    requires siblings { length proof.now.siblings ≡ levels }
+    ensures good { IfOk result (λ root. IsGood root proof.now) }
+{
+    let mut bytes = Writer::new(alloc);
+    let leaf = leaf_digest(&mut bytes, proof.version, &proof.account)?;
+    Ok(fold(proof.place, proof.siblings.items(), &leaf))
+}
+
+/// Whether a proof is good for a root: whether the root is the one that [`leads_to`] answers. `NoMemory` is the only
+/// error.
 pub fn verify(alloc: Global, root: &Digest, proof: &Proof) -> Result<bool, NoMemory>
     requires siblings { length proof.now.siblings ≡ levels }
     ensures exact { IfOk result (λ good. IsTrue good ↔ IsGood root.now proof.now) }
 {
-    let mut bytes = Writer::new(alloc);
-    let leaf = leaf_digest(&mut bytes, proof.version, &proof.account)?;
-    let reached = fold(proof.place, proof.siblings.items(), &leaf);
+    let reached = leads_to(alloc, proof)?;
     let said = *root;
     Ok(reached == said)
 }
