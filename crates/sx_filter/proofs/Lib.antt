@@ -8,3 +8,4 @@ pub mod DebitSums
 pub mod Holdings
 pub mod Taken
 pub mod Picking
+pub mod Few

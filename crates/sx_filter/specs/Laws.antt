@@ -1,5 +1,5 @@
 -- Laws of what a filter keeps.
-use Rattle.std.specs.Prelude.{◌≡◌, ℕ, ◌≤◌, List, All, true, Ok, ◌↔◌}
+use Rattle.std.specs.Prelude.{◌≡◌, ℕ, ◌≤◌, List, All, true, Ok, ◌↔◌, length}
 use Rattle.std.specs.List.Sorted.{IsPermutation}
 use Rattle.sx_filter.specs.Kept.{covers, kept_of, passing}
 use Rattle.sx_layout.specs.declared.outcome.Outcome.{Outcome}
@@ -41,3 +41,7 @@ CoversAll =
 abbrev pub RefusedAreNothing : Type 0
 RefusedAreNothing =
     (parts : Parts) (candidates : List Tx) → kept_of parts (passing parts candidates) ≡ kept_of parts candidates
+
+-- no more is kept than there are candidates
+abbrev pub KeptIsFew : Type 0
+KeptIsFew = (parts : Parts) (candidates : List Tx) → length (kept_of parts candidates) ≤ length candidates

@@ -71,6 +71,7 @@ pub fn filter<R: Threads + Sync>(
     requires few_workers { workers ≤ 64 }
     ensures kept { IfOk result (λ txs. txs ≡ kept_of ledger.now candidates.now) }
     ensures admissible { IfOk result (λ txs. IsAdmissible ledger.now txs) }
+    ensures few { IfOk result (λ txs. length txs ≤ length candidates.now) }
     ensures no_room { (why : WhyNoRoom) → room_for ledger.now candidates.now ≡ Err why → result ≡ Err (the_fault why) }
     ensures fault { IfErr result (IsFaultOf (room_for ledger.now candidates.now)) }
 {

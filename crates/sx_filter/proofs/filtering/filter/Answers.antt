@@ -1,9 +1,10 @@
-use Rattle.std.proofs.Common.{◌≡◌, List, All, Ok, sym, ap, subst, ◌∙◌}
+use Rattle.std.proofs.Common.{◌≡◌, ◌≤◌, List, All, Ok, length, sym, ap, subst, ◌∙◌}
 use Rattle.std.specs.List.{filter}
 use Rattle.std.specs.List.Sorted.{IsPermutation}
 use Rattle.sx_filter.specs.Alone.{is_alone}
 use Rattle.sx_filter.specs.Kept.{passing}
 use Rattle.sx_filter.specs.Tally.{IsTally}
+use Rattle.sx_filter.proofs.Few.{kept_is_few}
 use Rattle.sx_filter.proofs.InOrder.{sorted_is}
 use Rattle.sx_filter.proofs.KeptAlone.{alone, kept_is}
 use Rattle.sx_filter.proofs.KeptLaws.{kept_is_admissible, once}
@@ -40,3 +41,8 @@ returns-clause-admissible g c =
     let parts = c.args.ledger.now in
     subst (IsAdmissible parts) (sym (returns-clause-kept g c))
     (kept_is_admissible parts c.args.candidates.now (sym c.in_ok-room.ensures))
+
+pub returns-clause-few : goal.returns-clause-few
+returns-clause-few g c =
+    subst (λ (txs : List Tx). length txs ≤ length c.args.candidates.now) (sym (returns-clause-kept g c))
+    (kept_is_few c.args.ledger.now c.args.candidates.now)

@@ -1,4 +1,5 @@
 use Rattle.sx_filter.proofs.Accepting.{kept_is_accepted}
+use Rattle.sx_filter.proofs.Few.{kept_is_few}
 use Rattle.sx_filter.proofs.KeptLaws.{covers_all, kept_is_admissible, kept_permuted, refused_are_nothing}
 use Rattle.sx_filter.proofs.laws.filter_laws.Goals as goal
 
@@ -16,3 +17,6 @@ returns-clause-covers_all c = covers_all
 
 pub returns-clause-refused : goal.returns-clause-refused
 returns-clause-refused c = refused_are_nothing
+
+pub returns-clause-few : goal.returns-clause-few
+returns-clause-few c = kept_is_few
