@@ -11,7 +11,7 @@ use Rattle.sx_block.specs.Validity.{IsValid, digest_of_ledger, ledger_after}
 use Rattle.sx_check.specs.Laws.{EveryBlockIsJudged, ValidIsNotRefused}
 use Rattle.sx_follow.specs.Chain.{IsChain, IsNext, NoneIsValid, ledger_after_all}
 use Rattle.sx_follow.specs.declared.leaving.Leaving.{Leaving}
-use Rattle.sx_follow.specs.Follower.{Followed, IsFollower, NextLeaves, most_blocks}
+use Rattle.sx_follow.specs.Follower.{Followed, HasWholeChain, IsFollower, NextLeaves, most_blocks}
 use Rattle.sx_follow.specs.Laws.{FollowersAgree, FollowersReplay, IsPrefix, OneOfEachParent}
 use Rattle.sx_follow.proofs.Chains.{chain_grows, one_chain, part_goes_as_far}
 use Rattle.sx_follow.proofs.Existence.{every_list_has_chain, valid_are_chain}
@@ -113,6 +113,9 @@ ended seen is none =
     ∙ ap (λ (xs : List Block). ledger_after_all seen.opening xs)
     (at_end seen.blocks seen.opening is.chain seen.steps is.is_chain is.within
     (subst (λ (parts : Parts). NoneIsValid parts seen.blocks) is.is_head none))
+
+pub whole_chain : (seen : Followed) → IsFollower seen → NoneIsValid seen.head seen.blocks → HasWholeChain seen
+whole_chain seen is none = record { chain = is.chain; is = is.is_chain; is_head = ended seen is none }
 
 -- two lists that begin with each other are the same
 nothing_behind : (one rest : List Block) → length rest ≤ 0 → one ++ rest ≡ one

@@ -1,4 +1,7 @@
 pub mod Chains
 pub mod Existence
+pub mod Places
+pub mod Entering
+pub mod NextBlock
 pub mod Steps
 pub mod Followers

@@ -36,6 +36,12 @@ pub record IsFollower (seen : Followed) : Type 0 where
   pub few_steps : seen.steps ≤ length seen.blocks
   pub is_head : seen.head ≡ ledger_after_all seen.opening (take seen.steps chain)
 
+-- the head is what the whole chain leaves of the opening ledger
+pub record HasWholeChain (seen : Followed) : Type 0 where
+  pub chain : List Block
+  pub is : IsChain seen.opening seen.blocks chain
+  pub is_head : seen.head ≡ ledger_after_all seen.opening chain
+
 -- the block is valid for the ledger and leaves this
 pub record Leaves (parts : Parts) (block : Block) (left : Leaving) : Type 0 where
   pub valid : IsValid parts block

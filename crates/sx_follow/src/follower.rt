@@ -3,12 +3,15 @@
 ghost use Rattle.std.specs.Prelude.{◌≡◌, ◌++◌, ◌∷◌, [], ◌<◌, ◌≤◌, true, false, length, IfOk, OnErr, OnOk};
 ghost use Rattle.sx_block.specs.Block.{IsBlock};
 ghost use Rattle.sx_follow.specs.Chain.{NoneIsValid};
-ghost use Rattle.sx_follow.specs.Follower.{Advances, IsFollower, begun, most_blocks};
+ghost use Rattle.sx_follow.specs.Follower.{Advances, HasWholeChain, IsFollower, begun, most_blocks};
 
 use crate::finding::find;
+use crate::spare::Spare;
+use crate::waiting::Waiting;
 use std::alloc::Global;
 use std::marker::Model;
-use sx_block::{Block, Digest, block_effect_laws, ledger_digest};
+use std::mem;
+use sx_block::{Block, Digest, block_effect_laws};
 use sx_bytes::NoMemory;
 use sx_check::check_laws;
 use sx_ledger::Ledger;
@@ -19,15 +22,18 @@ use sx_ledger::Ledger;
 pub struct Follower {
     opening: Ledger,
     blocks: Vec<Block>,
+    waiting: Waiting,
     steps: u32,
     head: Ledger,
     digest: Digest,
+    spare: Spare,
 }
 
 impl Model for Follower {
     ghost use Rattle.std.specs.Prelude.{◌≡◌};
     ghost use Rattle.sx_block.specs.Validity.{digest_of_ledger};
     ghost use Rattle.sx_follow.specs.Follower.{Followed, IsFollower};
+    ghost use Rattle.sx_follow.specs.Waiting.{AreWaiting};
 
     ghost Value = { Followed };
 
@@ -38,12 +44,13 @@ impl Model for Follower {
       head = f.head;
     } };
 
-    ghost invariant = { λ f. (f.digest ≡ digest_of_ledger f.head) × IsFollower (record {
-      opening = f.opening;
-      blocks = f.blocks.items;
-      steps = f.steps;
-      head = f.head;
-    }) };
+    ghost invariant = { λ f. (f.digest ≡ digest_of_ledger f.head) × AreWaiting f.blocks.items f.waiting
+        × IsFollower (record {
+          opening = f.opening;
+          blocks = f.blocks.items;
+          steps = f.steps;
+          head = f.head;
+        }) };
 }
 
 impl Follower {
@@ -54,14 +61,17 @@ impl Follower {
     pub fn start(alloc: Global, ledger: Ledger) -> Result<Follower, NoMemory>
         ensures { IfOk result (λ follower. follower ≡ begun ledger) }
     {
-        let digest = ledger_digest(alloc, &ledger)?;
+        let mut spare = Spare::new(alloc);
+        let digest = spare.digest(&ledger)?;
         let head = ledger.copy()?;
         Ok(Follower {
             opening: ledger,
             blocks: Vec::new(alloc),
+            waiting: Waiting::new(alloc),
             steps: 0,
             head,
             digest,
+            spare,
         })
     }
 
@@ -75,8 +85,17 @@ impl Follower {
     {
         block_effect_laws();
         check_laws();
+        let height = block.header.height;
+        let place = self.blocks.len() as u32;
         self.blocks.push(block)?;
-        Ok(())
+        let alloc = *self.blocks.allocator();
+        match self.waiting.enter(alloc, height, place) {
+            Ok(()) => Ok(()),
+            Err(error) => {
+                self.blocks.truncate(place as usize);
+                Err(error)
+            }
+        }
     }
 
     /// Applies the first block that is valid for the head, and answers whether there was one. It works on a copy
@@ -85,17 +104,38 @@ impl Follower {
         ensures advances { result ≡ Ok true → Advances self.old self.new }
         ensures stays { result ≡ Ok false → NoneIsValid self.old.head self.old.blocks × (self.new ≡ self.old) }
         ensures kept { OnErr result (self.new ≡ self.old) }
+        ensures follows { IsFollower self.new }
     {
         let alloc = *self.blocks.allocator();
-        match find(alloc, &self.head, &self.digest, &self.blocks)? {
+        let places = self.waiting.at(self.head.height() + 1);
+        match find(
+            alloc,
+            &self.head,
+            &self.digest,
+            &self.blocks,
+            places,
+            &mut self.spare,
+        )? {
             Some(left) => {
                 self.steps += 1;
-                self.head = left.ledger;
+                let earlier = mem::replace(&mut self.head, left.ledger);
+                self.spare.keep(earlier);
                 self.digest = left.digest;
                 Ok(true)
             }
             None => Ok(false),
         }
+    }
+
+    /// Applies blocks until none is valid for the head. Where memory runs out, those stay applied that were by then.
+    pub fn advance_all(&mut self) -> Result<(), NoMemory>
+        ensures opening { self.new.opening ≡ self.old.opening }
+        ensures blocks { self.new.blocks ≡ self.old.blocks }
+        ensures ended { OnOk result (NoneIsValid self.new.head self.new.blocks) }
+        ensures whole { OnOk result (HasWholeChain self.new) }
+    {
+        while self.advance()? {}
+        Ok(())
     }
 
     /// The ledger after the blocks that were applied.

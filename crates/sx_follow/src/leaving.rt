@@ -6,9 +6,10 @@ ghost use Rattle.sx_block.specs.Block.{IsBlock};
 ghost use Rattle.sx_block.specs.Validity.{IsSound, IsValid, digest_of_ledger};
 ghost use Rattle.sx_follow.specs.Follower.{Leaves};
 
+use crate::spare::Spare;
 use std::alloc::Global;
 use sx_apply::{Effects, apply};
-use sx_block::{Block, Digest, body_digest, ledger_digest, validity_laws};
+use sx_block::{Block, Digest, body_digest, validity_laws};
 use sx_bytes::NoMemory;
 use sx_check::{CheckFault, check_laws, close, judge};
 use sx_ledger::Ledger;
@@ -20,12 +21,14 @@ pub struct Leaving {
     pub digest: Digest,
 }
 
-// Applies a sound block to a copy of the head. It leaves something where it names the digest of that.
+// Applies a sound block to a copy of the head. It leaves something where the block names the digest of that;
+// otherwise the copy is spare.
 fn leave(
     alloc: Global,
     head: &Ledger,
     block: &Block,
     effects: Effects,
+    spare: &mut Spare,
 ) -> Result<Option<Leaving>, NoMemory>
     requires sound { IsSound head.now block.now }
     requires effects { AreEffects head.now block.now effects }
@@ -34,11 +37,15 @@ fn leave(
 {
     validity_laws();
     check_laws();
-    let ledger = apply(alloc, head.copy()?, block, effects)?;
-    let digest = ledger_digest(alloc, &ledger)?;
+    let copy = spare.copy(alloc, head)?;
+    let ledger = apply(alloc, copy, block, effects)?;
+    let digest = spare.digest(&ledger)?;
     match close(&block.header, &digest) {
         Ok(()) => Ok(Some(Leaving { ledger, digest })),
-        Err(_) => Ok(None),
+        Err(_) => {
+            spare.keep(ledger);
+            Ok(None)
+        }
     }
 }
 
@@ -48,6 +55,7 @@ pub(crate) fn step(
     head: &Ledger,
     digest: &Digest,
     block: &Block,
+    spare: &mut Spare,
 ) -> Result<Option<Leaving>, NoMemory>
     requires digest { digest.now ≡ digest_of_ledger head.now }
     requires form { IsBlock block.now }
@@ -60,7 +68,7 @@ pub(crate) fn step(
     }
     let body = body_digest(alloc, block.txs.items())?;
     match judge(alloc, head, block, digest, &body) {
-        Ok(judged) => leave(alloc, head, block, judged.effects),
+        Ok(judged) => leave(alloc, head, block, judged.effects, spare),
         Err(CheckFault::Invalid(_)) => Ok(None),
         Err(CheckFault::NoMemory) => Err(NoMemory),
     }

@@ -20,8 +20,12 @@
 //! followers of the same blocks agree where no two different ones have one parent, and that blocks in their order
 //! give what a replay gives.
 //!
-//! Cost: an advance compares the parent of each block that was taken with the head's digest, and judges those that
-//! have it. A block that is judged to its end is applied to a copy of the ledger.
+//! Cost: the places of all blocks stand in a map by height, and only those of the next height can be valid. An
+//! advance compares the parent of each of these with the head's digest, and judges those that have it, in their
+//! order, up to the first that is valid. So where advances come after all blocks were taken, each block is compared
+//! for one head alone, whatever the order in which they came. A block that is judged to its end is applied to a copy
+//! of the ledger, so that one that names a wrong digest leaves the head as it was. The copy, and the bytes of which
+//! its digest is made, are written over those of the block before, and take no fresh memory where they are as long.
 //!
 //! Not here: no block is ever dropped, so a follower takes 1,000,000 at most. Of two valid blocks with one
 //! parent the one that came first counts, and nothing says which of them others take.
@@ -31,6 +35,9 @@ mod finding;
 mod follower;
 mod laws;
 mod leaving;
+mod refilling;
+mod spare;
+mod waiting;
 
 pub use follower::Follower;
 pub use laws::follow_laws;

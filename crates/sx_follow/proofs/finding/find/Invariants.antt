@@ -1,7 +1,5 @@
-use Rattle.std.proofs.Common.{ℕ, ◌<◌, get_or}
-use Rattle.sx_block.specs.declared.header.Block.{Block}
-use Rattle.sx_block.specs.Validity.{IsValid}
+use Rattle.sx_follow.proofs.NextBlock.{AreRefused}
 use Rattle.sx_follow.proofs.finding.find.Given as goal
 
-abbrev pub invariant-loop-block : goal.invariant-loop-block
-invariant-loop-block l = (k : ℕ) (d : Block) → k < l.block-index → ¬ IsValid l.head (get_or l.blocks k d)
+abbrev pub invariant-loop-place : goal.invariant-loop-place
+invariant-loop-place l = AreRefused l.head l.blocks l.places l.place-index

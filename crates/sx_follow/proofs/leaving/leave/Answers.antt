@@ -10,7 +10,7 @@ returns-in-Ok-clause-valid c =
     let ledger : c.in_ok-ledger.ledger ≡ ledger_after head block =
     c.in_ok-ledger.ensures ∙ ap (λ (l : Parts). ledger_after l block) c.in_ok-copy.ensures in
     let digest : c.in_ok-digest.digest ≡ digest_of_ledger (ledger_after head block) =
-    c.in_ok-digest.ensures.hash ∙ ap (λ (l : Parts). digest_of_ledger l) ledger in
+    c.in_ok-digest.ensures ∙ ap (λ (l : Parts). digest_of_ledger l) ledger in
     record {
       valid = c.validity_laws.ensures.valid head block c.requires.sound (c.in-Ok.ensures.same ∙ digest);
       ledger = ledger;
@@ -24,7 +24,7 @@ returns-in-Err-clause-refused c = λ valid.
     let ledger : c.in_ok-ledger.ledger ≡ ledger_after head block =
     c.in_ok-ledger.ensures ∙ ap (λ (l : Parts). ledger_after l block) c.in_ok-copy.ensures in
     let digest : c.in_ok-digest.digest ≡ digest_of_ledger (ledger_after head block) =
-    c.in_ok-digest.ensures.hash ∙ ap (λ (l : Parts). digest_of_ledger l) ledger in
+    c.in_ok-digest.ensures ∙ ap (λ (l : Parts). digest_of_ledger l) ledger in
     c.check_laws.ensures.valid_is_not_refused head block c.in-Err.field-0 valid
     (c.check_laws.ensures.wrong_after head block c.in_ok-digest.digest c.in-Err.field-0 c.requires.sound digest
     c.in-Err.ensures.differ)
