@@ -3,7 +3,8 @@ use Rattle.std.proofs.Common.{◌≡◌, [], ◌∷◌, Some, None, refl}
 use Rattle.std.specs.Prelude.{codes}
 use Rattle.sx_words.specs.Commands.{command_of}
 use Rattle.sx_words.specs.Numbers.{number_in}
-use Rattle.sx_words.specs.declared.command.Command.TheVariants.{Seal, Replay, Check, Show, Interleave, Migrate, Demo}
+use Rattle.sx_words.specs.declared.command.Command.TheVariants.{Seal, Replay, Check, Show, Interleave, Migrate, Filter}
+use Rattle.sx_words.specs.declared.command.Command.TheVariants.{Prove, Verify, Follow, Demo}
 
 -- ---- commands
 
@@ -69,6 +70,34 @@ interleaves = refl
 migrates : command_of (codes "migrate" ∷ []) ≡ Some Migrate
 unfolding command_of
 migrates = refl
+
+filters_by_default : command_of (codes "filter" ∷ []) ≡ Some (Filter 4)
+unfolding command_of number_in
+filters_by_default = refl
+
+filters : command_of (codes "filter" ∷ codes "--workers" ∷ codes "64" ∷ []) ≡ Some (Filter 64)
+unfolding command_of number_in
+filters = refl
+
+filters_by_one_word : command_of (codes "filter" ∷ codes "--workers=1" ∷ []) ≡ Some (Filter 1)
+unfolding command_of number_in
+filters_by_one_word = refl
+
+proves_zero : command_of (codes "prove" ∷ codes "0" ∷ []) ≡ Some (Prove 0)
+unfolding command_of number_in
+proves_zero = refl
+
+proves_the_last : command_of (codes "prove" ∷ codes "18446744073709551615" ∷ []) ≡ Some (Prove 18446744073709551615)
+unfolding command_of number_in
+proves_the_last = refl
+
+verifies : command_of (codes "verify" ∷ []) ≡ Some Verify
+unfolding command_of
+verifies = refl
+
+follows : command_of (codes "follow" ∷ []) ≡ Some Follow
+unfolding command_of
+follows = refl
 
 -- ---- no commands
 
@@ -167,6 +196,66 @@ more_to_interleave = refl
 more_to_migrate : command_of (codes "migrate" ∷ codes "state" ∷ []) ≡ None
 unfolding command_of
 more_to_migrate = refl
+
+filter_without_workers : command_of (codes "filter" ∷ codes "--workers" ∷ []) ≡ None
+unfolding command_of number_in
+filter_without_workers = refl
+
+filter_by_too_many : command_of (codes "filter" ∷ codes "--workers=65" ∷ []) ≡ None
+unfolding command_of number_in
+filter_by_too_many = refl
+
+filter_by_a_leading_zero : command_of (codes "filter" ∷ codes "--workers=04" ∷ []) ≡ None
+unfolding command_of number_in
+filter_by_a_leading_zero = refl
+
+filter_twice : command_of (codes "filter" ∷ codes "--workers=4" ∷ codes "--workers=4" ∷ []) ≡ None
+unfolding command_of number_in
+filter_twice = refl
+
+filter_by_shards : command_of (codes "filter" ∷ codes "--shards=16" ∷ []) ≡ None
+unfolding command_of number_in
+filter_by_shards = refl
+
+proof_of_no_account : command_of (codes "prove" ∷ []) ≡ None
+unfolding command_of
+proof_of_no_account = refl
+
+proof_of_two : command_of (codes "prove" ∷ codes "1" ∷ codes "2" ∷ []) ≡ None
+unfolding command_of number_in
+proof_of_two = refl
+
+proof_by_a_leading_zero : command_of (codes "prove" ∷ codes "01" ∷ []) ≡ None
+unfolding command_of number_in
+proof_by_a_leading_zero = refl
+
+proof_above_64_bits : command_of (codes "prove" ∷ codes "18446744073709551616" ∷ []) ≡ None
+unfolding command_of number_in
+proof_above_64_bits = refl
+
+proof_by_workers : command_of (codes "prove" ∷ codes "1" ∷ codes "--workers=4" ∷ []) ≡ None
+unfolding command_of number_in
+proof_by_workers = refl
+
+proof_by_name : command_of (codes "prove" ∷ codes "--id=1" ∷ []) ≡ None
+unfolding command_of number_in
+proof_by_name = refl
+
+more_to_verify : command_of (codes "verify" ∷ codes "1" ∷ []) ≡ None
+unfolding command_of
+more_to_verify = refl
+
+verify_by_workers : command_of (codes "verify" ∷ codes "--workers=4" ∷ []) ≡ None
+unfolding command_of
+verify_by_workers = refl
+
+more_to_follow : command_of (codes "follow" ∷ codes "block" ∷ []) ≡ None
+unfolding command_of
+more_to_follow = refl
+
+follow_by_workers : command_of (codes "follow" ∷ codes "--workers=4" ∷ []) ≡ None
+unfolding command_of
+follow_by_workers = refl
 
 help : command_of (codes "--help" ∷ []) ≡ None
 unfolding command_of

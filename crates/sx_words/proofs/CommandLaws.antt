@@ -6,7 +6,8 @@ use Rattle.std.specs.Global.{Global}
 use Rattle.std.specs.Str.{bytes_eq}
 use Rattle.std.proofs.lemmas.Slice.Eq.{bytes_eq-Decides}
 use Rattle.sx_words.specs.declared.command.Command.{Command}
-use Rattle.sx_words.specs.declared.command.Command.TheVariants.{Seal, Replay, Check, Show, Interleave, Migrate, Demo}
+use Rattle.sx_words.specs.declared.command.Command.TheVariants.{Seal, Replay, Check, Show, Interleave, Migrate, Filter}
+use Rattle.sx_words.specs.declared.command.Command.TheVariants.{Prove, Verify, Follow, Demo}
 use Rattle.sx_words.specs.Numbers.{Text, texts}
 use Rattle.sx_words.specs.Commands.{Form, InRange, forms, command_of, nothing_more, spelled, joined, spelling_by}
 use Rattle.sx_words.specs.Laws.{ReadsSpelling}
@@ -33,11 +34,11 @@ differ name literal differs =
 
 -- no command has the name
 pub named_by_none : (name : Text) (words : List Text) → name ≢ codes "seal" → name ≢ codes "replay"
-    → name ≢ codes "check"
-    → name ≢ codes "show" → name ≢ codes "interleave" → name ≢ codes "migrate" → name ≢ codes "demo"
-    → command_of (name ∷ words) ≡ None
+    → name ≢ codes "check" → name ≢ codes "show" → name ≢ codes "interleave" → name ≢ codes "migrate"
+    → name ≢ codes "filter" → name ≢ codes "prove" → name ≢ codes "verify" → name ≢ codes "follow"
+    → name ≢ codes "demo" → command_of (name ∷ words) ≡ None
 unfolding command_of
-named_by_none name words a b c d e f g =
+named_by_none name words a b c d e f g h i k l =
     rw (
       differ name (codes "seal") a,
       differ name (codes "replay") b,
@@ -45,7 +46,11 @@ named_by_none name words a b c d e f g =
       differ name (codes "show") d,
       differ name (codes "interleave") e,
       differ name (codes "migrate") f,
-      differ name (codes "demo") g,
+      differ name (codes "filter") g,
+      differ name (codes "prove") h,
+      differ name (codes "verify") i,
+      differ name (codes "follow") k,
+      differ name (codes "demo") l,
     ) refl
 
 found_none : (name : Text) (forms : List Form) → (Contains (map (λ form. form.name) forms) name → ⊥)
@@ -92,6 +97,22 @@ reads_replay workers fits =
     let w = spells 1 64 workers fits.0 fits.1 (omega arith) in
     (rw w refl, rw w refl)
 
+reads_filter : (workers : ℕ) → InRange (Filter workers)
+    → (command_of (spelling_by spelled (Filter workers)) ≡ Some (Filter workers))
+    × (command_of (spelling_by joined (Filter workers)) ≡ Some (Filter workers))
+unfolding command_of
+reads_filter workers fits =
+    let w = spells 1 64 workers fits.0 fits.1 (omega arith) in
+    (rw w refl, rw w refl)
+
+reads_prove : (id : ℕ) → InRange (Prove id)
+    → (command_of (spelling_by spelled (Prove id)) ≡ Some (Prove id))
+    × (command_of (spelling_by joined (Prove id)) ≡ Some (Prove id))
+unfolding command_of
+reads_prove id fits =
+    let n = spells 0 (2 ^ 64 - 1) id (omega arith) (omega (arith, fits)) (omega arith) in
+    (rw n refl, rw n refl)
+
 reads_demo : (number workers : ℕ) → InRange (Demo number workers)
     → (command_of (spelling_by spelled (Demo number workers)) ≡ Some (Demo number workers))
     × (command_of (spelling_by joined (Demo number workers)) ≡ Some (Demo number workers))
@@ -109,6 +130,10 @@ reads_spelling Check fits = (refl, refl)
 reads_spelling Show fits = (refl, refl)
 reads_spelling Interleave fits = (refl, refl)
 reads_spelling Migrate fits = (refl, refl)
+reads_spelling (Filter workers) fits = reads_filter workers fits
+reads_spelling (Prove id) fits = reads_prove id fits
+reads_spelling Verify fits = (refl, refl)
+reads_spelling Follow fits = (refl, refl)
 reads_spelling (Demo number workers) fits = reads_demo number workers fits
 
 -- ---- a command that takes no options

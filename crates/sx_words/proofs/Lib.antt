@@ -3,7 +3,8 @@ pub mod WalkLaws
 pub mod ProgramLaws
 pub mod TakenNumbers
 pub mod SealLaws
-pub mod ReplayLaws
+pub mod WorkersLaws
+pub mod ProveLaws
 pub mod DemoLaws
 pub mod OptionLaws
 pub mod CommandLaws

@@ -18,7 +18,7 @@ use Rattle.sx_words.specs.declared.fault.WordsFault.TheVariants.{NoMemory}
 use Rattle.sx_words.specs.Settings.{name_of, least_of, most_of}
 use Rattle.sx_words.specs.declared.setting.Setting.{Setting}
 use Rattle.sx_words.specs.declared.setting.Setting.TheVariants.{Workers, Shards, Mu, Rounds, Searches}
-use Rattle.sx_words.proofs.WalkLaws.{IsPlainWord, HasOption, HasWalked, at, stopped_at, walks_stopped, passes_stopped}
+use Rattle.sx_words.proofs.WalkLaws.{IsPlainWord, HasOption, HasWalked, stopped_at, walks_stopped, passes_stopped}
 use Rattle.sx_words.proofs.WalkLaws.{and_true, walked_option}
 
 -- the program with all that `clap` adds to it, and its commands
@@ -31,8 +31,14 @@ seal_shape = slice_index_or top.subs 0 top.top
 abbrev pub replay_shape : Shape
 replay_shape = slice_index_or top.subs 1 top.top
 
+abbrev pub filter_shape : Shape
+filter_shape = slice_index_or top.subs 6 top.top
+
+abbrev pub prove_shape : Shape
+prove_shape = slice_index_or top.subs 7 top.top
+
 abbrev pub demo_shape : Shape
-demo_shape = slice_index_or top.subs 6 top.top
+demo_shape = slice_index_or top.subs 10 top.top
 
 -- ---- from the program to one of its commands
 
@@ -48,6 +54,14 @@ enters_seal = record { walk = refl; turn = refl; sub = refl }
 pub enters_replay : Enters (codes "replay") replay_shape
 unfolding clap_on_literals
 enters_replay = record { walk = refl; turn = refl; sub = refl }
+
+pub enters_filter : Enters (codes "filter") filter_shape
+unfolding clap_on_literals
+enters_filter = record { walk = refl; turn = refl; sub = refl }
+
+pub enters_prove : Enters (codes "prove") prove_shape
+unfolding clap_on_literals
+enters_prove = record { walk = refl; turn = refl; sub = refl }
 
 pub enters_demo : Enters (codes "demo") demo_shape
 unfolding clap_on_literals
@@ -103,6 +117,10 @@ seal_option Searches = record { named = λ h place. refl; passes = λ h place e.
 pub replay_option : HasOption replay_shape (name_of Workers) (id_of Workers)
 unfolding clap_on_literals
 replay_option = record { named = λ h place. refl; passes = λ h place e. rw e refl; taken = λ word h place. refl }
+
+pub filter_option : HasOption filter_shape (name_of Workers) (id_of Workers)
+unfolding clap_on_literals
+filter_option = record { named = λ h place. refl; passes = λ h place e. rw e refl; taken = λ word h place. refl }
 
 pub demo_option : HasOption demo_shape (name_of Workers) (id_of Workers)
 unfolding clap_on_literals

@@ -7,7 +7,8 @@ use Rattle.sx_words.specs.Numbers.{Text, number_in}
 use Rattle.sx_words.specs.Settings.{name_of, Takes}
 use Rattle.sx_words.specs.Options.{◌>>=◌, read_options, number_for}
 use Rattle.sx_words.specs.declared.command.Command.{Command}
-use Rattle.sx_words.specs.declared.command.Command.TheVariants.{Seal, Replay, Check, Show, Interleave, Migrate, Demo}
+use Rattle.sx_words.specs.declared.command.Command.TheVariants.{Seal, Replay, Check, Show, Interleave, Migrate, Filter}
+use Rattle.sx_words.specs.declared.command.Command.TheVariants.{Prove, Verify, Follow, Demo}
 use Rattle.sx_words.specs.declared.fault.WordsFault.{WordsFault}
 use Rattle.sx_words.specs.declared.fault.WordsFault.TheVariants.{NoMemory, Usage}
 use Rattle.sx_words.specs.declared.options.Choice.{Choice}
@@ -21,6 +22,9 @@ seal_options = Workers ∷ Shards ∷ Mu ∷ Rounds ∷ Searches ∷ []
 
 abbrev pub replay_options : List Setting
 replay_options = Workers ∷ []
+
+abbrev pub filter_options : List Setting
+filter_options = Workers ∷ []
 
 abbrev pub demo_options : List Setting
 demo_options = Workers ∷ []
@@ -45,6 +49,11 @@ replay_by choices = do
   workers ← number_for Workers choices
   Some (Replay workers)
 
+abbrev pub filter_by : List Choice → Option Command
+filter_by choices = do
+  workers ← number_for Workers choices
+  Some (Filter workers)
+
 abbrev pub demo_by : ℕ → List Choice → Option Command
 demo_by number choices = do
   workers ← number_for Workers choices
@@ -55,6 +64,16 @@ seal_of words = read_options seal_options words >>= seal_by
 
 abbrev pub replay_of : List Text → Option Command
 replay_of words = read_options replay_options words >>= replay_by
+
+abbrev pub filter_of : List Text → Option Command
+filter_of words = read_options filter_options words >>= filter_by
+
+-- a number of 64 bits alone
+abbrev pub prove_of : List Text → Option Command
+prove_of [] = None
+prove_of (word ∷ words) = do
+  id ← number_in 0 (2 ^ 64 - 1) word
+  nothing_more (Prove id) words
 
 -- a number of 64 bits, and then options
 abbrev pub demo_of : List Text → Option Command
@@ -79,6 +98,10 @@ forms =
     ∷ record { name = codes "show"; reads = nothing_more Show }
     ∷ record { name = codes "interleave"; reads = nothing_more Interleave }
     ∷ record { name = codes "migrate"; reads = nothing_more Migrate }
+    ∷ record { name = codes "filter"; reads = filter_of }
+    ∷ record { name = codes "prove"; reads = prove_of }
+    ∷ record { name = codes "verify"; reads = nothing_more Verify }
+    ∷ record { name = codes "follow"; reads = nothing_more Follow }
     ∷ record { name = codes "demo"; reads = demo_of }
     ∷ []
 
@@ -94,6 +117,8 @@ abbrev pub InRange : Command → Type 0
 InRange (Seal workers shards mu rounds searches) =
     Takes Workers workers × Takes Shards shards × Takes Mu mu × Takes Rounds rounds × Takes Searches searches
 InRange (Replay workers) = Takes Workers workers
+InRange (Filter workers) = Takes Workers workers
+InRange (Prove id) = id < 2 ^ 64
 InRange (Demo number workers) = (number < 2 ^ 64) × Takes Workers workers
 InRange _ = Unit {0}
 
@@ -115,6 +140,10 @@ spelling_by option Check = codes "check" ∷ []
 spelling_by option Show = codes "show" ∷ []
 spelling_by option Interleave = codes "interleave" ∷ []
 spelling_by option Migrate = codes "migrate" ∷ []
+spelling_by option (Filter workers) = codes "filter" ∷ option Workers workers
+spelling_by option (Prove id) = codes "prove" ∷ decimal id ∷ []
+spelling_by option Verify = codes "verify" ∷ []
+spelling_by option Follow = codes "follow" ∷ []
 spelling_by option (Demo number workers) = codes "demo" ∷ decimal number ∷ option Workers workers
 
 -- an answer to words in which this command was found

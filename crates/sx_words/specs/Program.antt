@@ -1,4 +1,4 @@
--- The command line as `clap` knows it: one command with seven subcommands.
+-- The command line as `clap` knows it: one command with eleven subcommands.
 use Rattle.std.specs.Prelude.{◌-◌, ◌^◌, ◌≡◌, true, false, List, [], ◌∷◌, Some, codes}
 use Rattle.clap.specs.Words.{App, Rule, app_of, new_app, new_rule, with_rule, with_subcommand}
 use Rattle.clap.specs.declared.builder.command.Command.{Command}
@@ -38,9 +38,9 @@ option_by setting id default = record (new_rule id) {
 abbrev pub option_rule : Setting → Rule
 option_rule setting = option_by setting (id_of setting) (default_text setting)
 
--- the number of a demonstration
-abbrev pub number_rule : Rule
-number_rule = record (new_rule (codes "number")) {
+-- a number of 64 bits that has to be given
+abbrev pub number_by : Text → Rule
+number_by id = record (new_rule id) {
   parser = Some (parser.Unsigned 0 (2 ^ 64 - 1));
   required = true;
 }
@@ -55,19 +55,24 @@ single_app = with_rule (with_rule (with_rule (with_rule (new_app (codes "seal"))
 abbrev pub seal_app : App
 seal_app = with_rule single_app (option_rule Searches)
 
-abbrev pub replay_app : App
-replay_app = with_rule (new_app (codes "replay")) (option_rule Workers)
+-- a command whose only option is the number of workers
+abbrev pub workers_app : Text → App
+workers_app name = with_rule (new_app name) (option_rule Workers)
+
+abbrev pub prove_app : App
+prove_app = with_rule (new_app (codes "prove")) (number_by (codes "id"))
 
 abbrev pub demo_app : App
-demo_app = with_rule (with_rule (new_app (codes "demo")) number_rule) (option_rule Workers)
+demo_app = with_rule (with_rule (new_app (codes "demo")) (number_by (codes "number"))) (option_rule Workers)
 
 abbrev pub with_each : App → List App → App
 with_each above [] = above
 with_each above (sub ∷ rest) = with_each (with_subcommand above sub.top) rest
 
 abbrev pub program : App
-program = with_each (new_app (codes "speedex")) (seal_app ∷ replay_app ∷ new_app (codes "check")
-    ∷ new_app (codes "show") ∷ new_app (codes "interleave") ∷ new_app (codes "migrate") ∷ demo_app ∷ [])
+program = with_each (new_app (codes "speedex")) (seal_app ∷ workers_app (codes "replay") ∷ new_app (codes "check")
+    ∷ new_app (codes "show") ∷ new_app (codes "interleave") ∷ new_app (codes "migrate")
+    ∷ workers_app (codes "filter") ∷ prove_app ∷ new_app (codes "verify") ∷ new_app (codes "follow") ∷ demo_app ∷ [])
 
 -- the command reads as this one, and no argument of it stands for subcommands too
 abbrev pub IsApp : App → Command → Type 0

@@ -1,5 +1,5 @@
 -- What `clap` is handed, and what is read of its matches.
-use Rattle.std.specs.Prelude.{ℕ, ◌-◌, ◌^◌, ◌<◌, ◌≡◌, List, [], ◌∷◌, Option, Some, None, codes, map, option_map}
+use Rattle.std.specs.Prelude.{ℕ, ◌-◌, ◌^◌, ◌<◌, ◌≡◌, ◌⊎◌, List, [], ◌∷◌, Option, Some, None, codes, map, option_map}
 use Rattle.std.specs.Prelude.{option_and_then, Result, MatchResult}
 use Rattle.std.specs.Borrow.{Bor}
 use Rattle.clap.specs.Words.{Row, one_of, subcommand_rows_of}
@@ -9,7 +9,7 @@ use Rattle.sx_words.specs.Options.{◌>>=◌}
 use Rattle.sx_words.specs.Settings.{name_of, least_of, most_of, default_of, Takes}
 use Rattle.sx_words.specs.Program.{id_of}
 use Rattle.sx_words.specs.declared.command.Command.{Command}
-use Rattle.sx_words.specs.declared.command.Command.TheVariants.{Seal, Replay, Demo}
+use Rattle.sx_words.specs.declared.command.Command.TheVariants.{Seal, Prove, Demo}
 use Rattle.sx_words.specs.declared.fault.WordsFault.{WordsFault}
 use Rattle.sx_words.specs.declared.fault.WordsFault.TheVariants.{NoMemory}
 use Rattle.sx_words.specs.declared.options.Choice.{Choice}
@@ -61,9 +61,13 @@ IsWritten written = number_in (least_of written.choice.setting) (most_of written
 abbrev pub IsGiven : Setting → Option Text → Type 0
 IsGiven setting given = (number : ℕ) × (number_of setting given ≡ Some number)
 
--- the number of a demonstration
-abbrev pub IsSeed : Text → Type 0
-IsSeed text = (number : ℕ) × (number_in 0 (2 ^ 64 - 1) text ≡ Some number)
+-- a text that spells a number of 64 bits
+abbrev pub IsNumber : Text → Type 0
+IsNumber text = (number : ℕ) × (number_in 0 (2 ^ 64 - 1) text ≡ Some number)
+
+-- the name of a command whose only option is the number of workers
+abbrev pub HasWorkersAlone : Text → Type 0
+HasWorkersAlone name = (name ≡ codes "replay") ⊎ (name ≡ codes "filter")
 
 -- the text of an argument of the subcommand that was met
 abbrev pub text_in : Text → Option (Text × List Row) → Option Text
@@ -92,10 +96,10 @@ seal_from workers shards mu rounds searches = do
   n ← number_of Searches searches
   Some (Seal w s m r n)
 
-abbrev pub replay_from : Option Text → Option Command
-replay_from workers = do
-  w ← number_of Workers workers
-  Some (Replay w)
+abbrev pub prove_from : Text → Option Command
+prove_from id = do
+  n ← number_in 0 (2 ^ 64 - 1) id
+  Some (Prove n)
 
 abbrev pub demo_from : Text → Option Text → Option Command
 demo_from number workers = do

@@ -25,6 +25,19 @@ pub enum Command {
     Interleave,
     /// Writes a state in its newest version.
     Migrate,
+    /// Chooses candidates without any race, and writes them.
+    Filter {
+        workers: u32,
+    },
+    /// Shows what a state says of one account.
+    Prove {
+        /// The account.
+        id: u64,
+    },
+    /// Tells whether a proof of an account is good.
+    Verify,
+    /// Applies proposed blocks, whatever their order, as far as they make a chain.
+    Follow,
     /// Makes a market from a number, and clears it.
     Demo {
         number: u64,

@@ -3,9 +3,12 @@
 ghost use Rattle.std.specs.Prelude.{◌≡◌, ◌∷◌, None, Some, IfOk, IsErrOf, true};
 ghost use Rattle.clap.specs.Words.{takes};
 ghost use Rattle.sx_words.specs.Numbers.{texts};
-ghost use Rattle.sx_words.specs.Commands.{Answers, InRange, command_of, demo_of, nothing_more, replay_of, seal_of};
+ghost use Rattle.sx_words.specs.Commands.{Answers, InRange, command_of, demo_of, filter_of, nothing_more, prove_of};
+ghost use Rattle.sx_words.specs.Commands.{replay_of, seal_of};
 ghost use Rattle.sx_words.specs.Program.{program};
-ghost use Rattle.sx_words.specs.Reading.{IsGiven, IsSeed, begun, demo_from, replay_from, seal_from, text_of};
+ghost use Rattle.sx_words.specs.Reading.{HasWorkersAlone, IsGiven, IsNumber, OrNoMemory, begun, demo_from, number_of};
+ghost use Rattle.sx_words.specs.Reading.{prove_from, seal_from, text_of};
+ghost use Rattle.sx_words.specs.Settings.{Takes};
 ghost use Rattle.sx_words.specs.declared.setting.Setting.TheVariants.{Mu, Rounds, Searches, Shards, Workers};
 ghost use Rattle.sx_words.specs.declared.fault.WordsFault.TheVariants as words_fault;
 
@@ -26,6 +29,8 @@ const SEAL: [Setting; 5] = [
 ];
 
 const REPLAY: [Setting; 1] = [Setting::Workers];
+
+const FILTER: [Setting; 1] = [Setting::Workers];
 
 const DEMO: [Setting; 1] = [Setting::Workers];
 
@@ -74,17 +79,21 @@ fn seal(alloc: Global, words: &[String]) -> Result<Command, WordsFault>
     seal_by(alloc, workers, shards, mu, rounds, searches)
 }
 
-// The replay that `clap` reads.
-fn replay_by<'a>(alloc: Global, workers: Option<&'a str>) -> Result<Command, WordsFault>
-    requires { IsGiven Workers (text_of workers) }
-    ensures { Answers (replay_from (text_of workers.entry)) result }
+// The number of workers that `clap` reads for the command of this name.
+fn workers_by<'a>(
+    alloc: Global,
+    name: &'static str,
+    workers: Option<&'a str>,
+) -> Result<u32, WordsFault>
+    requires name { HasWorkersAlone name.now }
+    requires workers { IsGiven Workers (text_of workers) }
+    ensures { OrNoMemory (λ number. (number_of Workers (text_of workers.entry) ≡ Some number)
+        × Takes Workers number) result }
 {
-    let mut words = begin(alloc, "replay")?;
+    let mut words = begin(alloc, name)?;
     add(&mut words, Setting::Workers, workers)?;
     let matches = read(alloc, &words)?;
-    Ok(Command::Replay {
-        workers: option_of(&matches, Setting::Workers, "workers"),
-    })
+    Ok(option_of(&matches, Setting::Workers, "workers"))
 }
 
 fn replay(alloc: Global, words: &[String]) -> Result<Command, WordsFault>
@@ -92,7 +101,42 @@ fn replay(alloc: Global, words: &[String]) -> Result<Command, WordsFault>
 {
     let given = read_options(alloc, &REPLAY, words)?;
     let workers = word_for(&given, Setting::Workers).ok_or(WordsFault::Usage)?;
-    replay_by(alloc, workers)
+    let workers = workers_by(alloc, "replay", workers)?;
+    Ok(Command::Replay { workers })
+}
+
+fn filter(alloc: Global, words: &[String]) -> Result<Command, WordsFault>
+    ensures { Answers (filter_of (texts words.now)) result }
+{
+    let given = read_options(alloc, &FILTER, words)?;
+    let workers = word_for(&given, Setting::Workers).ok_or(WordsFault::Usage)?;
+    let workers = workers_by(alloc, "filter", workers)?;
+    Ok(Command::Filter { workers })
+}
+
+// The proof that `clap` reads.
+fn prove_by<'a>(alloc: Global, id: &'a str) -> Result<Command, WordsFault>
+    requires { IsNumber id.now }
+    ensures { Answers (prove_from id.entry.now) result }
+{
+    let mut words = begin(alloc, "prove")?;
+    words.push(id)?;
+    let matches = read(alloc, &words)?;
+    Ok(Command::Prove {
+        id: number_of(&matches, "id").unwrap(),
+    })
+}
+
+fn prove(alloc: Global, words: &[String]) -> Result<Command, WordsFault>
+    ensures { Answers (prove_of (texts words.now)) result }
+{
+    let (word, more) = words.split_first().ok_or(WordsFault::Usage)?;
+    number(word.as_str(), 0, u64::MAX).ok_or(WordsFault::Usage)?;
+    if more.is_empty() {
+        prove_by(alloc, word.as_str())
+    } else {
+        Err(WordsFault::Usage)
+    }
 }
 
 // The demonstration that `clap` reads.
@@ -101,7 +145,7 @@ fn demo_by<'a>(
     number: &'a str,
     workers: Option<&'a str>,
 ) -> Result<Command, WordsFault>
-    requires number { IsSeed number.now }
+    requires number { IsNumber number.now }
     requires workers { IsGiven Workers (text_of workers) }
     ensures { Answers (demo_from number.entry.now (text_of workers.entry)) result }
 {
@@ -155,6 +199,10 @@ fn command(alloc: Global, name: &str, words: &[String]) -> Result<Command, Words
         "show" => alone(alloc, "show", Command::Show, words),
         "interleave" => alone(alloc, "interleave", Command::Interleave, words),
         "migrate" => alone(alloc, "migrate", Command::Migrate, words),
+        "filter" => filter(alloc, words),
+        "prove" => prove(alloc, words),
+        "verify" => alone(alloc, "verify", Command::Verify, words),
+        "follow" => alone(alloc, "follow", Command::Follow, words),
         "demo" => demo(alloc, words),
         _ => Err(WordsFault::Usage),
     }

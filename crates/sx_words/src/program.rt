@@ -1,9 +1,10 @@
-//! The command line as `clap` knows it: one command with seven subcommands.
+//! The command line as `clap` knows it: one command with eleven subcommands.
 
 ghost use Rattle.std.specs.Prelude.{◌≡◌, IfOk, false};
 ghost use Rattle.clap.specs.Words.{app_of, rule_of, with_rule, with_subcommand};
 ghost use Rattle.clap.specs.declared.builder.command.Command.TheViews.{out-Command};
-ghost use Rattle.sx_words.specs.Program.{IsApp, demo_app, number_rule, option_by, program, replay_app, seal_app, single_app};
+ghost use Rattle.sx_words.specs.Program.{IsApp, demo_app, number_by, option_by, program, prove_app, seal_app};
+ghost use Rattle.sx_words.specs.Program.{single_app, workers_app};
 
 use crate::setting::Setting;
 use clap::builder::ValueParser;
@@ -22,12 +23,12 @@ fn option<'a>(alloc: Global, setting: Setting, id: &'a str, default: &'a str) ->
         .default_value(default)
 }
 
-// The number of a demonstration.
-fn number<'a>(alloc: Global) -> Arg<'a>
-    ensures rule { rule_of result ≡ number_rule }
+// A number of 64 bits that has to be given.
+fn number<'a>(alloc: Global, id: &'a str) -> Arg<'a>
+    ensures rule { rule_of result ≡ number_by id.entry.now }
     ensures local { result.global ≡ false }
 {
-    Arg::new(alloc, "number")
+    Arg::new(alloc, id)
         .value_parser(value_parser!(u64))
         .required(true)
 }
@@ -62,19 +63,26 @@ fn seal<'a>(alloc: Global) -> Result<Command<'a>, AllocError>
     with(single, option(alloc, Setting::Searches, "searches", "1"))
 }
 
-fn replay<'a>(alloc: Global) -> Result<Command<'a>, AllocError>
-    ensures { IfOk result (IsApp replay_app) }
+// A command whose only option is the number of workers.
+fn with_workers<'a>(alloc: Global, name: &'a str) -> Result<Command<'a>, AllocError>
+    ensures { IfOk result (IsApp (workers_app name.entry.now)) }
 {
     with(
-        Command::new(alloc, "replay"),
+        Command::new(alloc, name),
         option(alloc, Setting::Workers, "workers", "4"),
     )
+}
+
+fn prove<'a>(alloc: Global) -> Result<Command<'a>, AllocError>
+    ensures { IfOk result (IsApp prove_app) }
+{
+    with(Command::new(alloc, "prove"), number(alloc, "id"))
 }
 
 fn demo<'a>(alloc: Global) -> Result<Command<'a>, AllocError>
     ensures { IfOk result (IsApp demo_app) }
 {
-    let demo = with(Command::new(alloc, "demo"), number(alloc))?;
+    let demo = with(Command::new(alloc, "demo"), number(alloc, "number"))?;
     with(demo, option(alloc, Setting::Workers, "workers", "4"))
 }
 
@@ -91,10 +99,14 @@ pub(crate) fn program<'a>(alloc: Global) -> Result<Command<'a>, AllocError>
     ensures { IfOk result (λ made. app_of made ≡ program) }
 {
     let mut program = above(Command::new(alloc, "speedex"), seal(alloc)?)?;
-    program = above(program, replay(alloc)?)?;
+    program = above(program, with_workers(alloc, "replay")?)?;
     program = above(program, Command::new(alloc, "check"))?;
     program = above(program, Command::new(alloc, "show"))?;
     program = above(program, Command::new(alloc, "interleave"))?;
     program = above(program, Command::new(alloc, "migrate"))?;
+    program = above(program, with_workers(alloc, "filter")?)?;
+    program = above(program, prove(alloc)?)?;
+    program = above(program, Command::new(alloc, "verify"))?;
+    program = above(program, Command::new(alloc, "follow"))?;
     above(program, demo(alloc)?)
 }
