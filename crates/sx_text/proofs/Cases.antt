@@ -6,6 +6,7 @@ use Rattle.hex.specs.Hex.{encode_with}
 use Rattle.sx_block.specs.declared.header.Block.{Block}
 use Rattle.sx_bytes.specs.declared.fault.Form.TheVariants as form
 use Rattle.sx_check.specs.declared.invalid.Invalid.TheVariants as invalid
+use Rattle.sx_commit.specs.declared.proof.Proof.{Proof}
 use Rattle.sx_layout.specs.declared.outcome.Outcome.TheVariants as outcome
 use Rattle.sx_ledger.specs.declared.account.Account.{Account}
 use Rattle.sx_ledger.specs.declared.parts.Parts.{Parts}
@@ -20,6 +21,7 @@ use Rattle.sx_text.specs.Gathering.{outcomes_text, script_text}
 use Rattle.sx_text.specs.States.{account_line, offer_line, state_text}
 use Rattle.sx_text.specs.Texts.{checked_text, status_text}
 use Rattle.sx_text.specs.Transactions.{candidates_text}
+use Rattle.sx_text.specs.Verdict.{proof_text}
 
 -- ---- a state
 
@@ -187,6 +189,27 @@ wrong_parent : status_text (Refused 0 (invalid.WrongParent body parent)) ≡ cod
     ++ codes " real bcd1b46f695bd408d89db353ff0415ad1cde33d6b05b334401fafa188d59d5ec\n")
 unfolding digits encode_with body parent
 wrong_parent = refl
+
+-- ---- a proof of an account
+
+zero_to_31 : List ℕ
+zero_to_31 =
+    0 ∷ 1 ∷ 2 ∷ 3 ∷ 4 ∷ 5 ∷ 6 ∷ 7 ∷ 8 ∷ 9 ∷ 10 ∷ 11 ∷ 12 ∷ 13 ∷ 14 ∷ 15 ∷ 16 ∷ 17 ∷ 18 ∷ 19 ∷
+    20 ∷ 21 ∷ 22 ∷ 23 ∷ 24 ∷ 25 ∷ 26 ∷ 27 ∷ 28 ∷ 29 ∷ 30 ∷ 31 ∷ []
+
+-- account 7 at this place
+seven_at : ℕ → Proof
+seven_at place = record { version = 2; place = place; account = holding 7 0 100; siblings = [] }
+
+good_proof : proof_text zero_to_31 (seven_at 1) true ≡ codes "proof good account 7 place 1 root "
+    ++ codes "000102030405060708090a0b0c0d0e0f101112131415161718191a1b1c1d1e1f\n"
+unfolding digits encode_with zero_to_31 seven_at holding
+good_proof = refl
+
+bad_proof : proof_text zero_to_31 (seven_at 65535) false ≡ codes "proof bad account 7 place 65535 root "
+    ++ codes "000102030405060708090a0b0c0d0e0f101112131415161718191a1b1c1d1e1f\n"
+unfolding digits encode_with zero_to_31 seven_at holding
+bad_proof = refl
 
 -- ---- a valid block, and the demonstration
 

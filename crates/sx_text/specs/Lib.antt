@@ -1,6 +1,7 @@
 pub mod Pieces
 pub mod Status
 pub mod Texts
+pub mod Verdict
 pub mod Transactions
 pub mod States
 pub mod Blocks

@@ -104,7 +104,8 @@ refusal_text block why = codes "refused block " ++ (decimal block ++ (codes ": "
 
 abbrev pub status_text : Status → List ℕ
 status_text status.Done = []
-status_text status.Usage = line (codes "usage: speedex seal, replay, check, show, interleave, migrate or demo N")
+status_text status.Usage =
+    codes "usage: speedex seal, replay, check, show, interleave, migrate, filter, prove ID, verify, follow or demo N\n"
 status_text status.ReadFault = line (codes "read fault")
 status_text status.WriteFault = line (codes "write fault")
 status_text (status.Malformed fault) = fault_text fault

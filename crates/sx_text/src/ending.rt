@@ -10,6 +10,14 @@ use std::alloc::Global;
 use sx_bytes::{FormFault, NoMemory};
 use sx_check::Invalid;
 
+fn usage(alloc: Global) -> Result<String, NoMemory>
+    ensures { IfOk result (λ text. string_bytes text ≡ status_text Status.Usage) }
+{
+    let line =
+        "usage: speedex seal, replay, check, show, interleave, migrate, filter, prove ID, verify, follow or demo N\n";
+    Ok(String::from_str(alloc, line)?)
+}
+
 fn malformed(alloc: Global, fault: FormFault) -> Result<String, NoMemory>
     ensures { IfOk result (λ text. string_bytes text ≡ fault_text fault) }
 {
@@ -34,12 +42,7 @@ pub fn status_line(alloc: Global, status: &Status) -> Result<Text, NoMemory>
 {
     let text = match status {
         Status::Done => String::from_str(alloc, "")?,
-        Status::Usage => {
-            String::from_str(
-                alloc,
-                "usage: speedex seal, replay, check, show, interleave, migrate or demo N\n",
-            )?
-        }
+        Status::Usage => usage(alloc)?,
         Status::ReadFault => String::from_str(alloc, "read fault\n")?,
         Status::WriteFault => String::from_str(alloc, "write fault\n")?,
         Status::NoMemory => String::from_str(alloc, "out of memory\n")?,

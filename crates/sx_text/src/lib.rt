@@ -1,10 +1,10 @@
 //! The texts that the program prints, byte for byte.
 //!
 //! [`show`] writes what a record holds, a line for each part of it: a state, candidates, a block,
-//! outcomes or a script. [`check_line`] is the line of a valid block, [`demo_lines`] the summary of the
-//! demonstration, and [`status_line`] says how a run ended: a [`Status`], which also has the code that
-//! the program ends with. Each answers a [`Text`], which is exactly what `specs/` says, or that memory
-//! ran out.
+//! outcomes or a script. [`check_line`] is the line of a valid block, [`proof_line`] the line of a proof of an
+//! account, [`demo_lines`] the summary of the demonstration, and [`status_line`] says how a run ended: a
+//! [`Status`], which also has the code that the program ends with. Each answers a [`Text`], which is
+//! exactly what `specs/` says, or that memory ran out.
 //!
 //!     state version 1 height 0 assets 1
 //!     asset 0 price 16777216 rounding 0
@@ -34,6 +34,7 @@ mod status;
 mod text;
 mod transactions;
 mod validity;
+mod verdict;
 
 pub use demonstration::demo_lines;
 pub use ending::status_line;
@@ -41,3 +42,4 @@ pub use shown::{Shown, show};
 pub use status::Status;
 pub use text::Text;
 pub use validity::check_line;
+pub use verdict::proof_line;
