@@ -5,12 +5,13 @@ use Rattle.sx_block.specs.declared.header.Block.{Block}
 use Rattle.sx_block.specs.EffectLaws.{BlockConserves, BlockKeepsLedger}
 use Rattle.sx_block.specs.Rule as rule
 use Rattle.sx_block.specs.Validity.{IsValid, ledger_after}
+use Rattle.sx_follow.specs.Chain.{AreValid, ledger_after_all}
 use Rattle.sx_ledger.specs.declared.parts.Parts.{Parts}
 use Rattle.sx_ledger.specs.Ledger.{assets_of}
 use Rattle.sx_meaning.specs.Findings.{MayComeAll}
-use Rattle.sx_meaning.specs.Items.{Item, block, candidates, outcomes, script, state}
+use Rattle.sx_meaning.specs.Items.{Item, block, candidates, outcomes, proof, script, state}
 use Rattle.sx_meaning.specs.Laws.{ChainConserves, ChainKeepsLedger, ReplaysChains}
-use Rattle.sx_meaning.specs.Replays.{AreValid, blocks_of, ledger_after_all, most_blocks}
+use Rattle.sx_meaning.specs.Replays.{blocks_of, most_blocks}
 use Rattle.sx_meaning.proofs.Blocks.{blocks_along, ledger_along}
 use Rattle.sx_record.specs.Tags.{block_tag}
 use Rattle.sx_words.specs.declared.command.Command.TheVariants.{Replay}
@@ -42,6 +43,9 @@ module _ (workers : ℕ) (parts : Parts) where
   valid_along before (script turns ∷ items) each =
       subst (λ (l : Parts). AreValid l (blocks_of items)) (ledger_along parts before (script turns))
       (valid_along (before ++ script turns ∷ []) items each.1)
+  valid_along before (proof claim ∷ items) each =
+      subst (λ (l : Parts). AreValid l (blocks_of items)) (ledger_along parts before (proof claim))
+      (valid_along (before ++ proof claim ∷ []) items each.1)
 
   few_along : (before items : List Item) → length (blocks_of before) ≤ most_blocks
       → MayComeAll (Replay workers) (state parts ∷ before) items
@@ -63,6 +67,9 @@ module _ (workers : ℕ) (parts : Parts) where
   few_along before (script turns ∷ items) few each =
       let count = blocks_along before (script turns) in
       omega (arith, count, few_along (before ++ script turns ∷ []) items (omega (arith, count)) each.1)
+  few_along before (proof claim ∷ items) few each =
+      let count = blocks_along before (proof claim) in
+      omega (arith, count, few_along (before ++ proof claim ∷ []) items (omega (arith, count)) each.1)
 
 pub replays_chains : ReplaysChains
 replays_chains workers parts items each = record {

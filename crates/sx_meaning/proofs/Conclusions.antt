@@ -4,18 +4,20 @@ use Rattle.sx_block.specs.declared.header.Block.{Block}
 use Rattle.sx_check.specs.declared.invalid.Invalid.{Invalid}
 use Rattle.sx_check.specs.Laws.{OneReason, ValidIsNotRefused}
 use Rattle.sx_check.specs.Refusals.{Refuses}
+use Rattle.sx_follow.specs.Chain.{ledger_after_all}
 use Rattle.sx_layout.specs.declared.script.Script.{Script}
 use Rattle.sx_layout.specs.declared.space.NoRoom.{NoRoom}
 use Rattle.sx_layout.specs.Room.{room_for}
 use Rattle.sx_ledger.specs.declared.parts.Parts.{Parts}
 use Rattle.sx_meaning.specs.Findings.{Checks, Concludes, Demonstrates, Finding, FindsInBlock, FindsRoom, Interleaves}
-use Rattle.sx_meaning.specs.Findings.{Migrates, RefusesNext, Replays, Seals, Shows, StopsAt, as_invalid, malformed}
-use Rattle.sx_meaning.specs.Findings.{no_fault, refused}
+use Rattle.sx_meaning.specs.Findings.{RefusesNext, Shows, StopsAt, TakesBlocks, TakesCandidates, TakesState, Verifies}
+use Rattle.sx_meaning.specs.Findings.{as_invalid, malformed, no_fault, refused}
 use Rattle.sx_meaning.specs.Items.{Item, block, candidates, script, state}
-use Rattle.sx_meaning.specs.Replays.{blocks_of, ledger_after_all}
+use Rattle.sx_meaning.specs.Replays.{blocks_of}
 use Rattle.sx_tx.specs.declared.tx.Tx.{Tx}
 use Rattle.sx_words.specs.declared.command.Command.{Command}
-use Rattle.sx_words.specs.declared.command.Command.TheVariants.{Check, Demo, Interleave, Migrate, Replay, Seal, Show}
+use Rattle.sx_words.specs.declared.command.Command.TheVariants.{Check, Demo, Filter, Follow, Interleave, Migrate, Prove}
+use Rattle.sx_words.specs.declared.command.Command.TheVariants.{Replay, Seal, Show, Verify}
 
 -- ---- the items of an input
 
@@ -58,10 +60,10 @@ module _ (one_reason : OneReason) (not_refused : ValidIsNotRefused) where
       (subst (λ (p : Parts × Block). FindsInBlock p.0 p.1 f)
       (one_block items x.parts y.parts x.said y.said x.are y.are) x.finds) y.finds
 
-  -- ---- replay
+  -- ---- a state and blocks
 
-  one_replay : (items : List Item) (f g : Finding) → Replays items f → Replays items g → f ≡ g
-  one_replay items f g x y = x.finds ∙ sym y.finds
+  one_of_blocks : (items : List Item) (f g : Finding) → TakesBlocks items f → TakesBlocks items g → f ≡ g
+  one_of_blocks items f g x y = x.finds ∙ sym y.finds
 
   -- ---- candidates
 
@@ -87,8 +89,8 @@ module _ (one_reason : OneReason) (not_refused : ValidIsNotRefused) where
       (x.1.2 ∙ ap as_invalid (one_no_room parts txs x.1.0 y.1.0 x.1.1 y.1.1) ∙ sym y.1.2)
       ∙ ap (λ (n : ℕ). refused n reason) (x.0 ∙ sym y.0)
 
-  one_seal : (items : List Item) (f g : Finding) → Seals items f → Seals items g → f ≡ g
-  one_seal items f g x y =
+  one_of_candidates : (items : List Item) (f g : Finding) → TakesCandidates items f → TakesCandidates items g → f ≡ g
+  one_of_candidates items f g x y =
       one_for_room y.parts y.txs f g
       (subst (λ (p : Parts × List Tx). FindsRoom p.0 p.1 f)
       (one_gathering items x.parts y.parts x.txs y.txs x.are y.are) x.finds) y.finds
@@ -99,12 +101,15 @@ module _ (one_reason : OneReason) (not_refused : ValidIsNotRefused) where
       (subst (λ (p : Parts × List Tx × Script). FindsRoom p.0 p.1 f)
       (one_run items x.parts y.parts x.txs y.txs x.turns y.turns x.are y.are) x.finds) y.finds
 
-  -- ---- migrate
+  -- ---- a state alone
 
-  one_migration : (items : List Item) (f g : Finding) → Migrates items f → Migrates items g → f ≡ g
-  one_migration items f g x y = x.finds ∙ sym y.finds
+  one_of_state : (items : List Item) (f g : Finding) → TakesState items f → TakesState items g → f ≡ g
+  one_of_state items f g x y = x.finds ∙ sym y.finds
 
-  -- ---- show and demo
+  -- ---- verify, show and demo
+
+  one_verdict : (items : List Item) (f g : Finding) → Verifies items f → Verifies items g → f ≡ g
+  one_verdict items f g x y = x.finds ∙ sym y.finds
 
   one_show : (items : List Item) (f g : Finding) → Shows items f → Shows items g → f ≡ g
   one_show items f g x y = x.finds ∙ sym y.finds
@@ -117,11 +122,15 @@ module _ (one_reason : OneReason) (not_refused : ValidIsNotRefused) where
   pub one_conclusion : (command : Command) (items : List Item) (f g : Finding) → Concludes command items f
       → Concludes command items g → f ≡ g
   one_conclusion Check = one_check
-  one_conclusion (Replay workers) = one_replay
+  one_conclusion (Replay workers) = one_of_blocks
   one_conclusion Interleave = one_interleave
-  one_conclusion (Seal workers shards mu rounds searches) = one_seal
+  one_conclusion (Seal workers shards mu rounds searches) = one_of_candidates
   one_conclusion Show = one_show
-  one_conclusion Migrate = one_migration
+  one_conclusion Migrate = one_of_state
+  one_conclusion (Filter workers) = one_of_candidates
+  one_conclusion (Prove id) = one_of_state
+  one_conclusion Verify = one_verdict
+  one_conclusion Follow = one_of_blocks
   one_conclusion (Demo number workers) = one_demo
 
 -- ---- a block at which a command stops
@@ -150,4 +159,8 @@ module _ (one_reason : OneReason) where
   one_stop (Seal workers shards mu rounds searches) items said number other why reason x y = absurd x
   one_stop Show items said number other why reason x y = absurd x
   one_stop Migrate items said number other why reason x y = absurd x
+  one_stop (Filter workers) items said number other why reason x y = absurd x
+  one_stop (Prove id) items said number other why reason x y = absurd x
+  one_stop Verify items said number other why reason x y = absurd x
+  one_stop Follow items said number other why reason x y = absurd x
   one_stop (Demo seed workers) items said number other why reason x y = absurd x

@@ -1,4 +1,4 @@
--- The encodings of a state, a block, outcomes, candidates and a script decode to them, wherever their records stand.
+-- The encodings of a state, a block, outcomes, candidates, a script and a proof decode to them, wherever their records stand.
 use Rattle.std.proofs.Common.{◌≡◌, ◌≤◌, List, length, Result, Ok, Err, refl, sym, arith}
 use Rattle.sx_block.specs.declared.header.Block.{Block}
 use Rattle.sx_block.specs.Block.{IsBlock}
@@ -8,6 +8,11 @@ use Rattle.sx_block.proofs.BlockLaws.{only_in as block_only_in}
 use Rattle.sx_block.proofs.Lengths.{block_fits}
 use Rattle.sx_bytes.specs.declared.fault.FormFault.{FormFault}
 use Rattle.sx_bytes.specs.declared.fault.ReadError.TheVariants as read_error
+use Rattle.sx_commit.specs.Claim.{Claim, IsClaim}
+use Rattle.sx_commit.specs.Decoding.{proof_at}
+use Rattle.sx_commit.specs.Encoding.{claim_bytes}
+use Rattle.sx_commit.proofs.Lengths.{proof_most}
+use Rattle.sx_commit.proofs.Payload.{only_in as proof_only_in}
 use Rattle.sx_layout.specs.declared.outcome.Outcome.{Outcome}
 use Rattle.sx_layout.specs.declared.script.Script.{Script}
 use Rattle.sx_layout.specs.OutcomeDecoding.{outcomes_at}
@@ -55,6 +60,14 @@ script_is x is (Err fault) e =
 pub script_again : (x : Script) → IsScript x → script_at (script_bytes x) ≡ Ok x
 script_again x is = script_is x is (script_at (script_bytes x)) refl
 
+proof_is : (x : Claim) → IsClaim x → (d : Result Claim FormFault) → proof_at (claim_bytes x) ≡ d → d ≡ Ok x
+proof_is x is (Ok y) e = sym (proof_only_in (claim_bytes x) (Ok y) x e is refl)
+proof_is x is (Err fault) e =
+    absurd (let none : Ok x ≡ Err fault = proof_only_in (claim_bytes x) (Err (read_error.Form fault)) x e is refl in cc)
+
+pub proof_again : (x : Claim) → IsClaim x → proof_at (claim_bytes x) ≡ Ok x
+proof_again x is = proof_is x is (proof_at (claim_bytes x)) refl
+
 -- ---- their lengths
 
 pub state_short : (x : Parts) → IsLedger x → length (state_bytes x) ≤ most_bytes
@@ -71,3 +84,6 @@ candidates_short x is = omega (arith, fits_record x is.few)
 
 pub script_short : (x : Script) → IsScript x → length (script_bytes x) ≤ most_bytes
 script_short x is = omega (arith, scripts_fit x is.few_turns)
+
+pub proof_short : (x : Claim) → IsClaim x → length (claim_bytes x) ≤ most_bytes
+proof_short x is = omega (arith, proof_most x is)

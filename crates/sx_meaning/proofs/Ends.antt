@@ -7,9 +7,10 @@ use Rattle.sx_meaning.specs.Findings.{expected, in_turn, one_record}
 use Rattle.sx_meaning.specs.Items.{Item, item_record, tag_of}
 use Rattle.sx_meaning.specs.Replays.{expected_in_replay}
 use Rattle.sx_meaning.proofs.ItemLaws.{not_nothing}
-use Rattle.sx_record.specs.Tags.{block_tag, candidates_tag, script_tag, state_tag}
+use Rattle.sx_record.specs.Tags.{block_tag, candidates_tag, proof_tag, script_tag, state_tag}
 use Rattle.sx_words.specs.declared.command.Command.{Command}
-use Rattle.sx_words.specs.declared.command.Command.TheVariants.{Check, Demo, Interleave, Migrate, Replay, Seal, Show}
+use Rattle.sx_words.specs.declared.command.Command.TheVariants.{Check, Demo, Filter, Follow, Interleave, Migrate, Prove}
+use Rattle.sx_words.specs.declared.command.Command.TheVariants.{Replay, Seal, Show, Verify}
 
 pub done_at_end : (e : Expected) (bytes left : List ℕ) → bytes ≡ [] → left ≡ [] → IsDoneWith e bytes left
 done_at_end unread bytes left none none_left = none_left ∙ sym none
@@ -62,6 +63,11 @@ reads_to_end (Seal workers shards mu rounds searches) items bytes left takes don
     in_turn_ends (state_tag ∷ candidates_tag ∷ []) items bytes left done
 reads_to_end Show items bytes left takes done = show_ends items bytes left done
 reads_to_end Migrate items bytes left takes done = in_turn_ends (state_tag ∷ []) items bytes left done
+reads_to_end (Filter workers) items bytes left takes done =
+    in_turn_ends (state_tag ∷ candidates_tag ∷ []) items bytes left done
+reads_to_end (Prove id) items bytes left takes done = in_turn_ends (state_tag ∷ []) items bytes left done
+reads_to_end Verify items bytes left takes done = in_turn_ends (proof_tag ∷ []) items bytes left done
+reads_to_end Follow items bytes left takes done = replay_ends items bytes left done
 reads_to_end (Demo number workers) items bytes left takes done = absurd cc
 
 -- ---- an output comes at the end of the input
@@ -84,4 +90,8 @@ read_whole (Seal workers shards mu rounds searches) a b text same finds =
     read_to_end (Seal workers shards mu rounds searches) a b text refl finds
 read_whole Show a b text same finds = read_to_end Show a b text refl finds
 read_whole Migrate a b text same finds = read_to_end Migrate a b text refl finds
+read_whole (Filter workers) a b text same finds = read_to_end (Filter workers) a b text refl finds
+read_whole (Prove id) a b text same finds = read_to_end (Prove id) a b text refl finds
+read_whole Verify a b text same finds = read_to_end Verify a b text refl finds
+read_whole Follow a b text same finds = read_to_end Follow a b text refl finds
 read_whole (Demo number workers) a b text same finds = same refl

@@ -8,6 +8,7 @@ use Rattle.sx_block.specs.declared.header.Block.{Block}
 use Rattle.sx_bytes.specs.declared.fault.Form.TheVariants as form
 use Rattle.sx_bytes.specs.declared.fault.FormFault.{FormFault}
 use Rattle.sx_bytes.proofs.Field.{length-big_bytes}
+use Rattle.sx_commit.specs.Claim.{Claim}
 use Rattle.sx_layout.specs.declared.outcome.Outcome.{Outcome}
 use Rattle.sx_layout.specs.declared.script.Script.{Script}
 use Rattle.sx_ledger.specs.declared.parts.Parts.{Parts}
@@ -15,10 +16,9 @@ use Rattle.sx_ledger.proofs.Payload.{state_again}
 use Rattle.sx_meaning.specs.Expected.{Expected, IsExpected, as_some, end_only, item_at, item_in, item_of, record_of}
 use Rattle.sx_meaning.specs.Expected.{unread, shifted}
 use Rattle.sx_meaning.specs.Items.{IsItem, Item, as_item, block, candidates, item_record, outcomes, payload_at}
-use Rattle.sx_meaning.specs.Items.{payload_of}
-use Rattle.sx_meaning.specs.Items.{script, state, tag_of}
+use Rattle.sx_meaning.specs.Items.{payload_of, proof, script, state, tag_of}
 use Rattle.sx_meaning.proofs.Encodings.{block_again, block_short, candidates_short, outcomes_again, outcomes_short}
-use Rattle.sx_meaning.proofs.Encodings.{script_again, script_short, state_short}
+use Rattle.sx_meaning.proofs.Encodings.{proof_again, proof_short, script_again, script_short, state_short}
 use Rattle.sx_record.specs.declared.frame.Record.{Record}
 use Rattle.sx_record.specs.Decoding.{go_on}
 use Rattle.sx_record.specs.Frame.{frame_bytes, most_bytes, record_bytes}
@@ -35,6 +35,7 @@ small_tag (candidates txs) = omega arith
 small_tag (block said) = omega arith
 small_tag (outcomes told) = omega arith
 small_tag (script turns) = omega arith
+small_tag (proof claim) = omega arith
 
 pub short : (item : Item) → IsItem item → length (payload_of item) ≤ most_bytes
 short (state parts) is = state_short parts is
@@ -42,6 +43,7 @@ short (candidates txs) is = candidates_short txs is
 short (block said) is = block_short said is
 short (outcomes told) is = outcomes_short told is
 short (script turns) is = script_short turns is
+short (proof claim) is = proof_short claim is
 
 pub length-record : (tag : ℕ) (payload : List ℕ) → length (record_bytes tag payload) ≡ frame_bytes + length payload
 length-record tag payload =
@@ -62,6 +64,7 @@ payload_again (block said) is = ap (λ (d : Result Block FormFault). as_item blo
 payload_again (outcomes told) is =
     ap (λ (d : Result (List Outcome) FormFault). as_item outcomes d) (outcomes_again told is)
 payload_again (script turns) is = ap (λ (d : Result Script FormFault). as_item script d) (script_again turns is)
+payload_again (proof claim) is = ap (λ (d : Result Claim FormFault). as_item proof d) (proof_again claim is)
 
 -- the record that an item has at an offset
 abbrev pub framed : ℕ → Item → Record

@@ -11,7 +11,11 @@ pub mod Seals
 pub mod Blocks
 pub mod Chains
 pub mod Settlements
+pub mod Following
+pub mod Proved
 pub mod SomeItem
+pub mod KnownTags
+pub mod SomeConclusion
 pub mod SomeFinding
 pub mod Cases
 pub mod AnswerCases

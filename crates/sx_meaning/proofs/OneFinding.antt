@@ -8,13 +8,14 @@ use Rattle.sx_block.specs.declared.header.Block.{Block}
 use Rattle.sx_bytes.specs.declared.fault.FormFault.{FormFault}
 use Rattle.sx_check.specs.declared.invalid.Invalid.{Invalid}
 use Rattle.sx_check.specs.Laws.{OneReason, ValidIsNotRefused}
+use Rattle.sx_follow.specs.Chain.{ledger_after_all}
 use Rattle.sx_meaning.specs.Expected.{Expected, IsDoneWith, IsExpected, end_only, item_at, may_end, record_of, unread}
 use Rattle.sx_meaning.specs.Findings.{Finding, Finds, FindsAfter, FindsAtBlock, FindsAtEnd, IsNextValid}
 use Rattle.sx_meaning.specs.Findings.{MayCome}
 use Rattle.sx_meaning.specs.Findings.{MayComeAll, RefusesNext, StopsAt, expected, malformed, no_fault, refused}
 use Rattle.sx_meaning.specs.Items.{IsItem, Item, block, item_record, records, tag_of}
 use Rattle.sx_meaning.specs.Laws.{FindsOne}
-use Rattle.sx_meaning.specs.Replays.{blocks_of, ends_with_block, expected_in_replay, ledger_after_all, most_blocks}
+use Rattle.sx_meaning.specs.Replays.{blocks_of, ends_with_block, expected_in_replay, most_blocks}
 use Rattle.sx_meaning.specs.Replays.{tags_after}
 use Rattle.sx_meaning.proofs.Conclusions.{one_conclusion, one_stop}
 use Rattle.sx_meaning.proofs.Ends.{done_once, done_without}
@@ -22,7 +23,8 @@ use Rattle.sx_meaning.proofs.ItemLaws.{item_again}
 use Rattle.sx_record.specs.Decoding.{record_at}
 use Rattle.sx_record.specs.Tags.{block_tag}
 use Rattle.sx_words.specs.declared.command.Command.{Command}
-use Rattle.sx_words.specs.declared.command.Command.TheVariants.{Check, Demo, Interleave, Migrate, Replay, Seal, Show}
+use Rattle.sx_words.specs.declared.command.Command.TheVariants.{Check, Demo, Filter, Follow, Interleave, Migrate, Prove}
+use Rattle.sx_words.specs.declared.command.Command.TheVariants.{Replay, Seal, Show, Verify}
 
 -- ---- two items at the beginning of one text
 
@@ -134,6 +136,10 @@ stops_where_expected Interleave items said number why stops = absurd stops
 stops_where_expected (Seal workers shards mu rounds searches) items said number why stops = absurd stops
 stops_where_expected Show items said number why stops = absurd stops
 stops_where_expected Migrate items said number why stops = absurd stops
+stops_where_expected (Filter workers) items said number why stops = absurd stops
+stops_where_expected (Prove id) items said number why stops = absurd stops
+stops_where_expected Verify items said number why stops = absurd stops
+stops_where_expected Follow items said number why stops = absurd stops
 stops_where_expected (Demo seed workers) items said number why stops = absurd stops
 
 stuck_at_end : (command : Command) (items : List Item) (bytes left : List ℕ)
@@ -162,6 +168,10 @@ module _ (one_reason : OneReason) (not_refused : ValidIsNotRefused) where
   never_goes_on (Seal workers shards mu rounds searches) items said number why stops may = absurd stops
   never_goes_on Show items said number why stops may = absurd stops
   never_goes_on Migrate items said number why stops may = absurd stops
+  never_goes_on (Filter workers) items said number why stops may = absurd stops
+  never_goes_on (Prove id) items said number why stops may = absurd stops
+  never_goes_on Verify items said number why stops may = absurd stops
+  never_goes_on Follow items said number why stops may = absurd stops
   never_goes_on (Demo seed workers) items said number why stops may = absurd stops
 
   stuck_at_block : (command : Command) (items : List Item) (bytes left : List ℕ) (number : ℕ) (why : Invalid)

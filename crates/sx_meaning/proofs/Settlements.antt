@@ -6,9 +6,10 @@ use Rattle.sx_block.specs.EffectLaws.{BlockKeepsLedger, BlockKeepsRounding, Bloc
 use Rattle.sx_block.specs.EffectLaws.{BlockTradesWithinLimits, OneInPart}
 use Rattle.sx_block.specs.Rule as rule
 use Rattle.sx_block.specs.Validity.{ledger_after}
+use Rattle.sx_follow.specs.Chain.{AreValid}
 use Rattle.sx_ledger.specs.declared.parts.Parts.{Parts}
 use Rattle.sx_ledger.specs.Ledger.{IsLedger}
-use Rattle.sx_meaning.specs.Replays.{AreValid, blocks_of}
+use Rattle.sx_meaning.specs.Replays.{blocks_of}
 use Rattle.sx_meaning.specs.Settling.{EachBlock, ReplaysSettle, Settles, ValidSettles}
 use Rattle.sx_meaning.proofs.Chains.{replays_chains}
 

@@ -12,6 +12,7 @@ use Rattle.sx_dual.specs.declared.cut.Cut.{Cut}
 use Rattle.sx_dual.specs.Circulation.{IsBalanced, IsWithin}
 use Rattle.sx_dual.specs.Sums.{EachPair, sum_below}
 use Rattle.sx_dual.specs.Tables.{FlowTable}
+use Rattle.sx_follow.specs.Chain.{AreValid, ledger_after_all}
 use Rattle.sx_ledger.specs.declared.offer.Offer.{Offer}
 use Rattle.sx_ledger.specs.declared.parts.Parts.{Parts}
 use Rattle.sx_ledger.specs.Bounds.{price_of}
@@ -19,7 +20,7 @@ use Rattle.sx_ledger.specs.Ledger.{IsLedger, assets_of, total_of}
 use Rattle.sx_meaning.specs.Items as item
 use Rattle.sx_meaning.specs.Items.{Item}
 use Rattle.sx_meaning.specs.Laws.{AreChain, ChainConserves}
-use Rattle.sx_meaning.specs.Replays.{AreValid, blocks_of, ledger_after_all}
+use Rattle.sx_meaning.specs.Replays.{blocks_of}
 use Rattle.sx_meaning.specs.Settling.{EachBlock, Settles}
 use Rattle.sx_tx.specs.declared.kind.Kind.TheVariants as kind
 use Rattle.sx_tx.specs.Window.{bit_length}

@@ -11,6 +11,9 @@ use Rattle.sx_block.proofs.BlockLaws.{found_in as block_found}
 use Rattle.sx_bytes.specs.declared.fault.FormFault.{FormFault}
 use Rattle.sx_bytes.specs.Field.{AreBytes}
 use Rattle.sx_bytes.proofs.Grammar.{AreBytes-drop, AreBytes-take}
+use Rattle.sx_commit.specs.Claim.{Claim}
+use Rattle.sx_commit.specs.Decoding.{proof_at}
+use Rattle.sx_commit.proofs.Payload.{found_in as proof_found}
 use Rattle.sx_layout.specs.declared.outcome.Outcome.{Outcome}
 use Rattle.sx_layout.specs.declared.script.Script.{Script}
 use Rattle.sx_layout.specs.OutcomeDecoding.{outcomes_at}
@@ -23,12 +26,11 @@ use Rattle.sx_ledger.proofs.Payload.{state_takes}
 use Rattle.sx_meaning.specs.Expected.{Expected, IsDoneWith, IsExpected, as_some, end_only, item_at, item_in, item_of}
 use Rattle.sx_meaning.specs.Expected.{may_end, record_of, shifted, unread}
 use Rattle.sx_meaning.specs.Items.{IsItem, Item, as_item, block, candidates, item_record, outcomes, payload_at}
-use Rattle.sx_meaning.specs.Items.{payload_of}
-use Rattle.sx_meaning.specs.Items.{script, state, tag_of}
+use Rattle.sx_meaning.specs.Items.{payload_of, proof, script, state, tag_of}
 use Rattle.sx_record.specs.declared.frame.Record.{Record}
 use Rattle.sx_record.specs.Decoding.{StreamDecoding, go_on, record_at}
 use Rattle.sx_record.specs.Frame.{frame, record_bytes}
-use Rattle.sx_record.specs.Tags.{block_tag, candidates_tag, outcomes_tag, script_tag, state_tag}
+use Rattle.sx_record.specs.Tags.{block_tag, candidates_tag, outcomes_tag, proof_tag, script_tag, state_tag}
 use Rattle.sx_record.proofs.Encoding.{decodes_only_records, ends_only_at_end}
 use Rattle.sx_tx.specs.declared.tx.Tx.{Tx}
 use Rattle.sx_tx.specs.TransactionDecoding.{candidates_at}
@@ -40,6 +42,7 @@ use Rattle.sx_tx.proofs.ListLaws.{candidates_take}
 abbrev pub IsKnown : ℕ → Type 0
 IsKnown tag =
     (tag ≡ state_tag) ⊎ (tag ≡ candidates_tag) ⊎ (tag ≡ block_tag) ⊎ (tag ≡ outcomes_tag) ⊎ (tag ≡ script_tag)
+    ⊎ (tag ≡ proof_tag)
 
 -- the item that a payload encodes
 record Encodes (tag : ℕ) (payload : List ℕ) (item : Item) : Type 0 where
@@ -83,12 +86,19 @@ module _ (payload : List ℕ) (item : Item) (are : AreBytes payload) where
       let is = script_found payload (Ok m.0) are m.1 in
       subst (Encodes script_tag payload) m.2 (record { form = is.0; tagged = refl; encoded = is.1 })
 
+  a_proof : as_item proof (proof_at payload) ≡ Ok item → Encodes proof_tag payload item
+  a_proof e =
+      let m = made (λ (c : Claim). proof c) (proof_at payload) item e in
+      let is = proof_found payload (Ok m.0) are m.1 in
+      subst (Encodes proof_tag payload) m.2 (record { form = is.0; tagged = refl; encoded = is.1 })
+
   encodes : (tag : ℕ) → IsKnown tag → payload_at tag payload ≡ Ok item → Encodes tag payload item
   encodes tag (inl is) e = rw is (a_state (rw is at e))
   encodes tag (inr (inl is)) e = rw is (are_candidates (rw is at e))
   encodes tag (inr (inr (inl is))) e = rw is (a_block (rw is at e))
   encodes tag (inr (inr (inr (inl is)))) e = rw is (are_outcomes (rw is at e))
-  encodes tag (inr (inr (inr (inr is)))) e = rw is (a_script (rw is at e))
+  encodes tag (inr (inr (inr (inr (inl is))))) e = rw is (a_script (rw is at e))
+  encodes tag (inr (inr (inr (inr (inr is))))) e = rw is (a_proof (rw is at e))
 
 -- ---- records
 

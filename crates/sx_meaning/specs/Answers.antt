@@ -8,7 +8,8 @@ use Rattle.sx_text.specs.declared.status.Status.{Status}
 use Rattle.sx_text.specs.declared.status.Status.TheVariants.{Done, Usage, ReadFault, WriteFault, Malformed, Refused}
 use Rattle.sx_text.specs.declared.status.Status.TheVariants.{NoMemory}
 use Rattle.sx_words.specs.declared.command.Command.{Command}
-use Rattle.sx_words.specs.declared.command.Command.TheVariants.{Check, Demo, Interleave, Migrate, Replay, Seal, Show}
+use Rattle.sx_words.specs.declared.command.Command.TheVariants.{Check, Demo, Filter, Follow, Interleave, Migrate, Prove}
+use Rattle.sx_words.specs.declared.command.Command.TheVariants.{Replay, Seal, Show, Verify}
 use Rattle.sx_words.specs.Commands.{command_of}
 use Rattle.sx_words.specs.Numbers.{texts}
 
@@ -80,6 +81,10 @@ takes_no_input (Replay workers) = false
 takes_no_input Interleave = false
 takes_no_input Migrate = false
 takes_no_input Show = false
+takes_no_input (Filter workers) = false
+takes_no_input (Prove id) = false
+takes_no_input Verify = false
+takes_no_input Follow = false
 
 -- the words are no command, or one that reads nothing
 abbrev pub reads_nothing : Option Command → Bool

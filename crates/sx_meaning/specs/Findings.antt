@@ -7,6 +7,8 @@ use Rattle.sx_bytes.specs.declared.fault.FormFault.{FormFault}
 use Rattle.sx_check.specs.declared.invalid.Invalid.{Invalid}
 use Rattle.sx_check.specs.declared.invalid.Invalid.TheVariants as invalid
 use Rattle.sx_check.specs.Refusals.{Refuses}
+use Rattle.sx_commit.specs.Claim.{Claim}
+use Rattle.sx_follow.specs.Chain.{ledger_after_all}
 use Rattle.sx_layout.specs.declared.script.Script.{Script}
 use Rattle.sx_layout.specs.declared.space.NoRoom.{NoRoom}
 use Rattle.sx_layout.specs.declared.space.NoRoom.TheVariants as no_room
@@ -14,12 +16,13 @@ use Rattle.sx_layout.specs.Room.{room_for}
 use Rattle.sx_ledger.specs.declared.parts.Parts.{Parts}
 use Rattle.sx_meaning.specs.Expected.{Expected, IsDoneWith, IsExpected, end_only, item_at, may_end, needed, record_of}
 use Rattle.sx_meaning.specs.Expected.{unread}
-use Rattle.sx_meaning.specs.Items.{IsItem, Item, block, candidates, item_record, records, script, state, tag_of}
-use Rattle.sx_meaning.specs.Replays.{blocks_of, expected_in_replay, ledger_after_all, most_blocks}
-use Rattle.sx_record.specs.Tags.{block_tag, candidates_tag, outcomes_tag, script_tag, state_tag}
+use Rattle.sx_meaning.specs.Items.{IsItem, Item, block, candidates, item_record, proof, records, script, state, tag_of}
+use Rattle.sx_meaning.specs.Replays.{blocks_of, expected_in_replay, most_blocks}
+use Rattle.sx_record.specs.Tags.{block_tag, candidates_tag, outcomes_tag, proof_tag, script_tag, state_tag}
 use Rattle.sx_tx.specs.declared.tx.Tx.{Tx}
 use Rattle.sx_words.specs.declared.command.Command.{Command}
-use Rattle.sx_words.specs.declared.command.Command.TheVariants.{Check, Demo, Interleave, Migrate, Replay, Seal, Show}
+use Rattle.sx_words.specs.declared.command.Command.TheVariants.{Check, Demo, Filter, Follow, Interleave, Migrate, Prove}
+use Rattle.sx_words.specs.declared.command.Command.TheVariants.{Replay, Seal, Show, Verify}
 
 -- what is found of an input: no fault, so that an output is written, the first form fault, or why it is refused
 pub data Finding : Type 0 where
@@ -42,10 +45,10 @@ pub record Checks (items : List Item) (finding : Finding) : Type 0 where
   pub are : items ≡ state parts ∷ block said ∷ []
   pub finds : FindsInBlock parts said finding
 
--- ---- replay
+-- ---- a state and blocks
 
--- a state and blocks, each of which was judged as it came
-pub record Replays (items : List Item) (finding : Finding) : Type 0 where
+-- a state and blocks, which were judged as they came, or are never refused
+pub record TakesBlocks (items : List Item) (finding : Finding) : Type 0 where
   pub parts : Parts
   pub others : List Item
   pub are : items ≡ state parts ∷ others
@@ -85,7 +88,7 @@ FindsRoom parts txs (refused number why) =
     (number ≡ 0) × ((reason : NoRoom) × (room_for parts txs ≡ Err reason) × (why ≡ as_invalid reason))
 
 -- a state and candidates
-pub record Seals (items : List Item) (finding : Finding) : Type 0 where
+pub record TakesCandidates (items : List Item) (finding : Finding) : Type 0 where
   pub parts : Parts
   pub txs : List Tx
   pub are : items ≡ state parts ∷ candidates txs ∷ []
@@ -99,12 +102,20 @@ pub record Interleaves (items : List Item) (finding : Finding) : Type 0 where
   pub are : items ≡ state parts ∷ candidates txs ∷ script turns ∷ []
   pub finds : FindsRoom parts txs finding
 
--- ---- migrate
+-- ---- a state alone
 
 -- a state
-pub record Migrates (items : List Item) (finding : Finding) : Type 0 where
+pub record TakesState (items : List Item) (finding : Finding) : Type 0 where
   pub parts : Parts
   pub are : items ≡ state parts ∷ []
+  pub finds : finding ≡ no_fault
+
+-- ---- verify
+
+-- a root and a proof
+pub record Verifies (items : List Item) (finding : Finding) : Type 0 where
+  pub claim : Claim
+  pub are : items ≡ proof claim ∷ []
   pub finds : finding ≡ no_fault
 
 -- ---- show
@@ -130,13 +141,13 @@ in_turn [] items = end_only
 in_turn (tag ∷ tags) [] = needed tag
 in_turn (tag ∷ tags) (item ∷ items) = in_turn tags items
 
--- the tags of all records
-abbrev pub all_tags : List ℕ
-all_tags = state_tag ∷ candidates_tag ∷ block_tag ∷ outcomes_tag ∷ script_tag ∷ []
+-- the tags of the records that are shown as a text
+abbrev pub shown_tags : List ℕ
+shown_tags = state_tag ∷ candidates_tag ∷ block_tag ∷ outcomes_tag ∷ script_tag ∷ []
 
--- one record of any tag, and nothing after it
+-- one record that is shown as a text, and nothing after it
 abbrev pub one_record : List Item → Expected
-one_record [] = record_of all_tags false false
+one_record [] = record_of shown_tags false false
 one_record (item ∷ items) = end_only
 
 -- what may come after these items
@@ -147,16 +158,24 @@ expected (Replay workers) = expected_in_replay
 expected Interleave = in_turn (state_tag ∷ candidates_tag ∷ script_tag ∷ [])
 expected Migrate = in_turn (state_tag ∷ [])
 expected Show = one_record
+expected (Filter workers) = in_turn (state_tag ∷ candidates_tag ∷ [])
+expected (Prove id) = in_turn (state_tag ∷ [])
+expected Verify = in_turn (proof_tag ∷ [])
+expected Follow = expected_in_replay
 expected (Demo number workers) = λ items. unread
 
 -- what is found of these items where no more comes
 abbrev pub Concludes : Command → List Item → Finding → Type 0
-Concludes (Seal workers shards mu rounds searches) = Seals
+Concludes (Seal workers shards mu rounds searches) = TakesCandidates
 Concludes Check = Checks
-Concludes (Replay workers) = Replays
+Concludes (Replay workers) = TakesBlocks
 Concludes Interleave = Interleaves
-Concludes Migrate = Migrates
+Concludes Migrate = TakesState
 Concludes Show = Shows
+Concludes (Filter workers) = TakesCandidates
+Concludes (Prove id) = TakesState
+Concludes Verify = Verifies
+Concludes Follow = TakesBlocks
 Concludes (Demo number workers) = Demonstrates
 
 -- a command that judges each item before it reads on goes on after this one

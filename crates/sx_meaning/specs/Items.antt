@@ -6,6 +6,9 @@ use Rattle.sx_block.specs.Block.{IsBlock}
 use Rattle.sx_block.specs.Decoding.{block_at}
 use Rattle.sx_block.specs.Encoding.{block_bytes}
 use Rattle.sx_bytes.specs.declared.fault.FormFault.{FormFault}
+use Rattle.sx_commit.specs.Claim.{Claim, IsClaim}
+use Rattle.sx_commit.specs.Decoding.{proof_at}
+use Rattle.sx_commit.specs.Encoding.{claim_bytes}
 use Rattle.sx_layout.specs.declared.outcome.Outcome.{Outcome}
 use Rattle.sx_layout.specs.declared.script.Script.{Script}
 use Rattle.sx_layout.specs.OutcomeDecoding.{outcomes_at}
@@ -17,7 +20,7 @@ use Rattle.sx_ledger.specs.Decoding.{state_at}
 use Rattle.sx_ledger.specs.Encoding.{state_bytes}
 use Rattle.sx_ledger.specs.Ledger.{IsLedger}
 use Rattle.sx_record.specs.Frame.{record_bytes}
-use Rattle.sx_record.specs.Tags.{block_tag, candidates_tag, outcomes_tag, script_tag, state_tag}
+use Rattle.sx_record.specs.Tags.{block_tag, candidates_tag, outcomes_tag, proof_tag, script_tag, state_tag}
 use Rattle.sx_tx.specs.declared.tx.Tx.{Tx}
 use Rattle.sx_tx.specs.TransactionDecoding.{candidates_at}
 use Rattle.sx_tx.specs.Transactions.{IsTxList, list_bytes}
@@ -29,6 +32,7 @@ pub data Item : Type 0 where
   block : (said : Block) → Item
   outcomes : (told : List Outcome) → Item
   script : (turns : Script) → Item
+  proof : (claim : Claim) → Item
 
 -- it has its form
 abbrev pub IsItem : Item → Type 0
@@ -37,6 +41,7 @@ IsItem (candidates txs) = IsTxList txs
 IsItem (block said) = IsBlock said
 IsItem (outcomes told) = AreOutcomes told
 IsItem (script turns) = IsScript turns
+IsItem (proof claim) = IsClaim claim
 
 -- ---- encoding
 
@@ -46,6 +51,7 @@ tag_of (candidates txs) = candidates_tag
 tag_of (block said) = block_tag
 tag_of (outcomes told) = outcomes_tag
 tag_of (script turns) = script_tag
+tag_of (proof claim) = proof_tag
 
 abbrev pub payload_of : Item → List ℕ
 payload_of (state parts) = state_bytes parts
@@ -53,6 +59,7 @@ payload_of (candidates txs) = list_bytes txs
 payload_of (block said) = block_bytes said
 payload_of (outcomes told) = outcomes_bytes told
 payload_of (script turns) = script_bytes turns
+payload_of (proof claim) = claim_bytes claim
 
 abbrev pub item_record : Item → List ℕ
 item_record item = record_bytes (tag_of item) (payload_of item)
@@ -78,4 +85,5 @@ payload_at tag payload =
     if tag == candidates_tag then as_item candidates (candidates_at payload) else
     if tag == block_tag then as_item block (block_at payload) else
     if tag == outcomes_tag then as_item outcomes (outcomes_at payload) else
-    as_item script (script_at payload)
+    if tag == script_tag then as_item script (script_at payload) else
+    as_item proof (proof_at payload)

@@ -2,14 +2,15 @@
 use Rattle.std.specs.Prelude.{◌≡◌, ℕ, ◌<◌, ◌≤◌, List, [], ◌∷◌, length, IsTrue}
 use Rattle.sx_block.specs.declared.header.Block.{Block}
 use Rattle.sx_bytes.specs.Field.{AreBytes}
+use Rattle.sx_follow.specs.Chain.{AreValid, ledger_after_all}
 use Rattle.sx_ledger.specs.declared.parts.Parts.{Parts}
 use Rattle.sx_ledger.specs.Ledger.{IsLedger, assets_of, total_of}
 use Rattle.sx_meaning.specs.Findings.{Finding, Finds, MayComeAll, no_fault}
 use Rattle.sx_meaning.specs.Items.{Item, state}
 use Rattle.sx_meaning.specs.Outputs.{MayWrite, writes_one}
-use Rattle.sx_meaning.specs.Replays.{AreValid, blocks_of, ledger_after_all, most_blocks}
+use Rattle.sx_meaning.specs.Replays.{blocks_of, most_blocks}
 use Rattle.sx_words.specs.declared.command.Command.{Command}
-use Rattle.sx_words.specs.declared.command.Command.TheVariants.{Replay}
+use Rattle.sx_words.specs.declared.command.Command.TheVariants.{Follow, Replay}
 
 -- one thing is found of an input at most, and one list of bytes is left of it, so that the answer to it is a function
 -- of the input
@@ -46,6 +47,12 @@ abbrev pub ReplaysChains : Type 0
 ReplaysChains =
     (workers : ℕ) (parts : Parts) (items : List Item) → MayComeAll (Replay workers) [] (state parts ∷ items)
     → AreChain parts items
+
+-- where a replay writes a state, a follower that takes the same blocks writes it too
+abbrev pub FollowsReplays : Type 0
+FollowsReplays =
+    (workers : ℕ) (bytes text left : List ℕ) → MayWrite (Replay workers) bytes text left
+    → MayWrite Follow bytes text left
 
 -- what a chain of valid blocks leaves of a ledger is a ledger
 abbrev pub ChainKeepsLedger : Type 0

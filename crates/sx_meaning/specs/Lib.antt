@@ -4,9 +4,11 @@ pub mod Replays
 pub mod NextItem
 pub mod Findings
 pub mod Sealing
+pub mod Proving
 pub mod Outputs
 pub mod Answers
 pub mod Status
 pub mod Laws
 pub mod Settling
 pub mod SealLaws
+pub mod ProofLaws

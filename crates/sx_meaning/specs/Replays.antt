@@ -3,8 +3,6 @@ use Rattle.std.specs.Prelude.{ℕ, Bool, true, false, List, [], ◌∷◌, fold,
 use Rattle.std.specs.Prelude.{Some}
 use Rattle.std.specs.List.{filter_map}
 use Rattle.sx_block.specs.declared.header.Block.{Block}
-use Rattle.sx_block.specs.Validity.{IsValid, ledger_after}
-use Rattle.sx_ledger.specs.declared.parts.Parts.{Parts}
 use Rattle.sx_meaning.specs.Expected.{Expected, needed, record_of}
 use Rattle.sx_meaning.specs.Items.{Item, block}
 use Rattle.sx_record.specs.Tags.{block_tag, outcomes_tag, state_tag}
@@ -27,15 +25,6 @@ blocks_of items = filter_map block_of items
 -- the last item is a block
 abbrev pub ends_with_block : List Item → Bool
 ends_with_block items = fold (λ _ item. is_block item) false items
-
--- the ledger after the blocks, each on the ledger that the one before it left
-abbrev pub ledger_after_all : Parts → List Block → Parts
-ledger_after_all parts blocks = fold ledger_after parts blocks
-
--- each block is valid for the ledger that the one before it left
-abbrev pub AreValid : Parts → List Block → Type 0
-AreValid parts [] = Unit {0}
-AreValid parts (next ∷ others) = IsValid parts next × AreValid (ledger_after parts next) others
 
 -- a block may come anywhere, and outcomes directly after one
 abbrev pub tags_after : Bool → List ℕ

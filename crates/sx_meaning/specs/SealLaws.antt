@@ -1,4 +1,4 @@
--- What holds of each seal, and of each demonstration.
+-- What holds of each seal, each filter and each demonstration.
 use Rattle.std.specs.Prelude.{◌≡◌, ℕ, List, [], ◌∷◌, ◌++◌, length}
 use Rattle.sx_block.specs.declared.header.Block.{Block}
 use Rattle.sx_block.specs.Validity.{ledger_after}
@@ -14,7 +14,7 @@ use Rattle.sx_meaning.specs.Sealing.{IsDemonstrated}
 use Rattle.sx_meaning.specs.Settling.{Settles}
 use Rattle.sx_text.specs.Texts.{checked_text}
 use Rattle.sx_tx.specs.declared.tx.Tx.{Tx}
-use Rattle.sx_words.specs.declared.command.Command.TheVariants.{Check, Demo, Replay, Seal}
+use Rattle.sx_words.specs.declared.command.Command.TheVariants.{Check, Demo, Filter, Replay, Seal}
 
 -- a state and candidates were read, and what was written is a block, with outcomes after it, that leaves exactly what
 -- its transactions and its header mean
@@ -52,7 +52,13 @@ SealsAlike =
     → MayWrite (Seal workers shards mu rounds searches) bytes text left
     → MayWrite (Seal others more mu rounds searches) bytes text left
 
--- and so it is with a demonstration
+-- so it is with a filter
+abbrev pub FiltersAlike : Type 0
+FiltersAlike =
+    (workers others : ℕ) (bytes text left : List ℕ) → MayWrite (Filter workers) bytes text left
+    → MayWrite (Filter others) bytes text left
+
+-- and with a demonstration
 abbrev pub DemosAlike : Type 0
 DemosAlike =
     (number workers others : ℕ) (bytes text left : List ℕ) → MayWrite (Demo number workers) bytes text left

@@ -1,26 +1,35 @@
 //! Laws of inputs, and of chains of blocks.
 
-ghost use Rattle.sx_meaning.specs.Laws.{ChainConserves, ChainKeepsLedger, FindsOne, FindsSome, ReplaysChains, WritesOne, WritesSome};
-ghost use Rattle.sx_meaning.specs.SealLaws.{DemosAlike, DemosSettle, SealsAlike, SealsLeaveTheirMeaning};
+ghost use Rattle.sx_meaning.specs.Laws.{ChainConserves, ChainKeepsLedger, FindsOne, FindsSome, FollowsReplays, ReplaysChains};
+ghost use Rattle.sx_meaning.specs.Laws.{WritesOne, WritesSome};
+ghost use Rattle.sx_meaning.specs.ProofLaws.{ProvedIsGood};
+ghost use Rattle.sx_meaning.specs.SealLaws.{DemosAlike, DemosSettle, FiltersAlike, SealsAlike, SealsLeaveTheirMeaning};
 ghost use Rattle.sx_meaning.specs.Settling.{ReplaysSettle, ValidSettles};
 
 use sx_block::block_effect_laws;
 use sx_check::check_laws;
+use sx_commit::commitment_laws;
+use sx_follow::follow_laws;
 
 /// Of each input one thing is found, for each command: no fault, or one first fault, and one list of
 /// bytes is then left of the input. So the answer to an input is a function of it. Where no fault is found,
 /// each command but `seal` and `demo` may write one output, and there always is one. What a seal may write is
-/// the same for any number of workers and shards, and what a demonstration may write for any number of workers.
+/// the same for any number of workers and shards, and what a filter or a demonstration may write for any number of
+/// workers. What is written of one account is nothing, or a record of which a verification tells that it is good.
 pub fn input_laws()
     ensures one { FindsOne }
     ensures some { FindsSome }
     ensures one_output { WritesOne }
     ensures some_output { WritesSome }
     ensures seals_alike { SealsAlike }
+    ensures filters_alike { FiltersAlike }
     ensures demos_alike { DemosAlike }
+    ensures proved { ProvedIsGood }
 {
     check_laws();
     block_effect_laws();
+    follow_laws();
+    commitment_laws();
 }
 
 /// The blocks of a replay are a chain of valid ones. What a chain of valid blocks leaves of a ledger is
@@ -28,7 +37,7 @@ pub fn input_laws()
 /// A valid block settles, and so does each block of a replay, on the ledger that the one before it left.
 /// What a seal writes of a state is a block that a check of that state finds valid and that settles, and a
 /// replay of the state and of what was written writes the ledger after the block. The block of a demonstration
-/// settles.
+/// settles. Where a replay writes a state, so does a follower that takes the same blocks.
 pub fn chain_laws()
     ensures replays { ReplaysChains }
     ensures ledger { ChainKeepsLedger }
@@ -37,6 +46,8 @@ pub fn chain_laws()
     ensures each_settles { ReplaysSettle }
     ensures seals { SealsLeaveTheirMeaning }
     ensures demos { DemosSettle }
+    ensures follows { FollowsReplays }
 {
     block_effect_laws();
+    follow_laws();
 }

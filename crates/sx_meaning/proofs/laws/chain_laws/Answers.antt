@@ -1,4 +1,5 @@
 use Rattle.sx_meaning.proofs.Chains.{chain_conserves, chain_keeps_ledger, replays_chains}
+use Rattle.sx_meaning.proofs.Following.{follows_replays}
 use Rattle.sx_meaning.proofs.Seals.{demos_settle, seals_leave_their_meaning}
 use Rattle.sx_meaning.proofs.Settlements.{replays_settle, valid_settles}
 use Rattle.sx_meaning.proofs.laws.chain_laws.Goals as goal
@@ -37,3 +38,6 @@ returns-clause-demos c =
     demos_settle
     (valid_settles laws.ledger laws.within laws.in_full laws.dropped laws.most laws.gives laws.gets laws.one_in_part
     laws.falls laws.keeps_rounding)
+
+pub returns-clause-follows : goal.returns-clause-follows
+returns-clause-follows c = follows_replays c.follow_laws.ensures.chain
