@@ -1,8 +1,8 @@
 //! Reading an input: from the bytes of a source to what its records hold.
 //!
 //! [`take`] reads the next record, which has to be there and to have the tag of what is wanted, and answers
-//! what it holds: a ledger, candidates, a block, outcomes or a script, each of which is a [`Payload`]. [`end`]
-//! says that nothing comes after it. A command that takes records of several tags uses [`next`], which answers
+//! what it holds: a ledger, candidates, a block, outcomes, a script, or a root and a proof for it, each of which is a
+//! [`Payload`]. [`end`] says that nothing comes after it. A command that takes records of several tags uses [`next`], which answers
 //! a record or the end, and [`decoded`], which answers what the record holds. [`take_head`] reads the state at
 //! the beginning of an input with its digest, and [`take_block`] and [`decoded_block`] a block with that of its
 //! transactions. A large payload is decoded while a thread of its own makes the digest.

@@ -6,12 +6,14 @@ ghost use Rattle.sx_input.specs.Stream.{Holds, IsInPayload, IsWithin, stop_of};
 ghost use Rattle.sx_meaning.specs.Items.{Item, IsItem, payload_at, payload_of, tag_of};
 ghost use Rattle.sx_meaning.specs.Items as item;
 ghost use Rattle.sx_record.specs.Frame.{most_bytes};
-ghost use Rattle.sx_record.specs.Tags.{block_tag, candidates_tag, outcomes_tag, script_tag, state_tag};
+ghost use Rattle.sx_record.specs.Tags.{block_tag, candidates_tag, outcomes_tag, proof_tag, script_tag};
+ghost use Rattle.sx_record.specs.Tags.{state_tag};
 
 use crate::stop::Stop;
 use std::alloc::Global;
-use sx_block::{Block, block_laws, read_block};
+use sx_block::{Block, Digest, block_laws, read_block};
 use sx_bytes::{FormFault, ReadError};
+use sx_commit::{Proof, proof_laws, read_proof};
 use sx_layout::{Outcomes, Script, outcome_list_laws, read_outcomes, read_script, script_laws};
 use sx_ledger::{Ledger, read_state, state_laws};
 use sx_record::{Record, tag};
@@ -112,6 +114,21 @@ impl Payload for Script {
     fn read(alloc: Global, payload: &[u8]) -> Result<Script, ReadError> {
         script_laws();
         read_script(alloc, payload)
+    }
+}
+
+impl Payload for (Digest, Proof) {
+    ghost TAG = { proof_tag };
+
+    ghost item = { λ claim. item.proof claim };
+
+    ghost goes_with = { λ _. Unit {0} };
+
+    const TAG: u8 = tag::PROOF;
+
+    fn read(alloc: Global, payload: &[u8]) -> Result<(Digest, Proof), ReadError> {
+        proof_laws();
+        read_proof(alloc, payload)
     }
 }
 
