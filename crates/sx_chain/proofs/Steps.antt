@@ -24,37 +24,37 @@ use Rattle.sx_chain.specs.declared.replaying.Place.{Place}
 use Rattle.sx_chain.specs.Replaying.{IsNext, MayGoOn, Steps, StepsTo, is_full, most_records}
 
 -- a record more is not too far
-near_block : (blocks at : ℕ) (after : Bool) (long : ℕ) →
+pub near_block : (blocks at : ℕ) (after : Bool) (long : ℕ) →
     at ≤ most_records blocks after * (most_bytes + frame_bytes) → long ≤ most_bytes
     → at + frame_bytes + long ≤ most_records (blocks + 1) true * (most_bytes + frame_bytes)
 near_block blocks at true long near fits = omega arith
 near_block blocks at false long near fits = omega arith
 
-near_outcomes : (blocks at long : ℕ) → at ≤ most_records blocks true * (most_bytes + frame_bytes) → long ≤ most_bytes
+pub near_outcomes : (blocks at long : ℕ) → at ≤ most_records blocks true * (most_bytes + frame_bytes) → long ≤ most_bytes
     → at + frame_bytes + long ≤ most_records blocks false * (most_bytes + frame_bytes)
 near_outcomes blocks at long near fits = omega arith
 
 -- a block may come anywhere, and outcomes only directly after one
-block_listed : (after : Bool) → Contains (tags_after after) block_tag
+pub block_listed : (after : Bool) → Contains (tags_after after) block_tag
 block_listed true = (0, omega arith, refl)
 block_listed false = (0, omega arith, refl)
 
-after_block : (after : Bool) (tag : ℕ) → Contains (tags_after after) tag → tag ≡ outcomes_tag → after ≡ true
+pub after_block : (after : Bool) (tag : ℕ) → Contains (tags_after after) tag → tag ≡ outcomes_tag → after ≡ true
 after_block true tag among is = refl
 after_block false tag (zero, lt, same) is = absurd (let e : block_tag ≡ outcomes_tag = same ∙ is in cc)
 after_block false tag (suc i, lt, same) is = absurd (omega arith)
 
-outcomes_listed : (after : Bool) → after ≡ true → Contains (tags_after after) outcomes_tag
+pub outcomes_listed : (after : Bool) → after ≡ true → Contains (tags_after after) outcomes_tag
 outcomes_listed true is = (1, omega arith, refl)
 outcomes_listed false is = absurd cc
 
-not_full : (blocks : ℕ) → blocks < most_blocks → (nat_le most_blocks blocks && (block_tag == block_tag)) ≡ false
+pub not_full : (blocks : ℕ) → blocks < most_blocks → (nat_le most_blocks blocks && (block_tag == block_tag)) ≡ false
 not_full blocks few = grind (arith)
 
 all_come : (blocks : ℕ) → most_blocks ≤ blocks → (nat_le most_blocks blocks && (block_tag == block_tag)) ≡ true
 all_come blocks many = grind (arith)
 
-never_full : (full : Bool) → (full && (outcomes_tag == block_tag)) ≡ false
+pub never_full : (full : Bool) → (full && (outcomes_tag == block_tag)) ≡ false
 never_full true = refl
 never_full false = refl
 
@@ -121,15 +121,15 @@ module _ (place : Place) (found : Record) (goes : MayGoOn place) (next : IsNext 
 
 -- ---- no item
 
-block_tests : (blocks tag : ℕ) → tag ≡ block_tag → blocks < most_blocks →
+pub block_tests : (blocks tag : ℕ) → tag ≡ block_tag → blocks < most_blocks →
     (nat_le most_blocks blocks && (tag == block_tag)) ≡ false
 block_tests blocks tag tagged few = rw tagged (not_full blocks few)
 
-full_tests : (blocks tag : ℕ) → tag ≡ block_tag → most_blocks ≤ blocks →
+pub full_tests : (blocks tag : ℕ) → tag ≡ block_tag → most_blocks ≤ blocks →
     (nat_le most_blocks blocks && (tag == block_tag)) ≡ true
 full_tests blocks tag tagged many = rw tagged (all_come blocks many)
 
-outcomes_tests : (full : Bool) (tag : ℕ) → tag ≡ outcomes_tag → (full && (tag == block_tag)) ≡ false
+pub outcomes_tests : (full : Bool) (tag : ℕ) → tag ≡ outcomes_tag → (full && (tag == block_tag)) ≡ false
 outcomes_tests full tag tagged = rw tagged (never_full full)
 
 module _ (place : Place) (found : Record) where

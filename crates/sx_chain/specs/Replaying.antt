@@ -5,6 +5,7 @@ use Rattle.sx_block.specs.declared.header.Block.{Block}
 use Rattle.sx_block.specs.Block.{IsBlock}
 use Rattle.sx_check.specs.declared.invalid.Invalid.{Invalid}
 use Rattle.sx_check.specs.Refusals.{Refuses}
+use Rattle.sx_follow.specs.Chain.{ledger_after_all}
 use Rattle.sx_input.specs.declared.stop.Stop.{Stop}
 use Rattle.sx_input.specs.declared.stop.Stop.TheVariants as stop
 use Rattle.sx_input.specs.Head.{IsHead}
@@ -13,7 +14,7 @@ use Rattle.sx_meaning.specs.Expected.{Expected, IsExpected, item_in, record_of}
 use Rattle.sx_meaning.specs.Findings.{IsValidOn, MayComeAll}
 use Rattle.sx_meaning.specs.Items.{IsItem, Item, block, item_record, records, state, tag_of}
 use Rattle.sx_meaning.specs.NextItem.{blocks_then, ledger_then}
-use Rattle.sx_meaning.specs.Replays.{blocks_of, ends_with_block, is_block, ledger_after_all, most_blocks, tags_after}
+use Rattle.sx_meaning.specs.Replays.{blocks_of, ends_with_block, is_block, most_blocks, tags_after}
 use Rattle.sx_record.specs.declared.frame.Record.{Record}
 use Rattle.sx_record.specs.Frame.{MayStand, frame_bytes, most_bytes, record_bytes}
 use Rattle.sx_record.specs.Stream.{Took}

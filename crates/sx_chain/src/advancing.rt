@@ -1,6 +1,6 @@
 //! A block on a ledger: it is judged, and then applied.
 
-ghost use Rattle.std.specs.Prelude.{◌≡◌, IfErr, IfOk};
+ghost use Rattle.std.specs.Prelude.{◌≡◌, ◌≤◌, IfErr, IfOk};
 ghost use Rattle.sha2.specs.Sha256.{sha256};
 ghost use Rattle.sx_block.specs.Block.{IsBlock};
 ghost use Rattle.sx_block.specs.Validity.{IsValid, ledger_after};
@@ -10,10 +10,11 @@ ghost use Rattle.sx_input.specs.Head.{IsHead};
 ghost use Rattle.sx_tx.specs.Transactions.{list_bytes};
 
 use std::alloc::Global;
-use sx_apply::apply;
+use std::thread::Threads;
 use sx_block::{digest_of, validity_laws};
 use sx_check::{CheckFault, Checked, Judged, check_laws, close, judge};
 use sx_input::{Head, Incoming, written};
+use sx_spread::apply_spread;
 
 // Where the chain stands after a block, and what is told of the block.
 #[derive(Debug, Drop)]
@@ -22,8 +23,16 @@ pub struct Advanced {
     pub checked: Checked,
 }
 
-// Judges the next block, and applies it.
-pub fn advance(alloc: Global, head: Head, incoming: &Incoming) -> Result<Advanced, CheckFault>
+// Judges the next block, and applies it by so many workers.
+pub fn advance<R: Threads + Sync>(
+    rt: &R,
+    alloc: Global,
+    head: Head,
+    incoming: &Incoming,
+    workers: u32,
+) -> Result<Advanced, CheckFault>
+    requires some_worker { 1 ≤ workers }
+    requires few_workers { workers ≤ 64 }
     requires head { IsHead head }
     requires form { IsBlock incoming.now.block }
     requires body { incoming.now.body ≡ sha256 (list_bytes incoming.now.block.txs) }
@@ -47,7 +56,7 @@ pub fn advance(alloc: Global, head: Head, incoming: &Incoming) -> Result<Advance
         &digest,
         &incoming.body,
     )?;
-    let ledger = apply(alloc, ledger, &incoming.block, effects)?;
+    let ledger = apply_spread(rt, alloc, ledger, &incoming.block, effects, workers)?;
     let state = written(alloc, &ledger, state)?;
     let digest = digest_of(state.bytes());
     close(&incoming.block.header, &digest)?;

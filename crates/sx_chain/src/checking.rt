@@ -19,15 +19,23 @@ use sx_input::{Head, Incoming, Stop, end, take_block, take_head};
 use sx_text::{Text, check_line};
 use sx_words::Command;
 
+// A check is asked for no workers: its block is applied on one thread.
+const WORKERS: u32 = 1;
+
 // The line of a valid block, or the first reason why the block is refused.
-fn verdict(alloc: Global, head: Head, incoming: &Incoming) -> Result<Text, Stop>
+fn verdict<R: Threads + Sync>(
+    rt: &R,
+    alloc: Global,
+    head: Head,
+    incoming: &Incoming,
+) -> Result<Text, Stop>
     requires head { IsHead head }
     requires form { IsBlock incoming.now.block }
     requires body { incoming.now.body ≡ sha256 (list_bytes incoming.now.block.txs) }
     ensures concludes { ConcludesAs Command.Check (item.state head.ledger ∷ item.block incoming.now.block ∷ []) result }
     ensures calm { IsErrOf result Stop.ReadFault → ⊥ }
 {
-    match advance(alloc, head, incoming) {
+    match advance(rt, alloc, head, incoming, WORKERS) {
         Ok(advanced) => Ok(check_line(alloc, &advanced.checked)?),
         Err(CheckFault::Invalid(why)) => Err(Stop::Refused { block: 0, why }),
         Err(CheckFault::NoMemory) => Err(Stop::NoMemory),
@@ -35,7 +43,11 @@ fn verdict(alloc: Global, head: Head, incoming: &Incoming) -> Result<Text, Stop>
 }
 
 /// Checks the block of the input.
-pub fn check<R: Threads, S: Source>(rt: &R, alloc: Global, source: &mut S) -> Result<Text, Stop>
+pub fn check<R: Threads + Sync, S: Source>(
+    rt: &R,
+    alloc: Global,
+    source: &mut S,
+) -> Result<Text, Stop>
     ensures found { Found Command.Check (S.left source.old) (S.left source.new) result }
     ensures steady { UnlessReadFault result (IsTrue (S.strict source.old) → S.faults source.new ≡ S.faults source.old) }
     ensures read_fault { IsErrOf result Stop.ReadFault → Rose (S.faults source.old) (S.faults source.new) }
@@ -43,5 +55,5 @@ pub fn check<R: Threads, S: Source>(rt: &R, alloc: Global, source: &mut S) -> Re
     let opening = take_head(rt, alloc, source)?;
     let incoming = take_block(rt, alloc, source, opening.end)?;
     end(alloc, source, incoming.end)?;
-    verdict(alloc, opening.held, &incoming.held)
+    verdict(rt, alloc, opening.held, &incoming.held)
 }

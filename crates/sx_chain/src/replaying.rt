@@ -34,7 +34,7 @@ pub struct Place {
 }
 
 // The tags of the records that may come next.
-fn tags(after_block: bool) -> &'static [u8]
+pub fn tags(after_block: bool) -> &'static [u8]
     ensures { result.now ≡ tags_after after_block }
 {
     if after_block {
@@ -44,13 +44,16 @@ fn tags(after_block: bool) -> &'static [u8]
     }
 }
 
-// A block, judged on the ledger so far and applied.
-fn step_block<R: Threads>(
+// A block, judged on the ledger so far and applied by so many workers.
+fn step_block<R: Threads + Sync>(
     rt: &R,
     alloc: Global,
     place: Place,
     found: &Record,
+    workers: u32,
 ) -> Result<Place, Stop>
+    requires some_worker { 1 ≤ workers }
+    requires few_workers { workers ≤ 64 }
     requires place { MayGoOn place }
     requires found { IsNext place found.now }
     requires tag { found.now.tag ≡ block_tag }
@@ -63,7 +66,7 @@ fn step_block<R: Threads>(
         }));
     }
     let incoming = decoded_block(rt, alloc, found)?;
-    match advance(alloc, place.head, &incoming) {
+    match advance(rt, alloc, place.head, &incoming, workers) {
         Ok(advanced) => Ok(Place {
             head: advanced.head,
             at: end_of(found),
@@ -95,7 +98,15 @@ fn step_outcomes(alloc: Global, place: Place, found: &Record) -> Result<Place, S
 }
 
 // One record after the state.
-fn step<R: Threads>(rt: &R, alloc: Global, place: Place, found: &Record) -> Result<Place, Stop>
+fn step<R: Threads + Sync>(
+    rt: &R,
+    alloc: Global,
+    place: Place,
+    found: &Record,
+    workers: u32,
+) -> Result<Place, Stop>
+    requires some_worker { 1 ≤ workers }
+    requires few_workers { workers ≤ 64 }
     requires place { MayGoOn place }
     requires found { IsNext place found.now }
     ensures { Steps place found.now result }
@@ -103,13 +114,21 @@ fn step<R: Threads>(rt: &R, alloc: Global, place: Place, found: &Record) -> Resu
     if found.tag == tag::OUTCOMES {
         step_outcomes(alloc, place, found)
     } else {
-        step_block(rt, alloc, place, found)
+        step_block(rt, alloc, place, found, workers)
     }
 }
 
-/// The record of the ledger after all blocks of the input.
-pub fn replay<R: Threads, S: Source>(rt: &R, alloc: Global, source: &mut S) -> Result<Writer, Stop>
-    ensures found { (workers : ℕ) → Found (Command.Replay workers) (S.left source.old) (S.left source.new) result }
+/// The record of the ledger after all blocks of the input, each of which so many workers apply. How many there
+/// are does not change what is found.
+pub fn replay<R: Threads + Sync, S: Source>(
+    rt: &R,
+    alloc: Global,
+    workers: u32,
+    source: &mut S,
+) -> Result<Writer, Stop>
+    requires some_worker { 1 ≤ workers }
+    requires few_workers { workers ≤ 64 }
+    ensures found { (any : ℕ) → Found (Command.Replay any) (S.left source.old) (S.left source.new) result }
     ensures steady { UnlessReadFault result (IsTrue (S.strict source.old) → S.faults source.new ≡ S.faults source.old) }
     ensures read_fault { IsErrOf result Stop.ReadFault → Rose (S.faults source.old) (S.faults source.new) }
 {
@@ -121,7 +140,7 @@ pub fn replay<R: Threads, S: Source>(rt: &R, alloc: Global, source: &mut S) -> R
         after_block: false,
     };
     while let Some(found) = next(alloc, source, place.at, tags(place.after_block))? {
-        place = step(rt, alloc, place, &found)?;
+        place = step(rt, alloc, place, &found, workers)?;
     }
     Ok(place.head.into_state(alloc)?)
 }
