@@ -1,2 +1,3 @@
 pub mod Demonstrations
 pub mod ListLengths
+pub mod Filterings

@@ -1,0 +1,90 @@
+//! `filter`: a state, candidates, and nothing more. The candidates that are kept are written.
+
+ghost use Rattle.std.specs.Prelude.{◌≡◌, ◌≤◌, [], ◌∷◌, IfOk, IsErrOf, IsTrue, length};
+ghost use Rattle.sx_base.specs.Outside.{Rose};
+ghost use Rattle.sx_input.specs.Found.{ConcludesAs, Found};
+ghost use Rattle.sx_input.specs.Stream.{UnlessReadFault};
+ghost use Rattle.sx_meaning.specs.Items.{item_record};
+ghost use Rattle.sx_meaning.specs.Items as item;
+ghost use Rattle.sx_seal.specs.Filtering.{IsStoppedBy};
+ghost use Rattle.sx_tx.specs.Transactions.{IsTxList, most_transactions};
+
+use std::alloc::Global;
+use std::thread::Threads;
+use sx_base::Source;
+use sx_bytes::{NoMemory, Writer};
+use sx_check::Invalid;
+use sx_filter::FilterFault;
+use sx_input::{Stop, end, take};
+use sx_ledger::Ledger;
+use sx_record::{tag, write_record};
+use sx_tx::{Tx, TxList, write_candidates};
+use sx_words::Command;
+
+// Why a filter stops.
+fn stop_of(fault: FilterFault) -> Stop
+    ensures { IsStoppedBy fault result }
+{
+    match fault {
+        FilterFault::NoMemory => Stop::NoMemory,
+        FilterFault::Ended => Stop::Refused {
+            block: 0,
+            why: Invalid::Ended,
+        },
+        FilterFault::Crowded { have, more, limit } => Stop::Refused {
+            block: 0,
+            why: Invalid::Crowded { have, more, limit },
+        },
+    }
+}
+
+// The record of candidates.
+fn written(alloc: Global, txs: &[Tx]) -> Result<Writer, NoMemory>
+    requires { length txs.now ≤ most_transactions }
+    ensures { IfOk result (λ told. told ≡ item_record (item.candidates txs.now)) }
+{
+    let mut payload = Writer::new(alloc);
+    write_candidates(&mut payload, txs)?;
+    let mut told = Writer::new(alloc);
+    write_record(&mut told, tag::CANDIDATES, payload.bytes())?;
+    Ok(told)
+}
+
+// The record of the candidates that are kept, or why there is no room for all of them.
+fn kept<R: Threads + Sync>(
+    rt: &R,
+    alloc: Global,
+    ledger: &Ledger,
+    candidates: &TxList,
+    workers: u32,
+) -> Result<Writer, Stop>
+    requires candidates { IsTxList candidates.now }
+    requires some_worker { 1 ≤ workers }
+    requires few_workers { workers ≤ 64 }
+    ensures concludes { ConcludesAs (Command.Filter workers) (item.state ledger.now ∷ item.candidates candidates.now ∷ []) result }
+    ensures calm { IsErrOf result Stop.ReadFault → ⊥ }
+{
+    match sx_filter::filter(rt, alloc, ledger, candidates.items(), workers) {
+        Ok(txs) => Ok(written(alloc, txs.items())?),
+        Err(fault) => Err(stop_of(fault)),
+    }
+}
+
+/// The record of those candidates of the input that no other candidate stands in the way of.
+pub fn filter<R: Threads + Sync, S: Source>(
+    rt: &R,
+    alloc: Global,
+    workers: u32,
+    source: &mut S,
+) -> Result<Writer, Stop>
+    requires some_worker { 1 ≤ workers }
+    requires few_workers { workers ≤ 64 }
+    ensures found { Found (Command.Filter workers) (S.left source.old) (S.left source.new) result }
+    ensures steady { UnlessReadFault result (IsTrue (S.strict source.old) → S.faults source.new ≡ S.faults source.old) }
+    ensures read_fault { IsErrOf result Stop.ReadFault → Rose (S.faults source.old) (S.faults source.new) }
+{
+    let opening = take::<Ledger, S>(alloc, source, 0)?;
+    let candidates = take::<TxList, S>(alloc, source, opening.end)?;
+    end(alloc, source, candidates.end)?;
+    kept(rt, alloc, &opening.held, &candidates.held, workers)
+}
