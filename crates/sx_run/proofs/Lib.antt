@@ -1,2 +1,4 @@
 pub mod Answering
 pub mod Shown
+pub mod Accounts
+pub mod ProvedAccounts

@@ -11,8 +11,11 @@
 //! runs a chain of blocks from a state to the state after them. What a block leaves is `ledger_after`: plain
 //! sums over the list of transactions and the list of offers. `interleave` tells what becomes of candidates
 //! where a script says who makes the next step: `outcomes_of_run`, a function of the state, the candidates and
-//! the script. `migrate` writes a state in version 2, and `show` what a record holds as a text. `demo` makes
-//! a block of a market that is drawn from a number, and writes its summary.
+//! the script. `migrate` writes a state in version 2, and `show` what a record holds as a text. `filter` writes those
+//! candidates that no other one stands in the way of. `prove` writes what shows one account of a state without the
+//! state, and `verify` tells whether such a proof is good. `follow` takes proposed blocks in any order, and writes the
+//! state after the chain that they make. `demo` makes a block of a market that is drawn from a number, and writes its
+//! summary.
 //!
 //! What is found of an input is one thing, and so is the output of each command but `seal` and `demo`, of
 //! which `IsSealed` and `IsDemonstrated` say what it may be: [`input_laws`]. [`chain_laws`] says that a chain
@@ -25,7 +28,8 @@
 //! received that tells nothing of its bytes.
 //!
 //! The way of the data: `sx_input` (bytes to what records hold), `sx_chain` and `sx_seal` (the commands `check` and
-//! `replay`, `seal` and `demo`), `interleaving`, `migrating` and `showing` (the other commands), `output` (what a
+//! `replay`, `follow`, `seal`, `filter` and `demo`), `interleaving`, `migrating`, `proving`, `verifying` and `showing`
+//! (the other commands), `output` (what a
 //! command writes), `running` (what a command found to what is written and to a status). What is found of an input
 //! is defined in `sx_meaning`, and texts and statuses are those of `sx_text`.
 #![tactic(auto)]
@@ -33,8 +37,10 @@
 mod interleaving;
 mod migrating;
 mod output;
+mod proving;
 mod running;
 mod showing;
+mod verifying;
 
 pub use running::run;
 pub use sx_meaning::{chain_laws, input_laws};

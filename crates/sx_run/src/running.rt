@@ -6,7 +6,10 @@ ghost use Rattle.sx_clear.specs.Searches.{most_clearing_searches};
 ghost use Rattle.sx_input.specs.Found.{Found};
 ghost use Rattle.sx_input.specs.Stream.{UnlessReadFault};
 ghost use Rattle.sx_meaning.specs.Answers.{Answers, Completes, FitsWords, IsRead, asked, reads_nothing, takes_no_input};
-ghost use Rattle.sx_meaning.specs.SealLaws.{DemosAlike, DemosSettle, SealsAlike, SealsLeaveTheirMeaning};
+ghost use Rattle.sx_meaning.specs.Laws.{FollowsReplays};
+ghost use Rattle.sx_meaning.specs.ProofLaws.{ProvedIsGood};
+ghost use Rattle.sx_meaning.specs.SealLaws.{DemosAlike, DemosSettle, FiltersAlike, SealsAlike};
+ghost use Rattle.sx_meaning.specs.SealLaws.{SealsLeaveTheirMeaning};
 ghost use Rattle.sx_meaning.specs.Settling.{ReplaysSettle, ValidSettles};
 ghost use Rattle.sx_meaning.specs.Status.{UnlessReadFails, UnlessWriteFails, is_silent};
 ghost use Rattle.sx_run.specs.Running.{Tells, as_bytes, status_at};
@@ -16,17 +19,19 @@ ghost use Rattle.sx_words.specs.Commands.{InRange};
 use crate::interleaving::interleave;
 use crate::migrating::migrate;
 use crate::output::{Output, recorded, told};
+use crate::proving::prove;
 use crate::showing::show;
+use crate::verifying::verify;
 use std::alloc::Global;
 use std::sync::ledger::Ledger;
 use std::thread::Threads;
 use sx_base::{Sink, Source, put_all};
-use sx_chain::{check, replay};
+use sx_chain::{check, follow, replay};
 use sx_input::Stop;
 use sx_meaning::{chain_laws, input_laws};
 use sx_net::Steps;
 use sx_price::Mu;
-use sx_seal::{Numbers, demonstrate, seal};
+use sx_seal::{Numbers, demonstrate, filter, seal};
 use sx_text::Status;
 use sx_words::{Command, WordsFault, parse};
 use sx_workers::Gate;
@@ -68,10 +73,14 @@ fn output_of<R: Threads + Sync, S: Source, G: Gate + Sync, L: Ledger>(
 {
     match command {
         Command::Check => told(check(rt, alloc, source)),
-        Command::Replay { .. } => recorded(replay(rt, alloc, source)),
+        Command::Replay { workers } => recorded(replay(rt, alloc, workers, source)),
         Command::Interleave => recorded(interleave(alloc, source)),
         Command::Migrate => recorded(migrate(alloc, source)),
         Command::Show => told(show(alloc, source)),
+        Command::Filter { workers } => recorded(filter(rt, alloc, workers, source)),
+        Command::Prove { id } => recorded(prove(alloc, id, source)),
+        Command::Verify => told(verify(alloc, source)),
+        Command::Follow => recorded(follow(alloc, source)),
         Command::Demo { number, workers } => {
             told(demonstrate(rt, alloc, number, workers, gate, steps))
         }
@@ -125,24 +134,30 @@ fn conclude<K: Sink>(sink: &mut K, found: Result<Output, Stop>) -> Status
 /// 1). How many workers there are does not change what may be written. `check` reads a state and a block, and writes
 /// one line where the block is valid for the state. `replay`, to which
 /// `--workers` with a number from 1 to 64 may be added, reads a state and up to 1,000,000 blocks, each of which
-/// may have the outcomes of its candidates after it, and writes the state after all of them, where each block
-/// is valid for what the one before it left. `interleave` reads a state, candidates and a script of who makes
-/// the next step, and writes what becomes of each candidate. `Refused` says at `seal` and `interleave` that the
-/// state has no room for all that the candidates ask for. `migrate` reads a state and writes it in version 2.
-/// `show` reads one record of any kind, and writes what it holds as a text. `demo` and a number, to which
-/// `--workers` may be added, reads nothing: it makes a market from the number, gathers its candidates by so
-/// many workers (1 to 64, else 4) on 16 shards, clears the market as a seal does by default, and writes a
-/// summary of the block. See [`Status`] for the answers and for what is written at each. What is answered of
-/// the bytes holds where the source tells those that it has left, and what is written where the sink tells
-/// those that it holds.
+/// may have the outcomes of its candidates after it, and writes the state after all of them, where each block is
+/// valid for what the one before it left; so many workers apply each block. `interleave` reads a state, candidates
+/// and a script of who makes the next step, and writes what becomes of each candidate. `Refused` says at `seal` and
+/// `interleave` that the state has no room for all that the candidates ask for. `migrate` reads a state and writes
+/// it in version 2. `show` reads one record of any kind but a proof, and writes what it holds as a text. `filter`,
+/// to which `--workers` may be added (1 to 64, else 4), reads a state and candidates, and writes those candidates
+/// that no other stands in the way of; `Refused` says the same as at `seal`. `prove` and an id read a state, and
+/// write the root over its accounts and the proof of the account of this id, or nothing where there is none.
+/// `verify` reads such a record, and writes one line that tells whether the proof is good for the root. `follow`
+/// reads what a replay does, takes the blocks in any order, and writes the state after the chain that they make; it
+/// refuses no block. `demo` and a number, to which `--workers` may be added, reads nothing: it makes a market from
+/// the number, gathers its candidates by so many workers (1 to 64, else 4) on 16 shards, clears the market as a
+/// seal does by default, and writes a summary of the block. See [`Status`] for the answers and for what is written
+/// at each. What is answered of the bytes holds where the source tells those that it has left, and what is written
+/// where the sink tells those that it holds.
 ///
 /// The gate is called before each candidate of a seal or a demonstration, and no clause depends on it.
 /// `steps` counts the searches of circulations, which these two alone make.
 ///
-/// `seal` and `demo` return where their worker threads return. For `check` and `replay` a state whose payload
+/// `seal`, `filter` and `demo` return where their worker threads return. For `check` and `replay` a state whose payload
 /// has 1 MiB or more, and a block whose transactions take 256 KiB or more, is decoded while a thread of its own
 /// makes the digest, and the call returns where that thread returns. Where no thread can be started, the two are
-/// done in turn.
+/// done in turn. A block of `replay` that meets many accounts or fills is applied by threads of its own, and the
+/// call returns where these return.
 pub fn run<R: Threads + Sync, S: Source, K: Sink, G: Gate + Sync, L: Ledger>(
     rt: &R,
     alloc: Global,
@@ -182,9 +197,10 @@ pub fn run<R: Threads + Sync, S: Source, K: Sink, G: Gate + Sync, L: Ledger>(
         IfSome (asked words.now) (λ command. Completes command (S.left source.old) result) }
 
     // However many workers and shards there are, a seal may write the same, and however many workers, a
-    // demonstration.
+    // demonstration and a filter.
     ensures any_workers { SealsAlike }
     ensures any_demo_workers { DemosAlike }
+    ensures any_filter_workers { FiltersAlike }
 
     // What a seal writes is a block that a check finds valid and that settles, and a replay of the state and of
     // what was written, by any number of workers, writes the ledger after the block.
@@ -192,6 +208,12 @@ pub fn run<R: Threads + Sync, S: Source, K: Sink, G: Gate + Sync, L: Ledger>(
 
     // The block of a demonstration settles.
     ensures demos { DemosSettle }
+
+    // What is written of one account is nothing, or a record of which a verification tells that it is good.
+    ensures proves { ProvedIsGood }
+
+    // Where a replay writes a state, so does a follower that takes the same blocks.
+    ensures follows { FollowsReplays }
 
     // The count of searches rises by at most this, whatever the words and the input are, and never falls.
     ensures counted { steps.new ≤ steps.old + most_clearing_searches }

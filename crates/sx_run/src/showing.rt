@@ -5,7 +5,7 @@ ghost use Rattle.sx_base.specs.Outside.{Rose};
 ghost use Rattle.sx_input.specs.Found.{ConcludesAs, Found};
 ghost use Rattle.sx_input.specs.Stream.{Holds, Reads, Stops, UnlessReadFault};
 ghost use Rattle.sx_meaning.specs.Expected.{item_at, record_of};
-ghost use Rattle.sx_meaning.specs.Findings.{all_tags};
+ghost use Rattle.sx_meaning.specs.Findings.{shown_tags};
 ghost use Rattle.sx_meaning.specs.Items.{IsItem, payload_at, payload_of, tag_of};
 ghost use Rattle.sx_record.specs.Frame.{MayStand, most_bytes, record_bytes};
 ghost use Rattle.sx_record.specs.Stream.{Took};
@@ -31,10 +31,10 @@ const TAGS: [u8; 5] = [
 
 // The record, which has to be there.
 fn first<S: Source>(alloc: Global, source: &mut S) -> Result<Record, Stop>
-    ensures reads { IfOk result (λ found. Reads (record_at all_tags 0) (S.left source.old) (S.left source.new) (Some found)) }
-    ensures stops { IfErr result (Stops (item_at (record_of all_tags false false) 0) (S.left source.old) (S.left source.new)) }
+    ensures reads { IfOk result (λ found. Reads (record_at shown_tags 0) (S.left source.old) (S.left source.new) (Some found)) }
+    ensures stops { IfErr result (Stops (item_at (record_of shown_tags false false) 0) (S.left source.old) (S.left source.new)) }
     ensures encoded { IfOk result (λ found. Took (S.left source.old) (S.left source.new) (record_bytes found.tag found.payload)) }
-    ensures known { IfOk result (MayStand all_tags 0) }
+    ensures known { IfOk result (MayStand shown_tags 0) }
     ensures steady { UnlessReadFault result (IsTrue (S.strict source.old) → S.faults source.new ≡ S.faults source.old) }
     ensures read_fault { IsErrOf result Stop.ReadFault → Rose (S.faults source.old) (S.faults source.new) }
     ensures falls_never { S.faults source.old ≤ S.faults source.new }
@@ -50,7 +50,7 @@ fn first<S: Source>(alloc: Global, source: &mut S) -> Result<Record, Stop>
 fn shown(alloc: Global, found: &Record) -> Result<Shown, Stop>
     requires place { found.now.at ≤ 2 ^ 63 + 5 }
     requires fits { length found.now.payload ≤ most_bytes }
-    requires listed { Contains all_tags found.now.tag }
+    requires listed { Contains shown_tags found.now.tag }
     ensures exact { Holds item_of found.now.at (payload_at found.now.tag found.now.payload) result }
     ensures form { IfOk result (λ shown. IsItem (item_of shown)) }
     ensures tag { IfOk result (λ shown. tag_of (item_of shown) ≡ found.now.tag) }

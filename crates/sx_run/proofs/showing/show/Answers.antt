@@ -2,7 +2,7 @@ use Rattle.std.proofs.Common.{[], ◌∷◌, List, Option, ℕ, refl}
 use Rattle.std.proofs.lemmas.Result.{err_from_is_err_and}
 use Rattle.sx_input.proofs.Faults.{listed_stops}
 use Rattle.sx_input.proofs.Readings.{concludes, nothing_read, stops}
-use Rattle.sx_meaning.specs.Findings.{all_tags}
+use Rattle.sx_meaning.specs.Findings.{shown_tags}
 use Rattle.sx_meaning.specs.Items.{Item}
 use Rattle.sx_run.specs.Showing.{item_of}
 use Rattle.sx_run.proofs.Shown.{has_record}
@@ -18,7 +18,7 @@ pub returns-in_err-shown-clause-found : goal.returns-in_err-shown-clause-found
 returns-in_err-shown-clause-found g c =
     let p = err_from_is_err_and c.from_residual-in_err-shown.result c.from_residual-in_err-shown.ensures.1 in
     rw (p.1, p.2) (stops Show [] 0 _ _ _ c.in_err-shown.field-0.0 (nothing_read Show _)
-    (listed_stops all_tags 0 _ _ c.in_ok-found.found c.in_err-shown.field-0.0 c.in_ok-found.ensures.reads
+    (listed_stops shown_tags 0 _ _ c.in_ok-found.found c.in_err-shown.field-0.0 c.in_ok-found.ensures.reads
     c.in_err-shown.ensures.exact))
 
 pub returns-in_err-end-clause-found : goal.returns-in_err-end-clause-found

@@ -1,7 +1,8 @@
-use Rattle.std.proofs.Common.{refl, sym, ap, ◌∙◌}
+use Rattle.std.proofs.Common.{ℕ, List, Option, refl, sym, subst}
+use Rattle.sx_meaning.specs.Outputs.{IsShown}
 use Rattle.sx_run.proofs.Shown.{showable, shown_again}
 use Rattle.sx_run.proofs.showing.text_of.Goals as goal
-use Rattle.sx_text.specs.Shown.{shown_text}
+use Rattle.sx_text.specs.declared.shown.Shown.{Shown}
 
 pub show-requires : goal.show-requires
 show-requires c = showable c.args.shown.now c.requires
@@ -9,5 +10,6 @@ show-requires c = showable c.args.shown.now c.requires
 pub returns-clause-concludes : goal.returns-clause-concludes
 returns-clause-concludes c = (
   record { item = _; are = refl; finds = refl },
-  c.in_ok-show.ensures ∙ ap shown_text (sym (shown_again c.args.shown.now)),
+  subst (λ (held : Option Shown). IsShown held c.in_ok-show.field-0) (sym (shown_again c.args.shown.now))
+      c.in_ok-show.ensures,
 )
