@@ -26,7 +26,7 @@ fn demo(number: u64, workers: u32) -> Command {
     Command::Demo { number, workers }
 }
 
-fn commands() -> [(&'static str, Command); 14] {
+fn commands() -> [(&'static str, Command); 20] {
     [
         ("seal", seal(4, 16, 10, 500, 1)),
         ("seal --workers 8 --mu 10", seal(8, 16, 10, 500, 1)),
@@ -45,13 +45,22 @@ fn commands() -> [(&'static str, Command); 14] {
         ("show", Command::Show),
         ("interleave", Command::Interleave),
         ("migrate", Command::Migrate),
+        ("filter", Command::Filter { workers: 4 }),
+        ("filter --workers=64", Command::Filter { workers: 64 }),
+        ("prove 0", Command::Prove { id: 0 }),
+        (
+            "prove 18446744073709551615",
+            Command::Prove { id: u64::MAX },
+        ),
+        ("verify", Command::Verify),
+        ("follow", Command::Follow),
         ("demo 0", demo(0, 4)),
         ("demo 18446744073709551615", demo(u64::MAX, 4)),
         ("demo 1 --workers 64", demo(1, 64)),
     ]
 }
 
-fn refused() -> [&'static str; 34] {
+fn refused() -> [&'static str; 41] {
     [
         "",
         "sael",
@@ -81,6 +90,13 @@ fn refused() -> [&'static str; 34] {
         "replay --mu 10",
         "check --workers 4",
         "migrate state",
+        "filter --shards 1",
+        "prove",
+        "prove 01",
+        "prove 18446744073709551616",
+        "prove 1 2",
+        "verify 1",
+        "follow --workers 1",
         "demo",
         "demo 18446744073709551616",
         "demo 01",

@@ -1,4 +1,4 @@
-//! Tests of numbers, ledgers, records and blocks, and of their encodings.
+//! Tests of numbers, ledgers, records, blocks and proofs, and of their encodings.
 //!
 //! Each file is named after the crate that it tests. They stand in a crate of their own, so that a crate with tests is
 //! not proved twice.
@@ -10,6 +10,8 @@ mod base;
 mod block;
 #[cfg(test)]
 mod bytes;
+#[cfg(test)]
+mod commit;
 #[cfg(test)]
 mod ledger;
 #[cfg(test)]

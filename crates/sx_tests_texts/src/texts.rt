@@ -5,14 +5,15 @@ ghost use Rattle.sx_text.specs.Shown.{IsShowable};
 use std::alloc::{AllocError, Global};
 use std::test::Fail;
 use sx_base::{AccountId, AssetId};
-use sx_block::read_block;
+use sx_block::{Digest, read_block};
 use sx_bytes::{Bytes, Form, FormFault, ListOf};
 use sx_check::{Checked, Invalid};
+use sx_commit::Proof;
 use sx_dual::Cut;
 use sx_layout::{Outcome, Script};
-use sx_ledger::{Static, read_state};
-use sx_text::{Shown, Status, check_line, show, status_line};
-use sx_tx::read_candidates;
+use sx_ledger::{Account, Static, read_state};
+use sx_text::{Shown, Status, check_line, proof_line, show, status_line};
+use sx_tx::{Window, read_candidates};
 
 // One asset. Account 1 has 100 units and account 2 has 5.
 #[rattlefmt::skip]
@@ -139,12 +140,11 @@ fn says(alloc: Global, status: &Status, line: &str) -> bool {
 
 #[test]
 fn each_status_has_its_line(rt: HostRuntime) {
+    let usage =
+        "usage: speedex seal, replay, check, show, interleave, migrate, filter, prove ID, verify, follow or demo N\n";
     for (status, line) in [
         (Status::Done, ""),
-        (
-            Status::Usage,
-            "usage: speedex seal, replay, check, show, interleave, migrate or demo N\n",
-        ),
+        (Status::Usage, usage),
         (Status::ReadFault, "read fault\n"),
         (Status::WriteFault, "write fault\n"),
         (Status::NoMemory, "out of memory\n"),
@@ -214,6 +214,36 @@ fn a_valid_block_is_told(rt: HostRuntime) -> Result<(), Fail> {
     };
     let line = check_line(rt.alloc(), &checked)?;
     let wanted = b"valid height 1 value 2013265920 bounds kept\n";
+    assert_eq!(rt; line.bytes(), wanted.as_slice());
+    Ok(())
+}
+
+// Account 7 at place 1.
+fn proof(alloc: Global) -> Proof {
+    let id = AccountId(7);
+    let window = Window { last: 0, used: 0 };
+    let balances = ListOf::of(Vec::new(alloc));
+    Proof {
+        version: 2,
+        place: 1,
+        account: Account {
+            id,
+            window,
+            balances,
+        },
+        siblings: ListOf::of(Vec::new(alloc)),
+    }
+}
+
+#[test]
+fn a_proof_is_told(rt: HostRuntime) -> Result<(), Fail> {
+    let root = Digest::of([
+        0, 1, 2, 3, 4, 5, 6, 7, 8, 9, 10, 11, 12, 13, 14, 15, 16, 17, 18, 19, 20, 21, 22, 23, 24,
+        25, 26, 27, 28, 29, 30, 31,
+    ]);
+    let line = proof_line(rt.alloc(), &root, &proof(rt.alloc()), false)?;
+    let wanted =
+        b"proof bad account 7 place 1 root 000102030405060708090a0b0c0d0e0f101112131415161718191a1b1c1d1e1f\n";
     assert_eq!(rt; line.bytes(), wanted.as_slice());
     Ok(())
 }
