@@ -10,8 +10,8 @@ The last one writes the records of one kind, here the blocks, as they are, and l
 It is written apart from the program, from docs/FORMATS.md and docs/RULES.md, and nothing of it is proved.
 
 The text has one entry a line. Words are parted by spaces, numbers are decimal, and `#` starts a comment.
-A line `state`, `block`, `candidates`, `outcomes` or `script` begins a record, and the lines after it, up to the next
-such line, belong to it.
+A line `state`, `block`, `candidates`, `outcomes`, `script` or `proof` begins a record, and the lines after it, up to
+the next such line, belong to it.
 
     state version V height H assets N                        a ledger at height H, with N assets
     asset A price P rounding R                               for each asset; a price of 1 is 16777216
@@ -43,6 +43,11 @@ such line, belong to it.
     I static NUMBER
     I overdraft seen S need D
 
+    proof version V place P assets N                         what shows one account of a ledger
+    root DIGEST
+    account ID last L balances B0 B1 ..                      in version 2 with `used U`, as in a state
+    sibling DIGEST                                           sixteen of these, the lowest level's first
+
 Lines of one kind stand in the order in which they are to be written: accounts by id, offers and the transactions
 of a block as docs/FORMATS.md says. `write` tests neither order nor ranges, so it can make wrong records on purpose. It
 tests every word, though: a line with a word or a number too many, too few or at another place is refused, and named.
@@ -51,16 +56,26 @@ In a line that begins a record each word after the first may be left out, with i
 is that of the lines, and a block has the next height and μ = 2^-10. In a block everything but the lines `tx` may be left
 out, and so may the ends of a line `asset`. The prices are then those of the ledger before the block, and digests,
 roundings and potentials are right ones: `write` applies each block to the ledger before it. Where that fails, as with an
-overdraft, roundings, potentials and the digest `after` are 0. `show` writes every line.
+overdraft, roundings, potentials and the digest `after` are 0. Of a proof a line `account ID` is enough: the rest is
+what the ledger before it has. `show` writes every line.
 """
 import contextlib
 import hashlib
+import itertools
 import os
 import struct
 import sys
 
-STATE, CANDIDATES, BLOCK, OUTCOMES, SCRIPT = 1, 2, 3, 4, 5
-TAGS = {"state": STATE, "candidates": CANDIDATES, "block": BLOCK, "outcomes": OUTCOMES, "script": SCRIPT}
+STATE, CANDIDATES, BLOCK, OUTCOMES, SCRIPT, PROOF = 1, 2, 3, 4, 5, 6
+TAGS = {
+    "state": STATE,
+    "candidates": CANDIDATES,
+    "block": BLOCK,
+    "outcomes": OUTCOMES,
+    "script": SCRIPT,
+    "proof": PROOF,
+}
+LEVELS = 16
 KINDS = {"pay": (1, "QBQ"), "create": (2, "Q"), "offer": (3, "BBQQ"), "cancel": (4, "BBQQ")}
 RESULTS = {
     "accepted": (0, ""),
@@ -89,11 +104,14 @@ def state_record(state):
     out = struct.pack(">BQB", state["version"], state["height"], len(state["prices"]))
     out += numbers("Q", state["prices"]) + numbers("Q", state["roundings"])
     out += struct.pack(">I", len(state["accounts"]))
-    maps = [[] if state["version"] == 1 else [used] for _, _, used, _ in state["accounts"]]
-    rows = zip(state["accounts"], maps)
-    out += b"".join(numbers("Q", [id, last, *used, *balances]) for (id, last, _, balances), used in rows)
+    out += b"".join(account_bytes(state["version"], account) for account in state["accounts"])
     out += struct.pack(">I", len(state["offers"]))
     return record(STATE, out + b"".join(struct.pack(">BBQQQQ", *offer) for offer in state["offers"]))
+
+
+def account_bytes(version, account):
+    id, last, used, balances = account
+    return numbers("Q", [id, last, *([] if version == 1 else [used]), *balances])
 
 
 def body_bytes(txs):
@@ -130,6 +148,12 @@ def outcomes_record(outcomes):
 def script_record(script):
     turns = script["turns"]
     return record(SCRIPT, struct.pack(">BI", script["actors"], len(turns)) + bytes(turns))
+
+
+def proof_record(proof):
+    version, account = proof["version"], proof["account"]
+    out = proof["root"] + struct.pack(">BBI", version, len(account[3]), proof["place"])
+    return record(PROOF, out + account_bytes(version, account) + b"".join(proof["siblings"]))
 
 
 def numbers(width, items):
@@ -213,6 +237,13 @@ def read_outcome(at):
 
 def read_outcomes(at):
     return [read_outcome(at) for _ in range(at.one("I"))]
+
+
+def read_proof(at):
+    proof = {"root": at.take(32)}
+    proof["version"], assets, proof["place"] = at.fields("BBI")
+    proof["account"] = read_account(at, proof["version"], assets)
+    return {**proof, "siblings": [at.take(32) for _ in range(LEVELS)]}
 
 
 # ---- the ledger after a block
@@ -337,6 +368,38 @@ def completed(block, state):
     return {**block, **{name: right[name] if block[name] is None else block[name] for name in right}}, after
 
 
+# ---- one digest over all accounts
+
+
+def levels_of(state):
+    """From the accounts up, the digests of each level that are over an account, and the one over none."""
+    version = state["version"]
+    row = [digest(struct.pack(">BB", 0, version) + account_bytes(version, it)) for it in state["accounts"]]
+    none = digest(b"\2")
+    for _ in range(LEVELS):
+        yield row, none
+        pairs = itertools.zip_longest(row[::2], row[1::2], fillvalue=none)
+        row, none = [digest(b"\1" + left + right) for left, right in pairs], digest(b"\1" + none + none)
+    yield row, none
+
+
+def proved(proof, state):
+    """The proof with what its text left out, as the ledger has it."""
+    if proof["version"] is None:
+        proof["version"] = state["version"] if state else 1
+    if len(proof["account"]) == 1 or proof["place"] is None:
+        there = {account[0]: (place, account) for place, account in enumerate(state["accounts"])}
+        place, account = there[proof["account"][0]]
+        proof["place"] = place if proof["place"] is None else proof["place"]
+        proof["account"] = account if len(proof["account"]) == 1 else proof["account"]
+    if proof["root"] is None or not proof["siblings"]:
+        *levels, (root, _) = levels_of(state)
+        beside = [(row, (proof["place"] >> level) ^ 1, none) for level, (row, none) in enumerate(levels)]
+        proof["root"] = proof["root"] or root[0]
+        proof["siblings"] = proof["siblings"] or [row[it] if it < len(row) else none for row, it, none in beside]
+    return proof
+
+
 # ---- text
 
 
@@ -389,6 +452,8 @@ def write(lines):
                 content, state = completed(content, state)
             elif kind == "state":
                 state = content
+            elif kind == "proof":
+                content = proved(content, state)
             out.append(RECORDS[kind](counted(kind, content)))
 
     for at, line in enumerate([*lines, None], 1):
@@ -410,9 +475,12 @@ def write(lines):
 
 def counted(kind, content):
     """The content, where it has as many entries as its text says."""
-    entries = {"state": "prices", "block": "txs", "script": "turns"}.get(kind, "entries")
-    said = content["assets" if kind == "state" else "count"]
-    if said not in (None, len(content[entries])):
+    if kind == "proof":
+        entries = content["account"][3]
+    else:
+        entries = content[{"state": "prices", "block": "txs", "script": "turns"}.get(kind, "entries")]
+    said = content["assets" if kind in ("state", "proof") else "count"]
+    if said not in (None, len(entries)):
         raise ValueError
     return content
 
@@ -435,18 +503,30 @@ def script_of(words):
     return {"actors": 1 if found["actors"] is None else found["actors"], "turns": [], "count": found["turns"]}
 
 
+def proof_of(words):
+    return {"root": None, "account": None, "siblings": [], **options(words, "version", "place", "assets")}
+
+
 def list_of(words):
     return {"entries": [], "count": count_of(words)}
 
 
-# what a line that begins a record says, and how the record is written; a state and a block are completed first
-BEGINS = {"state": state_of, "block": block_of, "candidates": list_of, "outcomes": list_of, "script": script_of}
+# what a line that begins a record says, and how the record is written; a block and a proof are completed first
+BEGINS = {
+    "state": state_of,
+    "block": block_of,
+    "candidates": list_of,
+    "outcomes": list_of,
+    "script": script_of,
+    "proof": proof_of,
+}
 RECORDS = {
     "state": state_record,
     "block": block_record,
     "candidates": lambda content: candidates_record(content["entries"]),
     "outcomes": lambda content: outcomes_record(content["entries"]),
     "script": script_record,
+    "proof": proof_record,
 }
 
 
@@ -465,14 +545,18 @@ def add_to_state(state, words):
         state["prices"].append(price)
         state["roundings"].append(rounding)
     elif words[0] == "account":
-        has_map = words[4:5] == ["used"]
-        used = "used U " if has_map else ""
-        id, last, *rest = matched(words, f"account ID last L {used}balances B..")
-        if has_map and state["version"] == 1:
-            raise ValueError
-        state["accounts"].append((id, last, rest[0] if has_map else 0, rest[1:] if has_map else rest))
+        state["accounts"].append(account_of(state["version"], words))
     else:
         state["offers"].append(tuple(matched(words, "offer SELL BUY limit M account ID seq S amount E")))
+
+
+def account_of(version, words):
+    has_map = words[4:5] == ["used"]
+    used = "used U " if has_map else ""
+    id, last, *rest = matched(words, f"account ID last L {used}balances B..")
+    if has_map and version == 1:
+        raise ValueError
+    return id, last, rest[0] if has_map else 0, rest[1:] if has_map else rest
 
 
 def add_to_block(block, words):
@@ -494,6 +578,16 @@ def add_to_block(block, words):
         put_once(block, "count", count_of(words))
     else:
         block["txs"].append(tx_of(words))
+
+
+def add_to_proof(proof, words):
+    if words[0] == "root" and len(words) == 2:
+        put_once(proof, "root", hexadecimal(words[1], 32))
+    elif words[0] == "sibling" and len(words) == 2:
+        proof["siblings"].append(hexadecimal(words[1], 32))
+    else:
+        short = len(words) == 2
+        put_once(proof, "account", matched(words, "account ID") if short else account_of(proof["version"], words))
 
 
 def hexadecimal(word, count):
@@ -519,6 +613,7 @@ ADDS = {
     "candidates": lambda content, words: content["entries"].append(tx_of(words)),
     "outcomes": add_outcome,
     "script": lambda script, words: script["turns"].extend(matched(words, "turn K..")),
+    "proof": add_to_proof,
 }
 
 
@@ -548,6 +643,8 @@ def show(data):
             print(*outcomes_lines(read_outcomes(at)), sep="\n")
         elif tag == SCRIPT:
             print(*script_lines(read_script(at)), sep="\n")
+        elif tag == PROOF:
+            print(*proof_lines(read_proof(at)), sep="\n")
         else:
             sys.exit(f"records: this script shows no record of tag {tag}")
         if at.at != end:
@@ -558,11 +655,16 @@ def state_lines(state):
     yield f"state version {state['version']} height {state['height']} assets {len(state['prices'])}"
     for asset, (price, rounding) in enumerate(zip(state["prices"], state["roundings"])):
         yield f"asset {asset} price {price} rounding {rounding}"
-    for id, last, used, balances in state["accounts"]:
-        window = f"last {last}" if state["version"] == 1 else f"last {last} used {used}"
-        yield f"account {id} {window} balances {' '.join(map(str, balances))}"
+    for account in state["accounts"]:
+        yield account_line(state["version"], account)
     for sell, buy, limit, account, seq, amount in state["offers"]:
         yield f"offer {sell} {buy} limit {limit} account {account} seq {seq} amount {amount}"
+
+
+def account_line(version, account):
+    id, last, used, balances = account
+    window = f"last {last}" if version == 1 else f"last {last} used {used}"
+    return f"account {id} {window} balances {' '.join(map(str, balances))}"
 
 
 def block_lines(block):
@@ -601,6 +703,13 @@ def outcomes_lines(outcomes):
     for at, (name, fields) in enumerate(outcomes):
         words = ["seen", str(fields[0]), "need", str(fields[1])] if name == "overdraft" else map(str, fields)
         yield " ".join([str(at), name, *words])
+
+
+def proof_lines(proof):
+    yield f"proof version {proof['version']} place {proof['place']} assets {len(proof['account'][3])}"
+    yield f"root {proof['root'].hex()}"
+    yield account_line(proof["version"], proof["account"])
+    yield from (f"sibling {it.hex()}" for it in proof["siblings"])
 
 
 def main(words):
