@@ -15,21 +15,51 @@ fn script() -> [u8; 21] {
     ]
 }
 
+// The record of one candidate, the payment of the block.
+#[rattlefmt::skip]
+fn candidate() -> [u8; 43] {
+    [
+        2, 0, 0, 0, 38, 0, 0, 0, 1, 0, 0, 0, 0, 0, 0, 0, 1, 0, 0, 0, 0, 0, 0, 0, 1, 1, 0, 0, 0, 0, 0, 0,
+        0, 2, 0, 0, 0, 0, 0, 0, 0, 0, 30,
+    ]
+}
+
+// What a proof of account 1 has between the root and the other digests: version, assets, place, account.
+#[rattlefmt::skip]
+fn account() -> [u8; 30] {
+    [
+        1, 1, 0, 0, 0, 0, 0, 0, 0, 0, 0, 0, 0, 1, 0, 0, 0, 0, 0, 0, 0, 0, 0, 0, 0, 0, 0, 0, 0, 100,
+    ]
+}
+
+// The record of a proof of it, whose root and other digests are 0.
+fn proof(alloc: Global) -> Option<Vec<u8>> {
+    let mut proof = Vec::from_slice(alloc, &[6, 0, 0, 2, 62]).ok()?;
+    proof.extend_from_slice(&[0; 32]).ok()?;
+    proof.extend_from_slice(&account()).ok()?;
+    proof.extend_from_slice(&[0; 512]).ok()?;
+    Some(proof)
+}
+
 fn words(alloc: Global, command: &str) -> Option<Vec<String>> {
     let mut words = Vec::new(alloc);
     words.push(String::from_str(alloc, command).ok()?).ok()?;
-    if command == "demo" {
+    if command == "demo" || command == "prove" {
         words.push(String::from_str(alloc, "1").ok()?).ok()?;
     }
     Some(words)
 }
 
-// The records that the command reads: a state, and what comes after it.
+// The records that the command reads: a proof, or a state and what comes after it.
 fn input(alloc: Global, command: &str) -> Option<Vec<u8>> {
+    if command == "verify" {
+        return proof(alloc);
+    }
     let mut input = Vec::from_slice(alloc, &state()).ok()?;
     match command {
-        "check" | "replay" => input.extend_from_slice(&block()).ok()?,
+        "check" | "replay" | "follow" => input.extend_from_slice(&block()).ok()?,
         "interleave" => input.extend_from_slice(&script()).ok()?,
+        "filter" => input.extend_from_slice(&candidate()).ok()?,
         _ => {}
     }
     Some(input)
@@ -43,7 +73,7 @@ fn source(alloc: Global, command: &str, fails: &[u32]) -> Option<MemSource> {
 
 // A sink that takes pieces of 7 bytes and fails at these calls.
 fn sink(alloc: Global, fails: &[u32]) -> Option<MemSink> {
-    let room = vec![in alloc; 0; 300].ok()?;
+    let room = vec![in alloc; 0; 600].ok()?;
     Some(MemSink::new(room, 7, Vec::from_slice(alloc, fails).ok()?))
 }
 
@@ -93,7 +123,8 @@ fn puts_fail<R: Threads + Sync>(rt: &R, alloc: Global, command: &str, puts: u32)
     Some(status == Status::Done && sink.written() == whole.written())
 }
 
-// A state has 87 bytes in 14 takes, and a block 173 in 26; the take after them finds the end.
+// A state has 87 bytes in 14 takes, a block 173 in 26, a candidate 43 in 8 and a proof 579 in 84; the take after them
+// finds the end.
 #[test]
 fn each_take_and_each_put_may_fail(rt: HostRuntime) {
     for (command, takes, puts) in [
@@ -103,6 +134,19 @@ fn each_take_and_each_put_may_fail(rt: HostRuntime) {
         ("migrate", 15, 15),
         ("show", 15, 18),
         ("demo", 0, 26),
+    ] {
+        assert_eq!(rt; takes_fail(&rt, rt.alloc(), command, takes), Some(true));
+        assert_eq!(rt; puts_fail(&rt, rt.alloc(), command, puts), Some(true));
+    }
+}
+
+#[test]
+fn each_take_and_each_put_of_a_choice_a_proof_and_a_follower_may_fail(rt: HostRuntime) {
+    for (command, takes, puts) in [
+        ("filter", 23, 7),
+        ("prove", 15, 83),
+        ("verify", 85, 14),
+        ("follow", 41, 13),
     ] {
         assert_eq!(rt; takes_fail(&rt, rt.alloc(), command, takes), Some(true));
         assert_eq!(rt; puts_fail(&rt, rt.alloc(), command, puts), Some(true));
