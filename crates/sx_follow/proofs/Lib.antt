@@ -5,3 +5,4 @@ pub mod Entering
 pub mod NextBlock
 pub mod Steps
 pub mod Followers
+mod Cases
