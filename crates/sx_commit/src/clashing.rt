@@ -10,7 +10,7 @@
 //!                   ledger    proof
 //! ```
 
-ghost use Rattle.std.specs.Prelude.{◌≡◌, ◌≢◌, IfOk, length, slice_get};
+ghost use Rattle.std.specs.Prelude.{◌≡◌, ◌≢◌, ◌≤◌, IfOk, length, slice_get};
 ghost use Rattle.sx_commit.specs.Clashes.{AreWhole, IsClash, IsCollision, IsProof};
 ghost use Rattle.sx_commit.specs.Commitments.{IsGood, bytes_of, folded, joined, joined_bytes, levels, node_bytes};
 ghost use Rattle.sx_commit.specs.Commitments.{root_of};
@@ -21,6 +21,7 @@ use crate::hashing::{EMPTY, NODE, write_leaf};
 use crate::proof::Proof;
 use crate::verifying::join;
 use std::alloc::Global;
+use std::thread::Threads;
 use sx_block::{Digest, digest_of};
 use sx_bytes::{Bytes, NoMemory, Writer};
 use sx_ledger::Ledger;
@@ -128,10 +129,19 @@ fn collision(alloc: Global, left: &[u8], right: &[u8]) -> Result<Collision, NoMe
 }
 
 /// Nothing where the ledger has at the place of the proof what the proof says, and else two different byte
-/// strings with the same SHA-256. The proof is good for the root of the ledger. `NoMemory` is the only error.
-pub fn clash(alloc: Global, ledger: &Ledger, proof: &Proof) -> Result<Option<Collision>, NoMemory>
+/// strings with the same SHA-256. The proof is good for the root of the ledger. Workers share the digests of the ledger
+/// as at [`prove`](crate::prove). `NoMemory` is the only error.
+pub fn clash<R: Threads + Sync>(
+    rt: &R,
+    alloc: Global,
+    ledger: &Ledger,
+    proof: &Proof,
+    workers: u32,
+) -> Result<Option<Collision>, NoMemory>
     requires good { IsGood (root_of ledger.now) proof.now }
     requires ranges { IsProof proof.now }
+    requires some_worker { 1 ≤ workers }
+    requires few_workers { workers ≤ 64 }
     ensures exact { IfOk result (IsClash ledger.now proof.now) }
 {
     let own = place_text(alloc, ledger, proof.place)?;
@@ -146,7 +156,7 @@ pub fn clash(alloc: Global, ledger: &Ledger, proof: &Proof) -> Result<Option<Col
         let found = collision(alloc, own.bytes(), said.bytes())?;
         return Ok(Some(found));
     }
-    let own_siblings = siblings(alloc, ledger, proof.place)?;
+    let own_siblings = siblings(rt, alloc, ledger, proof.place, workers)?;
     let found = climb(
         alloc,
         proof.place,

@@ -1,6 +1,6 @@
 //! The digest over all accounts, and proofs of one of them.
 
-ghost use Rattle.std.specs.Prelude.{◌≡◌, ◌<◌, IfOk, Some, length, slice_get};
+ghost use Rattle.std.specs.Prelude.{◌≡◌, ◌<◌, ◌≤◌, IfOk, Some, length, slice_get};
 ghost use Rattle.sx_block.specs.Digest.{IsDigest};
 ghost use Rattle.sx_commit.specs.Clashes.{IsProof};
 ghost use Rattle.sx_commit.specs.Commitments.{IsGood, most_places, place_beside, root_of, siblings_of};
@@ -8,6 +8,7 @@ ghost use Rattle.sx_commit.specs.Commitments.{IsGood, most_places, place_beside,
 use crate::level::Level;
 use crate::proof::Proof;
 use std::alloc::Global;
+use std::thread::Threads;
 use sx_block::{Digest, Digests};
 use sx_bytes::NoMemory;
 use sx_ledger::Ledger;
@@ -15,14 +16,23 @@ use sx_ledger::Ledger;
 // How many levels there are above the leaves.
 pub(crate) const LEVELS: usize = 16;
 
-/// The digest over all accounts: the root of the tree. `NoMemory` is the only error.
-pub fn commit(alloc: Global, ledger: &Ledger) -> Result<Digest, NoMemory>
+/// The digest over all accounts: the root of the tree. Of a level with many digests 1 to 64 workers make a part
+/// each, in threads that are started and joined for it. The answer is the same for every number of them.
+/// `NoMemory` is the only error.
+pub fn commit<R: Threads + Sync>(
+    rt: &R,
+    alloc: Global,
+    ledger: &Ledger,
+    workers: u32,
+) -> Result<Digest, NoMemory>
+    requires some_worker { 1 ≤ workers }
+    requires few_workers { workers ≤ 64 }
     ensures root { IfOk result (λ root. root ≡ root_of ledger.now) }
     ensures digest { IfOk result IsDigest }
 {
-    let mut level = Level::leaves(alloc, ledger)?;
+    let mut level = Level::leaves(rt, alloc, ledger, workers)?;
     for _ in 0..LEVELS {
-        level = level.above(alloc)?;
+        level = level.above(rt, alloc, workers)?;
     }
     Ok(level.at(0))
 }
@@ -35,26 +45,42 @@ fn beside(place: usize) -> usize
     if place % 2 == 0 { place + 1 } else { place - 1 }
 }
 
-// The digests beside the way from a place to the root.
-pub(crate) fn siblings(alloc: Global, ledger: &Ledger, place: u32) -> Result<Digests, NoMemory>
-    requires { place < most_places }
+// The digests beside the way from a place to the root. So many workers make each level.
+pub(crate) fn siblings<R: Threads + Sync>(
+    rt: &R,
+    alloc: Global,
+    ledger: &Ledger,
+    place: u32,
+    workers: u32,
+) -> Result<Digests, NoMemory>
+    requires place { place < most_places }
+    requires some_worker { 1 ≤ workers }
     ensures { IfOk result (λ siblings. siblings ≡ siblings_of ledger.now place) }
 {
     let mut siblings = Vec::with_capacity(alloc, LEVELS)?;
-    let mut level = Level::leaves(alloc, ledger)?;
+    let mut level = Level::leaves(rt, alloc, ledger, workers)?;
     for k in 0..LEVELS {
         let way = place as usize >> k;
         let sibling = level.at(beside(way));
         siblings.push(sibling)?;
-        level = level.above(alloc)?;
+        level = level.above(rt, alloc, workers)?;
     }
     Ok(Digests::of(siblings))
 }
 
-/// The proof of the account at a place: it is good for the root that [`commit`] answers. `NoMemory` is the only
-/// error.
-pub fn prove(alloc: Global, ledger: &Ledger, place: u32) -> Result<Proof, NoMemory>
-    requires { place < length ledger.now.accounts }
+/// The proof of the account at a place: it is good for the root that [`commit`] answers. Of a level with many
+/// digests 1 to 64 workers make a part each, in threads that are started and joined for it. The answer is the same
+/// for every number of them. `NoMemory` is the only error.
+pub fn prove<R: Threads + Sync>(
+    rt: &R,
+    alloc: Global,
+    ledger: &Ledger,
+    place: u32,
+    workers: u32,
+) -> Result<Proof, NoMemory>
+    requires place { place < length ledger.now.accounts }
+    requires some_worker { 1 ≤ workers }
+    requires few_workers { workers ≤ 64 }
     ensures version { IfOk result (λ proof. proof.version ≡ ledger.now.version) }
     ensures place { IfOk result (λ proof. proof.place ≡ place) }
     ensures account { IfOk result (λ proof. slice_get ledger.now.accounts place ≡ Some proof.account) }
@@ -64,7 +90,7 @@ pub fn prove(alloc: Global, ledger: &Ledger, place: u32) -> Result<Proof, NoMemo
 {
     let version = ledger.version();
     let account = ledger.account(place).copy()?;
-    let siblings = siblings(alloc, ledger, place)?;
+    let siblings = siblings(rt, alloc, ledger, place, workers)?;
     Ok(Proof {
         version,
         place,

@@ -1,14 +1,12 @@
 //! Whether a proof is good.
 
-ghost use Rattle.std.specs.Prelude.{◌≡◌, ◌<◌, ◌≤◌, ◌↔◌, IfOk, IsTrue, length};
+ghost use Rattle.std.specs.Prelude.{◌≡◌, ◌<◌, ◌≤◌, ◌↔◌, IsTrue, length};
 ghost use Rattle.sx_commit.specs.Commitments.{IsGood, folded, joined, leaf_of, levels};
 
 use crate::committing::LEVELS;
 use crate::hashing::{leaf_digest, node_digest};
 use crate::proof::Proof;
-use std::alloc::Global;
 use sx_block::Digest;
-use sx_bytes::{NoMemory, Writer};
 
 // The digest over a digest at a place and its sibling.
 pub(crate) fn join(place: u32, digest: &Digest, sibling: &Digest) -> Digest
@@ -35,23 +33,21 @@ fn fold(place: u32, siblings: &[Digest], leaf: &Digest) -> Digest
 
 /// The root that a proof is good for: the digest that its account's leaf, with the siblings one after the other,
 /// leads up to. It takes the sixteen lowest bits of the place, and looks at no range: a place of 65,536 or more has
-/// to be refused before. `NoMemory` is the only error.
-pub fn leads_to(alloc: Global, proof: &Proof) -> Result<Digest, NoMemory>
+/// to be refused before. It takes no memory.
+pub fn leads_to(proof: &Proof) -> Digest
     requires siblings { length proof.now.siblings ≡ levels }
-    ensures good { IfOk result (λ root. IsGood root proof.now) }
+    ensures good { IsGood result proof.now }
 {
-    let mut bytes = Writer::new(alloc);
-    let leaf = leaf_digest(&mut bytes, proof.version, &proof.account)?;
-    Ok(fold(proof.place, proof.siblings.items(), &leaf))
+    let leaf = leaf_digest(proof.version, &proof.account);
+    fold(proof.place, proof.siblings.items(), &leaf)
 }
 
-/// Whether a proof is good for a root: whether the root is the one that [`leads_to`] answers. `NoMemory` is the only
-/// error.
-pub fn verify(alloc: Global, root: &Digest, proof: &Proof) -> Result<bool, NoMemory>
+/// Whether a proof is good for a root: whether the root is the one that [`leads_to`] answers. It takes no memory.
+pub fn verify(root: &Digest, proof: &Proof) -> bool
     requires siblings { length proof.now.siblings ≡ levels }
-    ensures exact { IfOk result (λ good. IsTrue good ↔ IsGood root.now proof.now) }
+    ensures exact { IsTrue result ↔ IsGood root.now proof.now }
 {
-    let reached = leads_to(alloc, proof)?;
+    let reached = leads_to(proof);
     let said = *root;
-    Ok(reached == said)
+    reached == said
 }

@@ -12,6 +12,7 @@ ghost use Rattle.sx_meaning.specs.Items as item;
 ghost use Rattle.sx_meaning.specs.Proving.{proof_in};
 
 use std::alloc::Global;
+use std::thread::Threads;
 use sx_base::{AccountId, Source};
 use sx_block::Digest;
 use sx_bytes::{NoMemory, Writer};
@@ -19,10 +20,16 @@ use sx_commit::{Proof, commitment_laws, leads_to, proof_laws, write_proof};
 use sx_input::{Stop, end, take};
 use sx_ledger::Ledger;
 use sx_record::{tag, write_record};
-use sx_words::Command;
+use sx_words::{Command, Setting};
 
-// The record of the proof of the account at a place, with the root of the ledger.
-fn proof_record(alloc: Global, ledger: &Ledger, place: u32) -> Result<Writer, NoMemory>
+// The record of the proof of the account at a place, with the root of the ledger. As many workers make the digests as
+// where a command is given no number of them.
+fn proof_record<R: Threads + Sync>(
+    rt: &R,
+    alloc: Global,
+    ledger: &Ledger,
+    place: u32,
+) -> Result<Writer, NoMemory>
     requires ledger { IsLedger ledger.now }
     requires place { place < length ledger.now.accounts }
     ensures { (account : Entry) → slice_get ledger.now.accounts place ≡ Some account
@@ -30,8 +37,9 @@ fn proof_record(alloc: Global, ledger: &Ledger, place: u32) -> Result<Writer, No
 {
     commitment_laws();
     proof_laws();
-    let proof = sx_commit::prove(alloc, ledger, place)?;
-    let root = leads_to(alloc, &proof)?;
+    let workers = Setting::Workers.default();
+    let proof = sx_commit::prove(rt, alloc, ledger, place, workers)?;
+    let root = leads_to(&proof);
     let mut payload = Writer::new(alloc);
     write_proof(&mut payload, &root, &proof)?;
     let mut told = Writer::new(alloc);
@@ -40,24 +48,34 @@ fn proof_record(alloc: Global, ledger: &Ledger, place: u32) -> Result<Writer, No
 }
 
 // The record of the proof of an account, or nothing where there is no such account.
-fn proved(alloc: Global, ledger: &Ledger, id: u64) -> Result<Writer, Stop>
+fn proved<R: Threads + Sync>(
+    rt: &R,
+    alloc: Global,
+    ledger: &Ledger,
+    id: u64,
+) -> Result<Writer, Stop>
     requires { IsLedger ledger.now }
     ensures concludes { ConcludesAs (Command.Prove id) (item.state ledger.now ∷ []) result }
     ensures calm { IsErrOf result Stop.ReadFault → ⊥ }
 {
     match ledger.find(AccountId(id)) {
-        Some(place) => Ok(proof_record(alloc, ledger, place)?),
+        Some(place) => Ok(proof_record(rt, alloc, ledger, place)?),
         None => Ok(Writer::new(alloc)),
     }
 }
 
 // The record of the proof of an account of the state of the input, or nothing where it has no such account.
-pub fn prove<S: Source>(alloc: Global, id: u64, source: &mut S) -> Result<Writer, Stop>
+pub fn prove<R: Threads + Sync, S: Source>(
+    rt: &R,
+    alloc: Global,
+    id: u64,
+    source: &mut S,
+) -> Result<Writer, Stop>
     ensures found { Found (Command.Prove id) (S.left source.old) (S.left source.new) result }
     ensures steady { UnlessReadFault result (IsTrue (S.strict source.old) → S.faults source.new ≡ S.faults source.old) }
     ensures read_fault { IsErrOf result Stop.ReadFault → Rose (S.faults source.old) (S.faults source.new) }
 {
     let opening = take::<Ledger, S>(alloc, source, 0)?;
     end(alloc, source, opening.end)?;
-    proved(alloc, &opening.held, id)
+    proved(rt, alloc, &opening.held, id)
 }

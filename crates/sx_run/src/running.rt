@@ -78,7 +78,7 @@ fn output_of<R: Threads + Sync, S: Source, G: Gate + Sync, L: Ledger>(
         Command::Migrate => recorded(migrate(alloc, source)),
         Command::Show => told(show(alloc, source)),
         Command::Filter { workers } => recorded(filter(rt, alloc, workers, source)),
-        Command::Prove { id } => recorded(prove(alloc, id, source)),
+        Command::Prove { id } => recorded(prove(rt, alloc, id, source)),
         Command::Verify => told(verify(alloc, source)),
         Command::Follow => recorded(follow(alloc, source)),
         Command::Demo { number, workers } => {

@@ -21,7 +21,7 @@ fn verdict(alloc: Global, root: &Digest, proof: &Proof) -> Result<Text, Stop>
     ensures concludes { ConcludesAs Command.Verify (item.proof (root.now, proof.now) ∷ []) result }
     ensures calm { IsErrOf result Stop.ReadFault → ⊥ }
 {
-    let good = sx_commit::verify(alloc, root, proof)?;
+    let good = sx_commit::verify(root, proof);
     Ok(proof_line(alloc, root, proof, good)?)
 }
 

@@ -1,7 +1,10 @@
 //! The proof of one account, against the bytes that another implementation makes of it.
 
+ghost use Rattle.std.specs.Prelude.{◌≤◌};
+
 use std::alloc::Global;
 use std::test::Fail;
+use std::thread::Threads;
 use sx_bytes::Writer;
 use sx_commit::*;
 use sx_ledger::{Ledger, read_state};
@@ -78,13 +81,16 @@ fn record() -> [u8; 579] {
 }
 
 // The record of the proof of the first account. The ledger has to say what the proof says.
-fn proved(alloc: Global, ledger: &Ledger) -> Option<Writer> {
+fn proved<R: Threads + Sync>(rt: &R, alloc: Global, ledger: &Ledger, workers: u32) -> Option<Writer>
+    requires some_worker { 1 ≤ workers }
+    requires few_workers { workers ≤ 64 }
+{
     if ledger.accounts() == 0 {
         return None;
     }
-    let root = commit(alloc, ledger).ok()?;
-    let proof = prove(alloc, ledger, 0).ok()?;
-    let found = clash(alloc, ledger, &proof).ok()?;
+    let root = commit(rt, alloc, ledger, workers).ok()?;
+    let proof = prove(rt, alloc, ledger, 0, workers).ok()?;
+    let found = clash(rt, alloc, ledger, &proof, workers).ok()?;
     let mut payload = Writer::new(alloc);
     write_proof(&mut payload, &root, &proof).ok()?;
     if found.is_some() || payload.bytes().len() > 830 {
@@ -98,14 +104,16 @@ fn proved(alloc: Global, ledger: &Ledger) -> Option<Writer> {
 // Whether the proof in a payload is good for the root there.
 fn is_good(alloc: Global, payload: &[u8]) -> Option<bool> {
     let (root, proof) = read_proof(alloc, payload).ok()?;
-    verify(alloc, &root, &proof).ok()
+    Some(verify(&root, &proof))
 }
 
 #[test]
 fn the_record_of_a_proof(rt: HostRuntime) -> Result<(), Fail> {
     let ledger = read_state(rt.alloc(), state().as_slice())?;
-    let told = proved(rt.alloc(), &ledger);
-    assert!(rt; told.is_some_and(|told| told.bytes() == record().as_slice()));
+    let one = proved(&rt, rt.alloc(), &ledger, 1);
+    assert!(rt; one.is_some_and(|told| told.bytes() == record().as_slice()));
+    let four = proved(&rt, rt.alloc(), &ledger, 4);
+    assert!(rt; four.is_some_and(|told| told.bytes() == record().as_slice()));
     commitment_laws();
     proof_laws();
     Ok(())

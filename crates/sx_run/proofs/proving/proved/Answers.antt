@@ -5,7 +5,7 @@ use Rattle.sx_run.proofs.Accounts.{found_from, none_from, some_account}
 use Rattle.sx_run.proofs.proving.proved.Goals as goal
 
 pub returns-in_ok-proof_record-in-Some-clause-concludes : goal.returns-in_ok-proof_record-in-Some-clause-concludes
-returns-in_ok-proof_record-in-Some-clause-concludes c =
+returns-in_ok-proof_record-in-Some-clause-concludes g c =
     let parts = c.args.ledger.now in
     let held = some_account parts c.args.id c.in-Some.place c.in-Some.ensures.found in (
       record { parts = parts; are = refl; finds = refl },
@@ -15,7 +15,7 @@ returns-in_ok-proof_record-in-Some-clause-concludes c =
     )
 
 pub returns-in-None-clause-concludes : goal.returns-in-None-clause-concludes
-returns-in-None-clause-concludes c =
+returns-in-None-clause-concludes g c =
     let parts = c.args.ledger.now in (
       record { parts = parts; are = refl; finds = refl },
       c.new.ensures
