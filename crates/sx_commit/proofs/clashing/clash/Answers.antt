@@ -6,7 +6,7 @@ use Rattle.sx_commit.proofs.Clashes.{is_said, one_root, siblings_length, sibling
 use Rattle.sx_commit.proofs.clashing.clash.Goals as goal
 
 pub returns-then-eq : goal.returns-then-eq
-returns-then-eq c =
+returns-then-eq g c =
     let parts = c.args.ledger.now in
     let proof = c.args.proof.now in
     let own_is : c.bytes.result.now ≡ bytes_of parts.version (slice_get parts.accounts proof.place) = search rules in
@@ -15,17 +15,17 @@ returns-then-eq c =
     record { exact = is_said parts proof (sym own_is ∙ same ∙ said_is) }
 
 pub climb-requires-clause-own_whole : goal.climb-requires-clause-own_whole
-climb-requires-clause-own_whole c =
+climb-requires-clause-own_whole g c =
     let is : c.items.result.now ≡ siblings_of c.args.ledger.now c.args.proof.now.place = search rules in
     siblings_length c.args.ledger.now c.args.proof.now.place c.items.result.now is
 
 pub climb-requires-clause-own_digests : goal.climb-requires-clause-own_digests
-climb-requires-clause-own_digests c =
+climb-requires-clause-own_digests g c =
     let is : c.items.result.now ≡ siblings_of c.args.ledger.now c.args.proof.now.place = search rules in
     siblings_whole c.args.ledger.now c.args.proof.now.place c.items.result.now is
 
 pub climb-requires-clause-one_root : goal.climb-requires-clause-one_root
-climb-requires-clause-one_root c =
+climb-requires-clause-one_root g c =
     let parts = c.args.ledger.now in
     let proof = c.args.proof.now in
     let own_is : c.bytes-3.result.now ≡ bytes_of parts.version (slice_get parts.accounts proof.place) = search rules in

@@ -5,9 +5,9 @@ use Rattle.sx_commit.proofs.Levels.{one_up}
 use Rattle.sx_commit.proofs.committing.commit.Goals as goal
 
 pub loop-preserved : goal.loop-preserved
-loop-preserved c =
+loop-preserved g c =
     one_up c.args.ledger.now c.loop.counter c.loop.level c.in_ok-level-2.level c.loop.invariant c.in_ok-level-2.ensures
 
 pub returns-clause-digest : goal.returns-clause-digest
-returns-clause-digest c =
+returns-clause-digest g c =
     subst IsDigest (sym (c.at.ensures ∙ c.loop.invariant 0)) (digest_is c.args.ledger.now c.loop.counter 0)

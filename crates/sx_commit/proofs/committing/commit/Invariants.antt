@@ -2,4 +2,4 @@ use Rattle.sx_commit.specs.Levels.{IsLevel}
 use Rattle.sx_commit.proofs.committing.commit.Given as goal
 
 abbrev pub invariant-loop : goal.invariant-loop
-invariant-loop l = IsLevel l.ledger l.counter l.level
+invariant-loop g l = IsLevel l.ledger l.counter l.level

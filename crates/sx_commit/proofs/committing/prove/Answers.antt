@@ -4,7 +4,7 @@ use Rattle.sx_commit.proofs.Ranges.{proof_is}
 use Rattle.sx_commit.proofs.committing.prove.Goals as goal
 
 pub returns-clause-good : goal.returns-clause-good
-returns-clause-good c =
+returns-clause-good g c =
     true_is_good c.args.ledger.now
     record {
       version = c.version-version.result;
@@ -12,13 +12,13 @@ returns-clause-good c =
       account = c.in_ok-account.account;
       siblings = c.in_ok-siblings.siblings;
     }
-    (omega (arith, c.requires, c.account.ensures.kept.few_accounts))
+    (omega (arith, c.requires.place, c.account.ensures.kept.few_accounts))
     c.version-version.ensures.version
     (c.account.ensures.account ∙ ap Some (sym c.in_ok-account.ensures))
     c.in_ok-siblings.ensures
 
 pub returns-clause-ranges : goal.returns-clause-ranges
-returns-clause-ranges c =
+returns-clause-ranges g c =
     proof_is c.args.ledger.now
     record {
       version = c.version-version.result;
@@ -26,6 +26,6 @@ returns-clause-ranges c =
       account = c.in_ok-account.account;
       siblings = c.in_ok-siblings.siblings;
     }
-    c.account.ensures.kept c.requires c.version-version.ensures.version
+    c.account.ensures.kept c.requires.place c.version-version.ensures.version
     (c.account.ensures.account ∙ ap Some (sym c.in_ok-account.ensures))
     c.in_ok-siblings.ensures

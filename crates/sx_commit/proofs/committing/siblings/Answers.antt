@@ -5,13 +5,13 @@ use Rattle.sx_commit.proofs.Listing.{listed_none, pushed}
 use Rattle.sx_commit.proofs.committing.siblings.Goals as goal
 
 pub loop-k-init : goal.loop-k-init
-loop-k-init c = (
+loop-k-init g c = (
   c.in_ok-level.ensures,
   c.in_ok-siblings.ensures.items ∙ sym (listed_none (sibling_at c.args.ledger.now c.args.place)),
 )
 
 pub loop-k-preserved : goal.loop-k-preserved
-loop-k-preserved c = (
+loop-k-preserved g c = (
   one_up c.args.ledger.now c.loop-k.k c.loop-k.level c.in_ok-level-2.level c.loop-k.invariant.0
       c.in_ok-level-2.ensures,
   c.in_ok-push.ensures.items

@@ -4,5 +4,5 @@ use Rattle.sx_commit.specs.Levels.{IsLevel}
 use Rattle.sx_commit.proofs.committing.siblings.Given as goal
 
 abbrev pub invariant-loop-k : goal.invariant-loop-k
-invariant-loop-k l =
+invariant-loop-k g l =
     IsLevel l.ledger l.k l.level × (l.siblings.items ≡ listed (sibling_at l.ledger l.fn.place) l.k)

@@ -1,20 +1,17 @@
-use Rattle.std.proofs.Common.{arith, sym, ◌∙◌}
-use Rattle.sx_commit.proofs.Levels.{above_is, node_in}
-use Rattle.sx_commit.proofs.Listing.{listed_none, pushed}
+use Rattle.std.proofs.Common.{◌≡◌, ◌≤◌, ◌*◌, ℕ, List, length, get_or, arith, subst, sym}
+use Rattle.sx_commit.proofs.Levels.{above_is, node_in, written_is}
 use Rattle.sx_commit.proofs.level.Level.above.Goals as goal
 
-pub loop-place-init : goal.loop-place-init
-loop-place-init c =
-    c.in_ok-digests.ensures.items ∙ sym (listed_none (node_in c.args.self.now.digests.items c.args.self.now.empty))
-
-pub loop-place-preserved : goal.loop-place-preserved
-loop-place-preserved c =
-    c.in_ok-push.ensures.items
-    ∙ pushed (node_in c.args.self.now.digests.items c.args.self.now.empty) c.loop-place.digests.items c.loop-place.place
-    c.node.result c.node.ensures c.loop-place.invariant
-
 pub returns : goal.returns
-returns c =
-    above_is c.args.self.now.digests.items c.args.self.now.empty c.loop-place.place c.loop-place.digests.items
-    c.node_digest-empty.result c.loop-place.invariant (omega (arith, c.len.ensures, c.div_ceil-count.ensures))
-    c.node_digest-empty.ensures.hash
+returns g c =
+    let below = c.args.self.now.digests.items in
+    let nothing = c.args.self.now.empty in
+    let digests = c.make_nodes.new.digests in
+    let empty = c.node_digest-empty.result in
+    let made = c.in_ok-digests.digests in
+    let as_many : length digests ≡ made.len = omega (arith, c.make_nodes.ensures.one_each, c.deref_mut.ensures.len) in
+    let enough : length below ≤ 2 * length digests =
+    omega (arith, as_many, c.len.ensures, c.div_ceil-count.ensures, c.in_ok-digests.ensures.len) in
+    subst (λ (all : List (List ℕ)). (place : ℕ) → get_or all place empty ≡ node_in below nothing place)
+    (sym (written_is made.len digests made.items as_many))
+    (above_is below nothing digests empty enough c.make_nodes.ensures.nodes c.node_digest-empty.ensures.hash)
