@@ -26,7 +26,9 @@
 //! proof have it and that each fits a record.
 //!
 //! Cost: all places after the accounts have one digest at each level, so that a root or a proof takes about
-//! twice as many digests as there are accounts, and memory for one level and the one above it.
+//! twice as many digests as there are accounts, and memory for one level and the one above it. The levels are made
+//! one after the other. Of a level with 2,048 digests or more several threads make a part each, which are started for
+//! it and joined after it.
 //!
 //! Not here: that nobody finds such a collision, for which SHA-256 is trusted.
 //!
