@@ -60,7 +60,7 @@ pub fn print_bounds<R: Threads + Sync + Print + AllocGlobal>(
     ensure!(2 <= assets && assets <= 32, "from 2 to 32 assets");
     let quotes = draw_quotes(rt.alloc(), size, assets)?;
     ensure!(quotes.len() <= MOST_OFFERS, "at most {MOST_OFFERS} offers");
-    let curves = curves_of(rt.alloc(), assets, &quotes)?;
+    let curves = curves_of(rt.alloc(), assets, quotes)?;
     let one = Price::new(1 << 24)?;
     let first = Prices::of(vec![in rt.alloc(); one; assets as usize]?);
     let found = sx_search::search(rt, rt.alloc(), &curves, &first, Mu::new(MU)?, TRIALS)?;

@@ -29,10 +29,10 @@ pub const TRIALS: u32 = 500;
 const MU: u8 = Mu::MOST;
 
 /// The curves of these offers.
-pub fn curves_of(alloc: Global, assets: u32, quotes: &[Quote]) -> Result<Curves>
+pub fn curves_of(alloc: Global, assets: u32, quotes: Vec<Quote>) -> Result<Curves>
     requires assets { (2 ≤ assets) × (assets ≤ 32) }
-    requires count { length quotes.now ≤ 2 ^ 20 }
-    requires small { All (IsSmall assets) quotes.now }
+    requires count { length quotes.items ≤ 2 ^ 20 }
+    requires small { All (IsSmall assets) quotes.items }
     ensures { IfOk result (λ curves. curves.assets ≡ assets) }
 {
     Ok(Curves::build(alloc, assets, quotes)?)
@@ -49,6 +49,7 @@ fn build_once<R: Clock + AllocGlobal>(
     requires small { All (IsSmall assets) quotes.now }
     ensures { IfOk result (λ made. made.0.assets ≡ assets) }
 {
+    let quotes = quotes.to_vec(rt.alloc())?;
     let start = Instant::now(rt)?;
     let curves = curves_of(rt.alloc(), assets, quotes)?;
     Ok((curves, start.elapsed(rt)?.as_nanos()))

@@ -24,7 +24,7 @@ pub fn offer_curves(alloc: Global, assets: u32, offers: &[Offer]) -> Result<Curv
     ensures quotes { IfOk result (λ curves. IsPermutation (the_quotes_of offers.now) curves.quotes) }
 {
     let quotes = quotes_of(alloc, offers)?;
-    Curves::build(alloc, assets, &quotes)
+    Curves::build(alloc, assets, quotes)
 }
 
 /// The supply curves of the offers after a body. `NoMemory` is the only error. It goes over the transactions once, and sorts the quotes.

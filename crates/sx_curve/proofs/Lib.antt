@@ -4,6 +4,7 @@ pub mod Digits
 pub mod SearchLaws
 pub mod SearchCases
 pub mod InOrder
+pub mod BracketLaws
 pub mod Segments
 pub mod BelowSums
 pub mod FirstSums

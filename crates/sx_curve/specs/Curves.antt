@@ -79,6 +79,13 @@ pub record ReachesTo (pair : List Quote) (num den count : ℕ) : Type 0 where
   pub below : AllWithin (λ quote. is_below num den quote ≡ true) pair 0 count
   pub above : AllWithin (λ quote. is_below num den quote ≡ false) pair count (length pair)
 
+-- of a pair's quotes those before the one index have such a limit, and those from the other on have none
+pub record IsBracket (pair : List Quote) (num den low high : ℕ) : Type 0 where
+  pub ordered : low ≤ high
+  pub within : high ≤ length pair
+  pub below : AllWithin (λ quote. is_below num den quote ≡ true) pair 0 low
+  pub above : AllWithin (λ quote. is_below num den quote ≡ false) pair high (length pair)
+
 -- where each pair begins, by its place, and at last the end of the list
 pub record AreBegins (quotes : List Quote) (begins : List ℕ) : Type 0 where
   pub full : length begins ≡ 1025

@@ -36,26 +36,26 @@ impl Model for Curves {
 }
 
 // The quotes in order.
-fn sorted(alloc: Global, quotes: &[Quote]) -> Result<Vec<Quote>, NoMemory>
-    ensures all { IfOk result (λ sorted. IsPermutation quotes.now sorted.items) }
-    ensures in_order { IfOk result (λ sorted. AreInOrder sorted.items) }
+fn sorted(quotes: Vec<Quote>) -> Vec<Quote>
+    ensures all { IsPermutation quotes.items result.items }
+    ensures in_order { AreInOrder result.items }
 {
-    let mut sorted = quotes.to_vec(alloc)?;
-    sorted.sort_unstable();
-    Ok(sorted)
+    let mut quotes = quotes;
+    quotes.sort_unstable();
+    quotes
 }
 
 impl Curves {
     /// The curves of these quotes, where there are 1 to 32 assets. Each quote sells an asset below
     /// that number for another one, and the amounts that sell an asset add up to at most `2^62`.
-    /// `NoMemory` is the only error. It sorts a copy of the quotes, of which the order is free, and
-    /// goes over it once: n log n for n quotes.
-    pub fn build(alloc: Global, assets: u32, quotes: &[Quote]) -> Result<Curves, NoMemory>
-        requires { AreQuotes assets quotes.now }
+    /// `NoMemory` is the only error. It keeps the list, of which the order is free, sorts it where it
+    /// stands, and goes over it once: n log n for n quotes.
+    pub fn build(alloc: Global, assets: u32, quotes: Vec<Quote>) -> Result<Curves, NoMemory>
+        requires { AreQuotes assets quotes.items }
         ensures assets { IfOk result (λ curves. curves.assets ≡ assets) }
-        ensures quotes { IfOk result (λ curves. IsPermutation quotes.now curves.quotes) }
+        ensures quotes { IfOk result (λ curves. IsPermutation quotes.items curves.quotes) }
     {
-        let sorted = sorted(alloc, quotes)?;
+        let sorted = sorted(quotes);
         let prefixes = prefixes_of(alloc, &sorted)?;
         let begins = begins_of(alloc, &sorted)?;
         Ok(Curves {
@@ -103,8 +103,8 @@ impl Curves {
     /// The sums over the quotes that sell `sell` for `buy` at a limit of at most `num` over `den`, in
     /// units of `2^-24`: over those with limit times `den` at most `num`. With a price of the sold
     /// asset times `2^24` over a price of the bought asset these are the quotes that may trade at the
-    /// two prices. It takes as many steps as the number of the pair's quotes has binary digits, and no
-    /// memory.
+    /// two prices. It takes as many steps as the number of the pair's quotes has binary digits, or
+    /// twice as many, and no memory.
     pub fn below(&self, sell: AssetId, buy: AssetId, num: u128, den: u128) -> Sums
         requires { den ≤ 2 ^ 60 }
         ensures amount { result.amount ≡ amounts (quotes_below sell buy num den self.now.quotes) }
@@ -112,8 +112,31 @@ impl Curves {
         ensures amount_range { result.amount ≤ 2 ^ 62 }
         ensures weighted_range { result.weighted ≤ 2 ^ 56 * result.amount }
     {
+        let mut near = 0;
+        self.below_near(sell, buy, num, den, &mut near)
+    }
+
+    /// The same sums, found from a guess, which may be any number. `near` is afterwards the number of
+    /// the quotes that the sums are over: a good guess for a limit near this one. With d quotes between
+    /// the guess and the answer it takes twice as many steps as d has binary digits, and two where the
+    /// guess is right. Of a pair without quotes it answers at once.
+    pub fn below_near(
+        &self,
+        sell: AssetId,
+        buy: AssetId,
+        num: u128,
+        den: u128,
+        near: &mut usize,
+    ) -> Sums
+        requires { den ≤ 2 ^ 60 }
+        ensures amount { result.amount ≡ amounts (quotes_below sell buy num den self.now.quotes) }
+        ensures weighted { result.weighted ≡ weighted_amounts (quotes_below sell buy num den self.now.quotes) }
+        ensures amount_range { result.amount ≤ 2 ^ 62 }
+        ensures weighted_range { result.weighted ≤ 2 ^ 56 * result.amount }
+    {
         let (begin, end) = self.ends_of(sell, buy);
-        let count = count_below(&self.sorted[begin..end], num, den);
+        let count = count_below(&self.sorted[begin..end], num, den, *near);
+        *near = count;
         let before = self.prefix(begin);
         let through = self.prefix(begin + count);
         Sums {

@@ -17,9 +17,13 @@
 //! ```
 //!
 //! [`Curves::build`] sorts the quotes of all pairs once and keeps the sums of the first of them, and
-//! where each pair begins. [`Curves::below`] then tells, by one binary search and without memory, the
-//! sums over a pair's quotes up to any limit: of their amounts, at most `2^62`, and of each amount
-//! times its limit, at most `2^118`. The sums that it keeps are below `2^68` and `2^124`.
+//! where each pair begins. [`Curves::below`] then tells, by one search and without memory, the sums
+//! over a pair's quotes up to any limit: of their amounts, at most `2^62`, and of each amount times its
+//! limit, at most `2^118`. The sums that it keeps are below `2^68` and `2^124`.
+//!
+//! [`Curves::below_near`] begins its search at a guess. It goes outward from there in steps that double
+//! and then halves the last one: with d quotes between the guess and the answer it makes two times
+//! log d steps, and two where the guess is right.
 //!
 //! `specs/Demand` says what all pairs sell at given prices, and by how much more of each asset is
 //! wanted than sold; `specs/Search` says which prices the search ends at, whatever finds them. Both
@@ -30,7 +34,9 @@
 //!
 //! Source: Ramseyer, Goel and Mazières, "SPEEDEX: A Scalable, Parallelizable, and Economically
 //! Efficient Decentralized EXchange" (NSDI 2023), for the demand of a batch, its interpolation by μ
-//! and the search by tâtonnement. The rule in whole numbers is this project's own.
+//! and the search by tâtonnement. The rule in whole numbers is this project's own. The search from a
+//! guess: Bentley and Yao, "An almost optimal algorithm for unbounded searching" (Information Processing
+//! Letters 5, 1976).
 #![tactic(auto)]
 
 mod curves;

@@ -53,6 +53,7 @@ fn curves_of(alloc: Global, quotes: &[Quote]) -> Option<Curves> {
     if quotes.len() > 8 || !small {
         return None;
     }
+    let quotes = quotes.to_vec(alloc).ok()?;
     Curves::build(alloc, 3, quotes).ok()
 }
 

@@ -36,8 +36,8 @@ fn quote(sell: u8, buy: u8, amount: u64) -> Option<Quote>
 fn halves(alloc: Global) -> Option<Curves>
     ensures { IfSome result (λ curves. curves.assets ≡ 3) }
 {
-    let quotes = [quote(0, 1, 100)?, quote(1, 0, 50)?];
-    Curves::build(alloc, 3, &quotes).ok()
+    let quotes = [quote(0, 1, 100)?, quote(1, 0, 50)?].to_vec(alloc).ok()?;
+    Curves::build(alloc, 3, quotes).ok()
 }
 
 fn ones(alloc: Global) -> Option<Prices>
@@ -81,7 +81,7 @@ fn alike(alloc: Global, quote: Quote, count: usize) -> Result<Curves, NoMemory>
     ensures { IfOk result (λ curves. curves.assets ≡ 32) }
 {
     let quotes = vec![in alloc; quote; count]?;
-    Curves::build(alloc, 32, &quotes)
+    Curves::build(alloc, 32, quotes)
 }
 
 fn many_ones(alloc: Global) -> Option<Prices>

@@ -4,23 +4,23 @@ use Rattle.sx_curve.proofs.curves.Curves.build.Goals as goal
 
 pub prefixes_of-requires : goal.prefixes_of-requires
 prefixes_of-requires c =
-    let sorted = c.in_ok-sorted.sorted.items in
-    let market = permuted_market c.args.assets c.args.quotes.now sorted c.in_ok-sorted.ensures.all c.requires in
+    let sorted = c.sorted-sorted.result.items in
+    let market = permuted_market c.args.assets c.args.quotes.items sorted c.sorted-sorted.ensures.all c.requires in
     rw c.deref.ensures.value (all_fit c.args.assets sorted market)
 
 pub begins_of-requires : goal.begins_of-requires
 begins_of-requires c =
-    let sorted = c.in_ok-sorted.sorted.items in
-    let market = permuted_market c.args.assets c.args.quotes.now sorted c.in_ok-sorted.ensures.all c.requires in
-    rw c.deref-2.ensures.value (places_rise c.args.assets sorted market c.in_ok-sorted.ensures.in_order)
+    let sorted = c.sorted-sorted.result.items in
+    let market = permuted_market c.args.assets c.args.quotes.items sorted c.sorted-sorted.ensures.all c.requires in
+    rw c.deref-2.ensures.value (places_rise c.args.assets sorted market c.sorted-sorted.ensures.in_order)
 
 pub invariant_of-result : goal.invariant_of-result
 invariant_of-result c =
-    let sorted = c.in_ok-sorted.sorted.items in
+    let sorted = c.sorted-sorted.result.items in
     record {
-      market = permuted_market c.args.assets c.args.quotes.now sorted c.in_ok-sorted.ensures.all c.requires;
+      market = permuted_market c.args.assets c.args.quotes.items sorted c.sorted-sorted.ensures.all c.requires;
       limits = rw c.deref.ensures.value at c.in_ok-prefixes.ensures.limits;
-      in_order = c.in_ok-sorted.ensures.in_order;
+      in_order = c.sorted-sorted.ensures.in_order;
       sums = rw c.deref.ensures.value at c.in_ok-prefixes.ensures.sums;
       pairs = rw c.deref-2.ensures.value at c.in_ok-begins.ensures;
     }

@@ -4,7 +4,7 @@ use Rattle.std.specs.List.Sorted.{IsNonDecreasingBy}
 use Rattle.sx_curve.specs.declared.quote.Quote.{Quote}
 use Rattle.sx_curve.specs.Curves.{AreInOrder, AreQuotes, HasLimit, Market, ReachesTo}
 use Rattle.sx_curve.proofs.BelowSums.{count_fits, differ_by, limits_rise}
-use Rattle.sx_curve.proofs.curves.Curves.below.Goals as goal
+use Rattle.sx_curve.proofs.curves.Curves.below_near.Goals as goal
 
 pub count_below-count-requires : goal.count_below-count-requires
 count_below-count-requires c =
