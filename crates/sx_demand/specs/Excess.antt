@@ -2,6 +2,7 @@
 use Rattle.std.specs.Prelude.{◌≡◌, ℕ, ◌*◌, ◌≤◌, List, length, map, ℤ}
 use Rattle.sx_curve.specs.declared.quote.Quote.{Quote}
 use Rattle.sx_curve.specs.Demand.{assets_of, net_of, volume_of}
+use Rattle.sx_demand.specs.declared.table.Entry.{Entry}
 
 abbrev pub nets_of : List Quote → List ℕ → ℕ → List ℤ
 nets_of quotes prices j = map (net_of quotes prices j) (assets_of prices)
@@ -15,7 +16,7 @@ pub record Excess : Type 0 where
   pub volume : List ℕ
 
 -- a row of 32 entries and two sums for each of at most 32 assets
-pub record IsRoom (values : List ℕ) (net : List ℤ) (volume : List ℕ) : Type 0 where
+pub record IsRoom (entries : List Entry) (net : List ℤ) (volume : List ℕ) : Type 0 where
   pub few : length net ≤ 32
-  pub full : length values ≡ 32 * length net
+  pub full : length entries ≡ 32 * length net
   pub same : length volume ≡ length net

@@ -5,7 +5,7 @@ ghost use Rattle.sx_demand.specs.Excess.{nets_of, volumes_of};
 
 use crate::imbalance::{Imbalance, Nets, Volumes};
 use crate::sums::{write_nets, write_volumes};
-use crate::table::{ROW, fill};
+use crate::table::{Entry, FIRST, ROW, fill};
 use std::alloc::Global;
 use std::marker::Model;
 use std::thread::Threads;
@@ -14,11 +14,11 @@ use sx_curve::Curves;
 use sx_price::{Mu, Price};
 
 /// What is wanted of each asset in excess, and how much of it is wanted and sold, at the prices of
-/// the last [`update`](Demand::update). It keeps the memory that an update needs. Contracts see the
-/// two lists.
+/// the last [`update`](Demand::update). It keeps the memory that an update needs, and where each search
+/// of the last update ended. Contracts see the two lists.
 #[derive(Debug, Drop)]
 pub struct Demand {
-    values: Vec<u128>,
+    entries: Vec<Entry>,
     net: Vec<i128>,
     volume: Vec<u128>,
 }
@@ -30,7 +30,7 @@ impl Model for Demand {
 
     ghost view = { λ d. record { net = d.net.items; volume = d.volume.items } };
 
-    ghost invariant = { λ d. IsRoom d.values.items d.net.items d.volume.items };
+    ghost invariant = { λ d. IsRoom d.entries.items d.net.items d.volume.items };
 }
 
 impl Demand {
@@ -43,13 +43,14 @@ impl Demand {
     {
         let assets = assets as usize;
         Ok(Demand {
-            values: vec![in alloc; 0; assets * ROW]?,
+            entries: vec![in alloc; FIRST; assets * ROW]?,
             net: vec![in alloc; 0; assets]?,
             volume: vec![in alloc; 0; assets]?,
         })
     }
 
-    /// The demand at these prices. It takes no memory but what threads take.
+    /// The demand at these prices. It takes no memory but what threads take, and the less time the nearer
+    /// the prices are to those of the last update.
     pub fn update<R: Threads + Sync>(&mut self, rt: &R, curves: &Curves, prices: &[Price], mu: Mu)
         requires prices { length prices.now ≡ curves.now.assets }
         requires room { length self.old.net ≡ curves.now.assets }
@@ -58,9 +59,9 @@ impl Demand {
         ensures net_range { All (λ net. unsigned_abs net ≤ 2 ^ 107) self.new.net }
         ensures volume_range { All (λ volume. volume ≤ 2 ^ 108) self.new.volume }
     {
-        fill(rt, &mut self.values, curves, prices, mu);
-        write_nets(&self.values, &mut self.net);
-        write_volumes(&self.values, &mut self.volume);
+        fill(rt, &mut self.entries, curves, prices, mu);
+        write_nets(&self.entries, &mut self.net);
+        write_volumes(&self.entries, &mut self.volume);
     }
 
     /// The value that is wanted of each asset, less the value of it that is sold.

@@ -2,9 +2,14 @@
 //!
 //! [`excess`] answers an [`Imbalance`]: for each asset by how much more value is wanted of it than is
 //! sold of it, and both values together. What a pair of assets sells is told by its supply curve, by
-//! two binary searches. From 28 assets and 131,072 quotes on the pairs are shared among threads, and the
-//! answer is the same whatever threads run. A [`Demand`] keeps the memory that this takes, so that
-//! [`Demand::update`] takes none but what threads take.
+//! two searches. A [`Demand`] keeps the memory that this takes, so that [`Demand::update`] takes none but
+//! what threads take. It also keeps where the two searches of each pair ended, and begins those of the
+//! next update there: while prices move little, each takes a few steps, however many quotes the pair
+//! has. For n assets an update takes 2 n² such searches, which double their steps outward from there
+//! (Bentley and Yao, "An almost optimal algorithm for unbounded searching", 1976).
+//!
+//! From 28 assets and 131,072 quotes on the pairs are shared among threads, and the answer is the same
+//! whatever threads run.
 //!
 //! Not here: how prices are changed by it.
 #![tactic(auto)]

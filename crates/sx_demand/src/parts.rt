@@ -9,8 +9,15 @@ use crate::pair::{ONE, Pair};
 use sx_curve::{Curves, Sums};
 use sx_price::Mu;
 
+// Guesses of how many quotes of a pair may trade, and of how many must: as many as at the last prices.
+#[derive(Clone, Copy, Debug)]
+pub(crate) struct Guesses {
+    pub may: usize,
+    pub must: usize,
+}
+
 // The sums over the quotes of a pair that may trade.
-fn sums_may(curves: &Curves, pair: &Pair) -> Sums
+fn sums_may(curves: &Curves, pair: &Pair, near: &mut usize) -> Sums
     ensures amount { result.amount ≡ amounts (filter (may_at pair.now.sell_price pair.now.buy_price)
         (pair_of pair.now.sell pair.now.buy curves.now.quotes)) }
     ensures weighted { result.weighted ≡ weighted_amounts (filter (may_at pair.now.sell_price pair.now.buy_price)
@@ -18,11 +25,17 @@ fn sums_may(curves: &Curves, pair: &Pair) -> Sums
     ensures in_range { result.amount ≤ 2 ^ 62 }
 {
     let rate = u128::from(pair.sell_price.get()) * ONE;
-    curves.below(pair.sell, pair.buy, rate, u128::from(pair.buy_price.get()))
+    curves.below_near(
+        pair.sell,
+        pair.buy,
+        rate,
+        u128::from(pair.buy_price.get()),
+        near,
+    )
 }
 
 // The sums over those that must trade: the rate is cut by the part `mu` of it.
-fn sums_must(curves: &Curves, pair: &Pair, mu: Mu) -> Sums
+fn sums_must(curves: &Curves, pair: &Pair, mu: Mu, near: &mut usize) -> Sums
     ensures amount { result.amount ≡ amounts (filter (must_at pair.now.sell_price pair.now.buy_price mu)
         (pair_of pair.now.sell pair.now.buy curves.now.quotes)) }
     ensures weighted { result.weighted ≡ weighted_amounts (filter (must_at pair.now.sell_price pair.now.buy_price mu)
@@ -31,11 +44,12 @@ fn sums_must(curves: &Curves, pair: &Pair, mu: Mu) -> Sums
 {
     let parts = 1u128 << mu.get();
     let rate = u128::from(pair.sell_price.get()) * ONE * (parts - 1);
-    curves.below(
+    curves.below_near(
         pair.sell,
         pair.buy,
         rate,
         u128::from(pair.buy_price.get()) * parts,
+        near,
     )
 }
 
@@ -47,7 +61,8 @@ pub(crate) struct Parts {
     pub mid_weighted: u128,
 }
 
-pub(crate) fn parts_of(curves: &Curves, pair: &Pair, mu: Mu) -> Parts
+// The parts at two prices, with the guesses for the next ones.
+pub(crate) fn parts_of(curves: &Curves, pair: &Pair, mu: Mu, guesses: &mut Guesses) -> Parts
     ensures must { result.must ≡ e_must pair.now.sell_price pair.now.buy_price mu
         (pair_of pair.now.sell pair.now.buy curves.now.quotes) }
     ensures mid { result.mid ≡ e_mid pair.now.sell_price pair.now.buy_price mu
@@ -56,8 +71,8 @@ pub(crate) fn parts_of(curves: &Curves, pair: &Pair, mu: Mu) -> Parts
         (pair_of pair.now.sell pair.now.buy curves.now.quotes) }
     ensures in_range { result.must + result.mid ≤ 2 ^ 62 }
 {
-    let may = sums_may(curves, pair);
-    let must = sums_must(curves, pair, mu);
+    let may = sums_may(curves, pair, &mut guesses.may);
+    let must = sums_must(curves, pair, mu, &mut guesses.must);
     Parts {
         must: must.amount,
         mid: may.amount - must.amount,

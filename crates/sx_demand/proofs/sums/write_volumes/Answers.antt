@@ -6,7 +6,7 @@ use Rattle.sx_demand.proofs.sums.write_volumes.Goals as goal
 pub returns-clause-volumes : goal.returns-clause-volumes
 returns-clause-volumes c =
     let n = length c.args.volumes.now in
-    fill_by_all (volume_in c.args.values.now n) c.loop-asset.volumes n 0 c.loop-asset.auto.volumes
+    fill_by_all (volume_in c.args.entries.now n) c.loop-asset.volumes n 0 c.loop-asset.auto.volumes
     (λ k lt. c.loop-asset.invariant.volumes k 0 (omega arith))
 
 pub returns-clause-in_range : goal.returns-clause-in_range

@@ -8,23 +8,23 @@ use Rattle.sx_demand.proofs.demand.Demand.update.Goals as goal
 pub returns-clause-net : goal.returns-clause-net
 returns-clause-net g c =
     let assets = ap (λ (excess : Excess). length excess.net) c.self.view_is in
-    let values : c.deref.result.now ≡ c.fill.new.values =
-    c.deref.ensures.value ∙ written _ c.fill.new.values _ (omega arith) in
+    let entries : c.deref.result.now ≡ c.fill.new.entries =
+    c.deref.ensures.value ∙ written _ c.fill.new.entries _ (omega arith) in
     let count : length c.deref_mut-2.result.now ≡ length c.args.prices.now =
     omega (arith, ap length c.deref_mut-2.ensures.value) in
     let few : length c.args.prices.now ≤ 32 = omega (arith, ap length c.deref_mut-2.ensures.value) in
     written _ c.write_nets.new.nets _ (omega arith) ∙ c.write_nets.ensures.nets
-    ∙ (λ i. map (net_in (values i) (count i)) (range_with_len 0 (count i)))
-    ∙ nets_are c.args.curves.now.quotes c.args.prices.now c.args.mu c.fill.new.values c.fill.ensures few
+    ∙ (λ i. map (net_in (entries i) (count i)) (range_with_len 0 (count i)))
+    ∙ nets_are c.args.curves.now.quotes c.args.prices.now c.args.mu c.fill.new.entries c.fill.ensures few
 
 pub returns-clause-volume : goal.returns-clause-volume
 returns-clause-volume g c =
     let assets = ap (λ (excess : Excess). length excess.net) c.self.view_is in
-    let values : c.deref-2.result.now ≡ c.fill.new.values =
-    c.deref-2.ensures.value ∙ written _ c.fill.new.values _ (omega arith) in
+    let entries : c.deref-2.result.now ≡ c.fill.new.entries =
+    c.deref-2.ensures.value ∙ written _ c.fill.new.entries _ (omega arith) in
     let same = ap length c.deref_mut-3.ensures.value in
     let count : length c.deref_mut-3.result.now ≡ length c.args.prices.now = omega arith in
     let few : length c.args.prices.now ≤ 32 = omega arith in
     written _ c.write_volumes.new.volumes _ (omega arith) ∙ c.write_volumes.ensures.volumes
-    ∙ (λ i. map (volume_in (values i) (count i)) (range_with_len 0 (count i)))
-    ∙ volumes_are c.args.curves.now.quotes c.args.prices.now c.args.mu c.fill.new.values c.fill.ensures few
+    ∙ (λ i. map (volume_in (entries i) (count i)) (range_with_len 0 (count i)))
+    ∙ volumes_are c.args.curves.now.quotes c.args.prices.now c.args.mu c.fill.new.entries c.fill.ensures few
