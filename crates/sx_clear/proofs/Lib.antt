@@ -3,5 +3,6 @@ pub mod TradeLaws
 pub mod BlockLaws
 pub mod PriceLaws
 pub mod SearchCounts
+pub mod Tradings
 pub mod QuoteCases
 pub mod SearchCases

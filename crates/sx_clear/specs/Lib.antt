@@ -5,3 +5,4 @@ pub mod Found
 pub mod Traded
 pub mod Searches
 pub mod Terms
+pub mod Trading

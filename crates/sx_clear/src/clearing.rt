@@ -1,25 +1,26 @@
 //! Blocks from bodies.
 
-ghost use Rattle.std.specs.Prelude.{◌≡◌, ◌+◌, ◌<◌, ◌≤◌, IfOk, length};
+ghost use Rattle.std.specs.Prelude.{◌≡◌, ◌+◌, ◌<◌, ◌≤◌, All, IfOk, length};
 ghost use Rattle.sx_block.specs.Validity.{IsValid, flow_of_block, high_in, low_in};
-ghost use Rattle.sx_clear.specs.Digests.{AreDigests};
 ghost use Rattle.sx_clear.specs.Dropping.{DropsExactly};
 ghost use Rattle.sx_clear.specs.Found.{IsBodyOf};
 ghost use Rattle.sx_clear.specs.Quotes.{imbalance_at, posted_at, searched_at};
 ghost use Rattle.sx_clear.specs.Searches.{IsCounted, most_clearing_searches};
+ghost use Rattle.sx_clear.specs.Trading.{IsCountedAt, IsTrading};
 ghost use Rattle.sx_dual.specs.Circulation.{IsGreatest};
 ghost use Rattle.sx_ledger.specs.Body.{IsAdmissible};
-ghost use Rattle.sx_ledger.specs.Ledger.{assets_of, most_height};
+ghost use Rattle.sx_ledger.specs.Ledger.{IsLedger, assets_of, most_height};
+ghost use Rattle.sx_price.specs.Limits.{IsPrice};
 ghost use Rattle.sx_tx.specs.Transactions.{most_transactions};
 
 use crate::body::body_of;
-use crate::digests::{Digests, digests_of};
+use crate::digests::{Digests, digest_of_body, digest_of_parent};
 use crate::filling::{Filled, fill};
 use crate::heading::{Terms, block_of};
-use crate::leaving::digest_left;
-use crate::opening::{Opened, Search, copy_of, digests_and_prices};
+use crate::leaving::{digest_left, digests_around};
+use crate::opening::{Opened, Search, copy_of, digest_and_prices};
 use crate::ranges::price_ranges;
-use crate::trade::trade_at;
+use crate::trade::{Trade, trade_at};
 use std::alloc::Global;
 use std::sync::ledger;
 use std::thread::Threads;
@@ -29,58 +30,40 @@ use sx_ledger::Ledger;
 use sx_multi::posted_laws;
 use sx_net::Steps;
 use sx_price::{Mu, Prices};
-use sx_tx::TxList;
+use sx_tx::{Tx, TxList};
 
-// The block of a body at the prices that are found, where its digests are known.
-fn clear_body<L: ledger::Ledger>(
+// What a body trades at the prices that are found, and what each offer and rounding keep of it.
+#[derive(Drop)]
+struct Trading {
+    trade: Trade,
+    filled: Filled,
+}
+
+// What the offers after a body trade at the prices that are found.
+fn trade_body<L: ledger::Ledger>(
     alloc: Global,
     ledger: &Ledger,
-    txs: TxList,
+    txs: &[Tx],
     mu: Mu,
-    digests: Digests,
-    opened: Opened,
+    opened: &Opened,
     steps: &mut Steps<L>,
-) -> Result<Block, NoMemory>
-    requires admissible { IsAdmissible ledger.now txs }
-    requires few { length txs ≤ most_transactions }
-    requires below_last { ledger.now.height < most_height }
-    requires assets { length opened.prices ≡ assets_of ledger.now }
-    requires digests { AreDigests ledger.now txs digests }
-    requires body { IsBodyOf ledger.now txs opened.body }
-    ensures valid { IfOk result (IsValid ledger.now) }
-    ensures version { IfOk result (λ block. block.header.version ≡ 1) }
-    ensures txs { IfOk result (λ block. block.txs ≡ txs) }
-    ensures mu { IfOk result (λ block. block.header.mu ≡ mu) }
-    ensures prices { IfOk result (λ block. block.header.prices ≡ opened.prices) }
-    ensures counted { IfOk result (IsCounted ledger.now steps.old steps.new) }
+) -> Result<Trading, NoMemory>
+    requires admissible { IsAdmissible ledger.now txs.now }
+    requires assets { length opened.now.prices ≡ assets_of ledger.now }
+    requires body { IsBodyOf ledger.now txs.now opened.now.body }
+    ensures kept { IsLedger ledger.now }
+    ensures in_range { All IsPrice opened.now.prices }
+    ensures trading { IfOk result (IsTrading ledger.now txs.now opened.now.body opened.now.prices mu) }
+    ensures counted { IsCountedAt ledger.now txs.now opened.now.prices steps.old steps.new }
     ensures limited { steps.new ≤ steps.old + most_clearing_searches }
     ensures rising { steps.old ≤ steps.new }
 {
-    let height = ledger.height() + 1;
+    let _height = ledger.height();
     price_ranges(&opened.prices);
-    let trade = trade_at(alloc, opened.body.offers.items(), &opened.prices, mu, steps)?;
-    let Filled { fills, rounding } = fill(
-        alloc,
-        opened.body.offers.items(),
-        &opened.prices,
-        &trade.flow,
-    )?;
-    let after = digest_left(
-        alloc,
-        ledger,
-        opened.body,
-        &opened.prices,
-        &rounding,
-        fills.items(),
-    )?;
-    let terms = Terms {
-        mu,
-        prices: opened.prices,
-        trade,
-        rounding,
-        after,
-    };
-    Ok(block_of(ledger, height, txs, digests, terms))
+    let offers = opened.body.offers.items();
+    let trade = trade_at(alloc, offers, &opened.prices, mu, steps)?;
+    let filled = fill(alloc, offers, &opened.prices, &trade.flow)?;
+    Ok(Trading { trade, filled })
 }
 
 /// The block of a body at these prices, one for each asset of the ledger: a valid one, with a circulation
@@ -114,25 +97,33 @@ pub fn clear_at<L: ledger::Ledger>(
     ensures limited { steps.new ≤ steps.old + most_clearing_searches }
     ensures rising { steps.old ≤ steps.new }
 {
-    let digests = digests_of(alloc, ledger, txs.items())?;
+    let hash = digest_of_body(alloc, txs.items())?;
     let body = body_of(alloc, ledger, txs.items())?;
     let prices = copy_of(alloc, prices)?;
-    clear_body(
-        alloc,
-        ledger,
-        txs,
+    let opened = Opened { body, prices };
+    let Trading { trade, filled } = trade_body(alloc, ledger, txs.items(), mu, &opened, steps)?;
+    let Opened { body, prices } = opened;
+    let Filled { fills, rounding } = filled;
+    let parent = digest_of_parent(alloc, ledger)?;
+    let after = digest_left(alloc, ledger, body, &prices, &rounding, fills.items())?;
+    let digests = Digests { parent, body: hash };
+    let terms = Terms {
         mu,
-        digests,
-        Opened { body, prices },
-        steps,
-    )
+        prices,
+        trade,
+        rounding,
+        after,
+    };
+    let height = ledger.height() + 1;
+    Ok(block_of(ledger, height, txs, digests, terms))
 }
 
 /// The block of a body at the prices that the search from those of the ledger ends at, in at most so many
 /// rounds. The sum over all assets of what is wanted or sold in excess is at most that at the ledger's
 /// prices. With 0 rounds the prices are the ledger's own, and no curves are built. All else is as in
-/// [`clear_at`]. The digests of a large ledger or body are made on a thread of their own meanwhile, and the call
-/// returns where that thread returns. Where no thread can be started, all is done in turn.
+/// [`clear_at`]. The digest of a large body is made on a thread of its own meanwhile, and that of a large ledger while
+/// the ledger after the block is made. The call returns where these threads return. Where no thread can be started, all
+/// is done in turn.
 pub fn clear<R: Threads + Sync, L: ledger::Ledger>(
     rt: &R,
     alloc: Global,
@@ -196,6 +187,31 @@ pub fn clear_many<R: Threads + Sync, L: ledger::Ledger>(
         rounds,
         searches,
     };
-    let (digests, opened) = digests_and_prices(rt, alloc, ledger, txs.items(), by);
-    clear_body(alloc, ledger, txs, mu, digests?, opened?, steps)
+    let (hash, opened) = digest_and_prices(rt, alloc, ledger, txs.items(), by);
+    let hash = hash?;
+    let opened = opened?;
+    let Trading { trade, filled } = trade_body(alloc, ledger, txs.items(), mu, &opened, steps)?;
+    let Opened { body, prices } = opened;
+    let Filled { fills, rounding } = filled;
+    let (parent, after) = digests_around(
+        rt,
+        alloc,
+        ledger,
+        body,
+        &prices,
+        &rounding,
+        fills.items(),
+    );
+    let parent = parent?;
+    let after = after?;
+    let digests = Digests { parent, body: hash };
+    let terms = Terms {
+        mu,
+        prices,
+        trade,
+        rounding,
+        after,
+    };
+    let height = ledger.height() + 1;
+    Ok(block_of(ledger, height, txs, digests, terms))
 }

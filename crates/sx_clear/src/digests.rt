@@ -1,7 +1,7 @@
 //! The digests of what is there before anything trades.
 
 ghost use Rattle.std.specs.Prelude.{◌≤◌, IfOk, length};
-ghost use Rattle.sx_clear.specs.Digests.{AreDigests};
+ghost use Rattle.sx_clear.specs.Digests.{IsBodyDigest, IsParentDigest};
 ghost use Rattle.sx_tx.specs.Transactions.{most_transactions};
 
 use std::alloc::Global;
@@ -17,12 +17,17 @@ pub struct Digests {
     pub body: Digest,
 }
 
-// Both digests.
-pub fn digests_of(alloc: Global, ledger: &Ledger, txs: &[Tx]) -> Result<Digests, NoMemory>
-    requires few { length txs.now ≤ most_transactions }
-    ensures { IfOk result (AreDigests ledger.now txs.now) }
+// The digest of a ledger.
+pub fn digest_of_parent(alloc: Global, ledger: &Ledger) -> Result<Digest, NoMemory>
+    ensures { IfOk result (IsParentDigest ledger.now) }
 {
-    let parent = ledger_digest(alloc, ledger)?;
-    let body = body_digest(alloc, txs)?;
-    Ok(Digests { parent, body })
+    ledger_digest(alloc, ledger)
+}
+
+// The digest of transactions.
+pub fn digest_of_body(alloc: Global, txs: &[Tx]) -> Result<Digest, NoMemory>
+    requires few { length txs.now ≤ most_transactions }
+    ensures { IfOk result (IsBodyDigest txs.now) }
+{
+    body_digest(alloc, txs)
 }

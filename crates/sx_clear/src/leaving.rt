@@ -1,8 +1,9 @@
-//! The digest of the ledger that a block leaves.
+//! The digests of the ledger before a block and of what the block leaves.
 
 ghost use Rattle.std.specs.Prelude.{◌≡◌, List, ◌<◌, IfOk};
 ghost use Rattle.sx_block.specs.Digest.{IsDigest};
 ghost use Rattle.sx_block.specs.Validity.{digest_of_ledger};
+ghost use Rattle.sx_clear.specs.Digests.{IsParentDigest};
 ghost use Rattle.sx_clear.specs.Found.{CanLeave, IsBodyOf};
 ghost use Rattle.sx_fill.specs.AllFills.{all_fills};
 ghost use Rattle.sx_ledger.specs.Body.{IsAdmissible, body_after};
@@ -12,7 +13,9 @@ ghost use Rattle.sx_ledger.specs.Trade.{traded};
 ghost use Rattle.sx_tx.specs.declared.tx.Tx.{Tx};
 
 use crate::body::Body;
+use crate::digests::digest_of_parent;
 use std::alloc::Global;
+use std::thread::{Threads, join};
 use sx_apply::execute;
 use sx_base::Balances;
 use sx_block::{Digest, ledger_digest};
@@ -20,6 +23,10 @@ use sx_body::apply_accounts;
 use sx_bytes::NoMemory;
 use sx_ledger::{Fill, Ledger};
 use sx_price::Prices;
+
+// From how many bytes of a ledger on its digest is made on a thread of its own. Hashing takes a millisecond there, and
+// to start a thread a small part of one.
+const MANY_BYTES: u32 = 1 << 18;
 
 // The digest of what a body and these fills of the offers after it leave of a copy of the ledger.
 pub fn digest_left(
@@ -39,4 +46,42 @@ pub fn digest_left(
     let with_body = apply_accounts(alloc, ledger.copy()?, &tally, offers)?;
     let left = execute(alloc, with_body, prices, rounding, fills)?;
     ledger_digest(alloc, &left)
+}
+
+// The digest of the ledger, made on a thread of its own where that is worth it, and beside it the digest of what a body
+// and these fills leave of a copy.
+pub fn digests_around<R: Threads>(
+    rt: &R,
+    alloc: Global,
+    ledger: &Ledger,
+    body: Body,
+    prices: &Prices,
+    rounding: &Balances,
+    fills: &[Fill],
+) -> (Result<Digest, NoMemory>, Result<Digest, NoMemory>)
+    requires below_last { ledger.now.height < most_height }
+    requires body { CanLeave ledger.now body prices.now rounding.now fills.now }
+    ensures parent { IfOk result.0 (IsParentDigest ledger.now) }
+    ensures hash { (txs : List Tx) (flow : Flow) → IsAdmissible ledger.now txs → IsBodyOf ledger.now txs body → fills.now ≡ all_fills prices.now flow (body_after ledger.now txs).offers → IfOk result.1 (λ digest. digest ≡ digest_of_ledger (traded (body_after ledger.now txs) prices.now flow rounding.now)) }
+    ensures digest { IfOk result.1 IsDigest }
+{
+    if ledger.state_length() < MANY_BYTES {
+        let parent = digest_of_parent(alloc, ledger);
+        return (
+            parent,
+            digest_left(alloc, ledger, body, prices, rounding, fills),
+        );
+    }
+    join(
+        rt,
+        || -> Result<Digest, NoMemory>
+            ensures { IfOk result (IsParentDigest ledger.entry.now) }
+        { digest_of_parent(alloc, ledger) },
+        move || -> Result<Digest, NoMemory>
+            requires below_last { ledger.now.height < most_height }
+            requires body { CanLeave ledger.now body prices.now rounding.now fills.now }
+            ensures hash { (txs : List Tx) (flow : Flow) → IsAdmissible ledger.entry.now txs → IsBodyOf ledger.entry.now txs body → fills.entry.now ≡ all_fills prices.entry.now flow (body_after ledger.entry.now txs).offers → IfOk result (λ digest. digest ≡ digest_of_ledger (traded (body_after ledger.entry.now txs) prices.entry.now flow rounding.entry.now)) }
+            ensures digest { IfOk result IsDigest }
+        { digest_left(alloc, ledger, body, prices, rounding, fills) },
+    )
 }

@@ -11,8 +11,8 @@
 //! bounds of each pair. `solve` of `sx_level` finds a circulation of greatest value within them, or a cut.
 //! Where it finds a cut, it is asked once more, without the lower bounds: it is asked at most twice, and so
 //! the number of its searches has a bound. The value is shared out among the offers of each pair in their
-//! order, rounded to whole units. What the block leaves of a copy of the ledger is hashed for its header. The digests
-//! of the ledger before it and of the body are made on a thread of their own, beside the search for prices.
+//! order, rounded to whole units. What the block leaves of a copy of the ledger is hashed for its header. A thread makes
+//! the digest of a large body beside the search for prices, and that of a large ledger beside that copy and its digest.
 //!
 //! ```text
 //!                  .-> curves -> prices -.                .-> fills, rounding -.

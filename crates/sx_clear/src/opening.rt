@@ -1,8 +1,8 @@
-//! What is found of a body before it is cleared: its digests, what it does, and the prices.
+//! What is found of a body before it is cleared: its digest, what it does, and the prices.
 
 ghost use Rattle.std.specs.Prelude.{◌≡◌, ◌≤◌, IfOk, length};
 ghost use Rattle.sx_apply.specs.Bounds.{AreOffers};
-ghost use Rattle.sx_clear.specs.Digests.{AreDigests};
+ghost use Rattle.sx_clear.specs.Digests.{IsBodyDigest};
 ghost use Rattle.sx_clear.specs.Found.{IsBodyOf};
 ghost use Rattle.sx_clear.specs.Quotes.{posted_at, quotes_of};
 ghost use Rattle.sx_dual.specs.Tables.{IsAssetCount};
@@ -13,20 +13,19 @@ ghost use Rattle.sx_tx.specs.Transactions.{most_transactions};
 
 use crate::body::{Body, body_of};
 use crate::curves::offer_curves;
-use crate::digests::{Digests, digests_of};
+use crate::digests::digest_of_body;
 use std::alloc::Global;
 use std::thread::{Threads, join};
+use sx_block::Digest;
 use sx_bytes::NoMemory;
 use sx_ledger::{Ledger, Offer};
 use sx_multi::{posted_laws, search_many};
 use sx_price::{Mu, Prices};
 use sx_tx::Tx;
 
-// From how many transactions, or bytes of the ledger, on the digests are made on a thread of their own. Hashing takes
-// a millisecond there, and to start a thread a small part of one.
+// From how many transactions on the digest is made on a thread of its own. Hashing takes a millisecond there, and to
+// start a thread a small part of one.
 const MANY_TRANSACTIONS: usize = 1 << 13;
-
-const MANY_BYTES: u32 = 1 << 18;
 
 // The same prices once more.
 pub fn copy_of(alloc: Global, prices: &Prices) -> Result<Prices, NoMemory>
@@ -95,32 +94,33 @@ fn open<R: Threads + Sync>(
     Ok(Opened { body, prices })
 }
 
-// The digests, made on a thread of their own where that is worth it, and beside them what the body does and the prices.
-pub fn digests_and_prices<R: Threads + Sync>(
+// The digest of a body, made on a thread of its own where that is worth it, and beside it what the body does and the
+// prices.
+pub fn digest_and_prices<R: Threads + Sync>(
     rt: &R,
     alloc: Global,
     ledger: &Ledger,
     txs: &[Tx],
     by: Search,
-) -> (Result<Digests, NoMemory>, Result<Opened, NoMemory>)
+) -> (Result<Digest, NoMemory>, Result<Opened, NoMemory>)
     requires admissible { IsAdmissible ledger.now txs.now }
     requires few { length txs.now ≤ most_transactions }
     requires some_search { 1 ≤ by.searches }
     requires few_searches { by.searches ≤ 8 }
-    ensures digests { IfOk result.0 (AreDigests ledger.now txs.now) }
+    ensures hash { IfOk result.0 (IsBodyDigest txs.now) }
     ensures body { IfOk result.1 (λ opened. IsBodyOf ledger.now txs.now opened.body) }
     ensures prices { IfOk result.1 (λ opened. opened.prices ≡ posted_at ledger.now txs.now by.mu by.rounds by.searches) }
 {
-    if txs.len() < MANY_TRANSACTIONS && ledger.state_length() < MANY_BYTES {
-        let digests = digests_of(alloc, ledger, txs);
-        return (digests, open(rt, alloc, ledger, txs, by));
+    if txs.len() < MANY_TRANSACTIONS {
+        let digest = digest_of_body(alloc, txs);
+        return (digest, open(rt, alloc, ledger, txs, by));
     }
     join(
         rt,
-        || -> Result<Digests, NoMemory>
+        || -> Result<Digest, NoMemory>
             requires { length txs.now ≤ most_transactions }
-            ensures { IfOk result (AreDigests ledger.entry.now txs.entry.now) }
-        { digests_of(alloc, ledger, txs) },
+            ensures { IfOk result (IsBodyDigest txs.entry.now) }
+        { digest_of_body(alloc, txs) },
         || -> Result<Opened, NoMemory>
             requires { IsAdmissible ledger.now txs.now × (1 ≤ by.searches) × (by.searches ≤ 8) }
             ensures body { IfOk result (λ opened. IsBodyOf ledger.entry.now txs.entry.now opened.body) }

@@ -35,8 +35,8 @@ returns-clause-valid c =
         some_version = omega arith;
         few_versions = omega arith;
         height = omega (arith, asked.height, asked.below_last);
-        parent = asked.digests.parent_whole;
-        body = asked.digests.body_whole;
+        parent = asked.digests.parent.whole;
+        body = asked.digests.body.whole;
         some_mu = omega (arith, c.get-exponent.ensures.value, c.get-exponent.ensures.positive);
         most_mu = omega (arith, c.get-exponent.ensures.value, c.get-exponent.ensures.in_range);
         some_asset = omega (arith, terms.assets, is.some_asset);
@@ -58,5 +58,5 @@ returns-clause-valid c =
     } in
     sound_is_valid parts block
     (fitting_is_sound parts block form
-    (header_rules parts block asked.below_last asked.height asked.digests.parent asked.digests.body terms.assets)
+    (header_rules parts block asked.below_last asked.height asked.digests.parent.hash asked.digests.body.hash terms.assets)
     asked.admissible trade.best.fits trade.cut terms.rounded.is) terms.after
