@@ -7,12 +7,13 @@ ghost use Rattle.sx_block.specs.Validity.{IsValid, ledger_after};
 ghost use Rattle.sx_check.specs.Checked.{checked_of};
 ghost use Rattle.sx_check.specs.Refusals.{Explains};
 ghost use Rattle.sx_input.specs.Head.{IsHead};
+ghost use Rattle.sx_input.specs.Incoming.{IsReady};
 ghost use Rattle.sx_tx.specs.Transactions.{list_bytes};
 
 use std::alloc::Global;
 use std::thread::Threads;
 use sx_block::{digest_of, validity_laws};
-use sx_check::{CheckFault, Checked, Judged, check_laws, close, judge};
+use sx_check::{CheckFault, Checked, Judged, check_laws, close, judge_surveyed};
 use sx_input::{Head, Incoming, written};
 use sx_spread::apply_spread;
 
@@ -28,19 +29,20 @@ pub fn advance<R: Threads + Sync>(
     rt: &R,
     alloc: Global,
     head: Head,
-    incoming: &Incoming,
+    incoming: Incoming,
     workers: u32,
 ) -> Result<Advanced, CheckFault>
     requires some_worker { 1 ≤ workers }
     requires few_workers { workers ≤ 64 }
     requires head { IsHead head }
-    requires form { IsBlock incoming.now.block }
-    requires body { incoming.now.body ≡ sha256 (list_bytes incoming.now.block.txs) }
-    ensures valid { IfOk result (λ _. IsValid head.ledger incoming.now.block) }
+    requires form { IsBlock incoming.block }
+    requires body { incoming.body ≡ sha256 (list_bytes incoming.block.txs) }
+    requires found { IsReady head.ledger incoming }
+    ensures valid { IfOk result (λ _. IsValid head.ledger incoming.block) }
     ensures head { IfOk result (λ advanced. IsHead advanced.head) }
-    ensures after { IfOk result (λ advanced. advanced.head.ledger ≡ ledger_after head.ledger incoming.now.block) }
-    ensures checked { IfOk result (λ advanced. advanced.checked ≡ checked_of incoming.now.block) }
-    ensures refused { IfErr result (Explains head.ledger incoming.now.block) }
+    ensures after { IfOk result (λ advanced. advanced.head.ledger ≡ ledger_after head.ledger incoming.block) }
+    ensures checked { IfOk result (λ advanced. advanced.checked ≡ checked_of incoming.block) }
+    ensures refused { IfErr result (Explains head.ledger incoming.block) }
 {
     validity_laws();
     check_laws();
@@ -49,17 +51,14 @@ pub fn advance<R: Threads + Sync>(
         state,
         digest,
     } = head;
-    let Judged { checked, effects } = judge(
-        alloc,
-        &ledger,
-        &incoming.block,
-        &digest,
-        &incoming.body,
+    let Incoming { block, body, found } = incoming;
+    let Judged { checked, effects } = judge_surveyed(
+        alloc, &ledger, &block, &digest, &body, found,
     )?;
-    let ledger = apply_spread(rt, alloc, ledger, &incoming.block, effects, workers)?;
+    let ledger = apply_spread(rt, alloc, ledger, &block, effects, workers)?;
     let state = written(alloc, &ledger, state)?;
     let digest = digest_of(state.bytes());
-    close(&incoming.block.header, &digest)?;
+    close(&block.header, &digest)?;
     let head = Head {
         ledger,
         state: Some(state),

@@ -6,6 +6,7 @@ ghost use Rattle.sx_base.specs.Outside.{Rose};
 ghost use Rattle.sx_block.specs.Block.{IsBlock};
 ghost use Rattle.sx_input.specs.Found.{ConcludesAs, Found};
 ghost use Rattle.sx_input.specs.Head.{IsHead};
+ghost use Rattle.sx_input.specs.Incoming.{IsReady};
 ghost use Rattle.sx_input.specs.Stream.{UnlessReadFault};
 ghost use Rattle.sx_meaning.specs.Items as item;
 ghost use Rattle.sx_tx.specs.Transactions.{list_bytes};
@@ -27,12 +28,13 @@ fn verdict<R: Threads + Sync>(
     rt: &R,
     alloc: Global,
     head: Head,
-    incoming: &Incoming,
+    incoming: Incoming,
 ) -> Result<Text, Stop>
     requires head { IsHead head }
-    requires form { IsBlock incoming.now.block }
-    requires body { incoming.now.body ≡ sha256 (list_bytes incoming.now.block.txs) }
-    ensures concludes { ConcludesAs Command.Check (item.state head.ledger ∷ item.block incoming.now.block ∷ []) result }
+    requires form { IsBlock incoming.block }
+    requires body { incoming.body ≡ sha256 (list_bytes incoming.block.txs) }
+    requires found { IsReady head.ledger incoming }
+    ensures concludes { ConcludesAs Command.Check (item.state head.ledger ∷ item.block incoming.block ∷ []) result }
     ensures calm { IsErrOf result Stop.ReadFault → ⊥ }
 {
     match advance(rt, alloc, head, incoming, WORKERS) {
@@ -53,7 +55,7 @@ pub fn check<R: Threads + Sync, S: Source>(
     ensures read_fault { IsErrOf result Stop.ReadFault → Rose (S.faults source.old) (S.faults source.new) }
 {
     let opening = take_head(rt, alloc, source)?;
-    let incoming = take_block(rt, alloc, source, opening.end)?;
+    let incoming = take_block(rt, alloc, &opening.held.ledger, source, opening.end)?;
     end(alloc, source, incoming.end)?;
-    verdict(rt, alloc, opening.held, &incoming.held)
+    verdict(rt, alloc, opening.held, incoming.held)
 }

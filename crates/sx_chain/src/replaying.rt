@@ -65,8 +65,8 @@ fn step_block<R: Threads + Sync>(
             fault: Form::TooMany,
         }));
     }
-    let incoming = decoded_block(rt, alloc, found)?;
-    match advance(rt, alloc, place.head, &incoming, workers) {
+    let incoming = decoded_block(rt, alloc, &place.head.ledger, found)?;
+    match advance(rt, alloc, place.head, incoming, workers) {
         Ok(advanced) => Ok(Place {
             head: advanced.head,
             at: end_of(found),

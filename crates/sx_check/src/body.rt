@@ -6,24 +6,30 @@ ghost use Rattle.sx_block.specs.Rule as rule;
 ghost use Rattle.sx_block.specs.Validity.{HoldsBefore};
 ghost use Rattle.sx_body.specs.Tally.{IsTally};
 ghost use Rattle.sx_check.specs.Refusals.{ExplainsEarly, RefusesEarly};
+ghost use Rattle.sx_check.specs.Surveys.{IsSurvey, IsSurveyed};
 
 use crate::fault::CheckFault;
 use crate::invalid::Invalid;
-use std::alloc::Global;
+use crate::survey::Survey;
 use sx_block::Block;
-use sx_body::{Overdraft, PrecheckFault, Tally, precheck};
+use sx_body::{Overdraft, PrecheckFault, Tally};
 use sx_ledger::Ledger;
 
-// The ledger refuses no transaction by itself. It answers what all of them do.
-fn check_each(alloc: Global, ledger: &Ledger, block: &Block) -> Result<Tally, CheckFault>
+// The ledger refuses no transaction by itself. It answers the survey of them.
+fn check_each(
+    ledger: &Ledger,
+    block: &Block,
+    found: Result<Survey, PrecheckFault>,
+) -> Result<Survey, CheckFault>
     requires form { IsBlock block.now }
     requires header { HoldsBefore rule.Passes ledger.now block.now }
+    requires found { IsSurveyed ledger.now block.now.txs found }
     ensures passes { OnOk result (HoldsBefore rule.CancelsOnce ledger.now block.now) }
-    ensures tally { IfOk result (IsTally ledger.now block.now.txs) }
+    ensures survey { IfOk result (IsSurvey ledger.now block.now.txs) }
     ensures refused { IfErr result (ExplainsEarly ledger.now block.now) }
 {
-    match precheck(alloc, ledger, block.txs.items()) {
-        Ok(tally) => Ok(tally),
+    match found {
+        Ok(survey) => Ok(survey),
         Err(PrecheckFault::NoMemory) => Err(CheckFault::NoMemory),
         Err(PrecheckFault::Refused { index, why }) => {
             let index = index as u32;
@@ -124,18 +130,24 @@ fn check_debits(ledger: &Ledger, block: &Block, tally: &Tally) -> Result<(), Inv
     }
 }
 
-// The transactions are the body of a block for the ledger. It answers what they do.
-pub fn check_body(alloc: Global, ledger: &Ledger, block: &Block) -> Result<Tally, CheckFault>
+// The transactions, of which this was found, are the body of a block for the ledger. It answers the survey of them.
+pub fn check_body(
+    ledger: &Ledger,
+    block: &Block,
+    found: Result<Survey, PrecheckFault>,
+) -> Result<Survey, CheckFault>
     requires form { IsBlock block.now }
     requires header { HoldsBefore rule.Passes ledger.now block.now }
+    requires found { IsSurveyed ledger.now block.now.txs found }
     ensures body { OnOk result (HoldsBefore rule.Within ledger.now block.now) }
-    ensures tally { IfOk result (IsTally ledger.now block.now.txs) }
+    ensures survey { IfOk result (IsSurvey ledger.now block.now.txs) }
     ensures refused { IfErr result (ExplainsEarly ledger.now block.now) }
 {
-    let tally = check_each(alloc, ledger, block)?;
-    check_cancellations(ledger, block, &tally)?;
-    check_creations(ledger, block, &tally)?;
-    check_room(ledger, block, &tally)?;
-    check_debits(ledger, block, &tally)?;
-    Ok(tally)
+    let survey = check_each(ledger, block, found)?;
+    let tally = &survey.tally;
+    check_cancellations(ledger, block, tally)?;
+    check_creations(ledger, block, tally)?;
+    check_room(ledger, block, tally)?;
+    check_debits(ledger, block, tally)?;
+    Ok(survey)
 }

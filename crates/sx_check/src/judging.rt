@@ -3,9 +3,12 @@
 ghost use Rattle.std.specs.Prelude.{◌≡◌, ◌≢◌, IfErr, IfOk, OnOk};
 ghost use Rattle.sha2.specs.Sha256.{sha256};
 ghost use Rattle.sx_block.specs.Block.{IsBlock};
-ghost use Rattle.sx_block.specs.Validity.{IsSound, IsValid, digest_of_ledger, ledger_after};
+ghost use Rattle.sx_block.specs.Rule as rule;
+ghost use Rattle.sx_block.specs.Validity.{HoldsBefore, IsSound, IsValid, digest_of_ledger, ledger_after};
 ghost use Rattle.sx_check.specs.Checked.{IsJudged, IsWrongAfter, checked_of};
 ghost use Rattle.sx_check.specs.Refusals.{Explains, ExplainsEarly, Refuses};
+ghost use Rattle.sx_check.specs.Surveys.{IsSurveyed};
+ghost use Rattle.sx_ledger.specs.Ledger.{IsLedger};
 ghost use Rattle.sx_tx.specs.Transactions.{list_bytes};
 
 use crate::body::check_body;
@@ -15,10 +18,11 @@ use crate::header::check_header;
 use crate::invalid::Invalid;
 use crate::market::check_market;
 use crate::rounding::check_rounding;
+use crate::survey::{Survey, survey_of};
 use std::alloc::Global;
 use sx_apply::{Effects, apply};
 use sx_block::{Block, Digest, Header, body_digest, ledger_digest};
-use sx_body::offers_after;
+use sx_body::PrecheckFault;
 use sx_ledger::Ledger;
 
 // What is told of a valid block.
@@ -31,6 +35,33 @@ fn checked(block: &Block) -> Checked
         value: block.header.trades.value(),
         dropped: block.header.dropped.is_some(),
     }
+}
+
+// The rest of a judgement, once the header is one for the ledger and this was found of the transactions.
+fn judge_body(
+    alloc: Global,
+    ledger: &Ledger,
+    block: &Block,
+    found: Result<Survey, PrecheckFault>,
+) -> Result<Judged, CheckFault>
+    requires form { IsBlock block.now }
+    requires kept { IsLedger ledger.now }
+    requires header { HoldsBefore rule.Passes ledger.now block.now }
+    requires found { IsSurveyed ledger.now block.now.txs found }
+    ensures judged { IfOk result (IsJudged ledger.now block.now) }
+    ensures refused { IfErr result (ExplainsEarly ledger.now block.now) }
+{
+    let Survey { tally, offers } = check_body(ledger, block, found)?;
+    check_market(alloc, ledger, block, offers.items())?;
+    let fills = check_rounding(alloc, ledger, block, offers.items())?;
+    Ok(Judged {
+        checked: checked(block),
+        effects: Effects {
+            tally,
+            offers,
+            fills,
+        },
+    })
 }
 
 /// Judges a block on a ledger by all but the digest of the ledger that it leaves: Ok exactly where the
@@ -53,18 +84,29 @@ pub fn judge(
     ensures refused { IfErr result (ExplainsEarly ledger.now block.now) }
 {
     check_header(ledger, block, parent, body)?;
-    let tally = check_body(alloc, ledger, block)?;
-    let offers = offers_after(alloc, ledger, &tally)?;
-    check_market(alloc, ledger, block, offers.items())?;
-    let fills = check_rounding(alloc, ledger, block, offers.items())?;
-    Ok(Judged {
-        checked: checked(block),
-        effects: Effects {
-            tally,
-            offers,
-            fills,
-        },
-    })
+    let found = survey_of(alloc, ledger, block.txs.items());
+    judge_body(alloc, ledger, block, found)
+}
+
+/// The same for a caller that has the survey of the transactions already, by [`survey_of`], as one does that makes their digest
+/// on another thread meanwhile. `found` is what the survey answered.
+pub fn judge_surveyed(
+    alloc: Global,
+    ledger: &Ledger,
+    block: &Block,
+    parent: &Digest,
+    body: &Digest,
+    found: Result<Survey, PrecheckFault>,
+) -> Result<Judged, CheckFault>
+    requires form { IsBlock block.now }
+    requires parent { parent.now ≡ digest_of_ledger ledger.now }
+    requires body { body.now ≡ sha256 (list_bytes block.now.txs) }
+    requires found { IsSurveyed ledger.now block.now.txs found }
+    ensures judged { IfOk result (IsJudged ledger.now block.now) }
+    ensures refused { IfErr result (ExplainsEarly ledger.now block.now) }
+{
+    check_header(ledger, block, parent, body)?;
+    judge_body(alloc, ledger, block, found)
 }
 
 /// Whether the block leaves the ledger that its header says: Ok exactly where `after`, the digest of

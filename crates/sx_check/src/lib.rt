@@ -4,7 +4,8 @@
 //! reasons, [`Invalid`], in the order of their numbers, but that the last stands in the place
 //! of the tenth where the block is of version 2. [`judge`] is the same up to `WrongAfter`,
 //! with the effects that an execution need not compute again, and [`close`] is that one, once the
-//! ledger after the block is known. [`check_laws`] says that each block is valid or has one first
+//! ledger after the block is known. [`survey_of`] is the part of it that needs no header, and [`judge_surveyed`]
+//! the rest. [`check_laws`] says that each block is valid or has one first
 //! reason, and never both.
 //!
 //! A header needs not be trusted: that no circulation trades more value follows from its potentials,
@@ -25,9 +26,11 @@ mod judging;
 mod laws;
 mod market;
 mod rounding;
+mod survey;
 
 pub use checked::{Checked, Judged};
 pub use fault::CheckFault;
 pub use invalid::Invalid;
-pub use judging::{check, close, judge};
+pub use judging::{check, close, judge, judge_surveyed};
 pub use laws::check_laws;
+pub use survey::{Survey, survey_of};

@@ -1,11 +1,12 @@
-//! Blocks as they come, with the digests of their transactions.
+//! Blocks as they come, with the digests of their transactions and what those do to a ledger.
 
 ghost use Rattle.std.specs.Prelude.{◌≡◌, ◌+◌, ◌^◌, ◌≤◌, drop, length, IfErr, IfOk, IsErrOf, IsTrue};
 ghost use Rattle.sha2.specs.Sha256.{sha256};
 ghost use Rattle.sx_base.specs.Outside.{Rose};
 ghost use Rattle.sx_block.specs.Block.{IsBlock};
 ghost use Rattle.sx_block.specs.Encoding.{block_bytes};
-ghost use Rattle.sx_input.specs.Incoming.{HasDigest, item_of};
+ghost use Rattle.sx_check.specs.Surveys.{IsSurveyed};
+ghost use Rattle.sx_input.specs.Incoming.{HasDigest, IsReady, item_of};
 ghost use Rattle.sx_input.specs.Stream.{Holds, Stops, UnlessReadFault};
 ghost use Rattle.sx_meaning.specs.Expected.{item_at, needed};
 ghost use Rattle.sx_meaning.specs.Items.{IsItem, item_record, payload_at, payload_of};
@@ -21,6 +22,9 @@ use std::alloc::Global;
 use std::thread::{Threads, join};
 use sx_base::Source;
 use sx_block::{Block, Digest, digest_of, header_length};
+use sx_body::PrecheckFault;
+use sx_check::{Survey, survey_of};
+use sx_ledger::Ledger;
 use sx_record::{Record, tag};
 
 // From how many bytes on transactions are hashed on a thread of their own. Hashing takes a millisecond there, and to
@@ -41,11 +45,19 @@ const CUT_BYTES: usize = 4;
 
 const DIGEST_BYTES: usize = 32;
 
-/// A block that was read, and the digest of its transactions.
+/// A block that was read, the digest of its transactions, and the survey of them on the ledger that it comes to.
 #[derive(Debug, Drop)]
 pub struct Incoming {
     pub block: Block,
     pub body: Digest,
+    pub found: Result<Survey, PrecheckFault>,
+}
+
+// A block that was read, and the survey of its transactions on a ledger.
+#[derive(Debug, Drop)]
+struct Surveyed {
+    block: Block,
+    found: Result<Survey, PrecheckFault>,
 }
 
 // The byte at a place, or 0 where there is none.
@@ -76,73 +88,99 @@ fn transactions_begin(payload: &[u8]) -> usize
     begin.min(payload.len())
 }
 
-// The digest of the bytes of a payload from a place on, and the block that the payload encodes. Where there are many
-// such bytes, a thread of its own makes the digest.
+// The block that the payload of a record encodes, and the survey of its transactions on a ledger.
+fn surveyed(alloc: Global, ledger: &Ledger, found: &Record) -> Result<Surveyed, Stop>
+    requires place { found.now.at ≤ 2 ^ 63 + 5 }
+    requires fits { length found.now.payload ≤ most_bytes }
+    ensures exact { Holds (λ said. item.block said.block) found.now.at (payload_at block_tag found.now.payload) result }
+    ensures form { IfOk result (λ said. IsBlock said.block) }
+    ensures encoded { IfOk result (λ said. found.now.payload ≡ block_bytes said.block) }
+    ensures survey { IfOk result (λ said. IsSurveyed ledger.now said.block.txs said.found) }
+{
+    let block: Block = decoded(alloc, found)?;
+    let found = survey_of(alloc, ledger, block.txs.items());
+    Ok(Surveyed { block, found })
+}
+
+// The digest of the bytes of a payload from a place on, and the block that the payload encodes with its survey. Where
+// there are many such bytes, a thread of its own makes the digest.
 fn digest_and_block<R: Threads>(
     rt: &R,
     alloc: Global,
+    ledger: &Ledger,
     found: &Record,
     from: usize,
-) -> (Digest, Result<Block, Stop>)
+) -> (Digest, Result<Surveyed, Stop>)
     requires place { found.now.at ≤ 2 ^ 63 + 5 }
     requires fits { length found.now.payload ≤ most_bytes }
     requires within { from ≤ length found.now.payload }
     ensures digest { result.0 ≡ sha256 (drop from found.now.payload) }
-    ensures exact { Holds (λ said. item.block said) found.now.at (payload_at block_tag found.now.payload) result.1 }
-    ensures form { IfOk result.1 IsBlock }
-    ensures encoded { IfOk result.1 (λ said. found.now.payload ≡ block_bytes said) }
+    ensures exact { Holds (λ said. item.block said.block) found.now.at (payload_at block_tag found.now.payload) result.1 }
+    ensures form { IfOk result.1 (λ said. IsBlock said.block) }
+    ensures encoded { IfOk result.1 (λ said. found.now.payload ≡ block_bytes said.block) }
+    ensures survey { IfOk result.1 (λ said. IsSurveyed ledger.now said.block.txs said.found) }
 {
     let transactions = &found.payload.items()[from..];
     if transactions.len() < WORTH_A_THREAD {
-        return (digest_of(transactions), decoded(alloc, found));
+        return (digest_of(transactions), surveyed(alloc, ledger, found));
     }
     join(
         rt,
         || -> Digest
             ensures { result ≡ sha256 transactions.entry.now }
         { digest_of(transactions) },
-        || -> Result<Block, Stop>
+        || -> Result<Surveyed, Stop>
             requires place { found.now.at ≤ 2 ^ 63 + 5 }
             requires fits { length found.now.payload ≤ most_bytes }
-            ensures exact { Holds (λ said. item.block said) found.entry.now.at (payload_at block_tag found.entry.now.payload) result }
-            ensures form { IfOk result IsBlock }
-            ensures encoded { IfOk result (λ said. found.entry.now.payload ≡ block_bytes said) }
-        { decoded(alloc, found) },
+            ensures exact { Holds (λ said. item.block said.block) found.entry.now.at (payload_at block_tag found.entry.now.payload) result }
+            ensures form { IfOk result (λ said. IsBlock said.block) }
+            ensures encoded { IfOk result (λ said. found.entry.now.payload ≡ block_bytes said.block) }
+            ensures survey { IfOk result (λ said. IsSurveyed ledger.entry.now said.block.txs said.found) }
+        { surveyed(alloc, ledger, found) },
     )
 }
 
 /// The block that the payload of a record encodes, with the digest of its transactions, which is made of the payload's
-/// own bytes. Many are hashed on a thread of their own while the block is decoded, and the call returns where that
-/// thread returns. Where no thread can be started, the two are done in turn.
-pub fn decoded_block<R: Threads>(rt: &R, alloc: Global, found: &Record) -> Result<Incoming, Stop>
+/// own bytes, and the survey of them on the ledger that the block comes to. Many transactions are hashed on a thread of
+/// their own while the block is decoded and surveyed, and the call returns where that thread returns. Where no thread
+/// can be started, the two are done in turn.
+pub fn decoded_block<R: Threads>(
+    rt: &R,
+    alloc: Global,
+    ledger: &Ledger,
+    found: &Record,
+) -> Result<Incoming, Stop>
     requires place { found.now.at ≤ 2 ^ 63 + 5 }
     requires fits { length found.now.payload ≤ most_bytes }
     ensures exact { Holds item_of found.now.at (payload_at block_tag found.now.payload) result }
     ensures form { IfOk result (λ incoming. IsItem (item_of incoming)) }
     ensures encoded { IfOk result (λ incoming. found.now.payload ≡ payload_of (item_of incoming)) }
     ensures known { IfOk result HasDigest }
+    ensures survey { IfOk result (IsReady ledger.now) }
 {
     let payload = found.payload.items();
     let from = transactions_begin(payload);
-    let (digest, block) = digest_and_block(rt, alloc, found, from);
-    match block {
-        Ok(block) => {
+    let (digest, said) = digest_and_block(rt, alloc, ledger, found, from);
+    match said {
+        Ok(Surveyed { block, found }) => {
             let begin = header_length(&block);
             let body = if begin == from {
                 digest
             } else {
                 digest_of(&payload[begin..])
             };
-            Ok(Incoming { block, body })
+            Ok(Incoming { block, body, found })
         }
         Err(stop) => Err(stop),
     }
 }
 
-/// The block that the next record holds, which has to be there and to have the tag of a block.
+/// The block that the next record holds, which has to be there and to have the tag of a block, with its survey on
+/// the ledger that it comes to.
 pub fn take_block<R: Threads, S: Source>(
     rt: &R,
     alloc: Global,
+    ledger: &Ledger,
     source: &mut S,
     at: u64,
 ) -> Result<Taken<Incoming>, Stop>
@@ -151,6 +189,7 @@ pub fn take_block<R: Threads, S: Source>(
     ensures took { IfOk result (λ taken. Took (S.left source.old) (S.left source.new) (item_record (item_of taken.held))) }
     ensures form { IfOk result (λ taken. IsItem (item_of taken.held)) }
     ensures known { IfOk result (λ taken. HasDigest taken.held) }
+    ensures survey { IfOk result (λ taken. IsReady ledger.now taken.held) }
     ensures end { IfOk result (λ taken. taken.end ≡ at + length (item_record (item_of taken.held))) }
     ensures near { IfOk result (λ taken. taken.end ≤ at + (frame_bytes + most_bytes)) }
     ensures steady { UnlessReadFault result (IsTrue (S.strict source.old) → S.faults source.new ≡ S.faults source.old) }
@@ -159,7 +198,7 @@ pub fn take_block<R: Threads, S: Source>(
     ensures kept { S.strict source.new ≡ S.strict source.old }
 {
     let found = required(alloc, source, at, tag::BLOCK)?;
-    let held = decoded_block(rt, alloc, &found)?;
+    let held = decoded_block(rt, alloc, ledger, &found)?;
     let end = end_of(&found);
     Ok(Taken { held, end })
 }

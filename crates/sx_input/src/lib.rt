@@ -5,7 +5,8 @@
 //! [`Payload`]. [`end`] says that nothing comes after it. A command that takes records of several tags uses [`next`], which answers
 //! a record or the end, and [`decoded`], which answers what the record holds. [`take_head`] reads the state at
 //! the beginning of an input with its digest, and [`take_block`] and [`decoded_block`] a block with that of its
-//! transactions. A large payload is decoded while a thread of its own makes the digest.
+//! transactions and the survey of them. A large payload is decoded, and a block's transactions are surveyed, while a
+//! thread of its own makes the digest.
 //!
 //! ```text
 //!     source -> next -> record -> decoded -> ledger, candidates, block, outcomes or script

@@ -1,0 +1,19 @@
+-- What is found of the transactions of a block before its header is looked at.
+use Rattle.std.specs.Prelude.{List, Result, IfErr, IfOk}
+use Rattle.sx_apply.specs.Effects.{AreOffersAfter}
+use Rattle.sx_body.specs.declared.prechecking.PrecheckFault.{PrecheckFault}
+use Rattle.sx_body.specs.Refusal.{IsPrecheckFault}
+use Rattle.sx_body.specs.Tally.{IsTally}
+use Rattle.sx_check.specs.declared.survey.Survey.{Survey}
+use Rattle.sx_ledger.specs.declared.parts.Parts.{Parts}
+use Rattle.sx_tx.specs.declared.tx.Tx.{Tx}
+
+-- what transactions do to a ledger that refuses none of them by itself, and the offers after them
+pub record IsSurvey (parts : Parts) (txs : List Tx) (found : Survey) : Type 0 where
+  pub tally : IsTally parts txs found.tally
+  pub offers : AreOffersAfter parts found.tally found.offers
+
+-- the survey, or why there is none
+pub record IsSurveyed (parts : Parts) (txs : List Tx) (found : Result Survey PrecheckFault) : Type 0 where
+  pub survey : IfOk found (IsSurvey parts txs)
+  pub refused : IfErr found (IsPrecheckFault parts txs)

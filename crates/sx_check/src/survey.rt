@@ -1,0 +1,32 @@
+//! What the transactions of a block do to a ledger, whatever its header says.
+
+ghost use Rattle.std.specs.Prelude.{IfErr, IfOk};
+ghost use Rattle.sx_body.specs.Refusal.{IsPrecheckFault};
+ghost use Rattle.sx_check.specs.Surveys.{IsSurvey};
+
+use std::alloc::Global;
+use sx_body::{PrecheckFault, Tally, offers_after, precheck};
+use sx_ledger::{Ledger, Offers};
+use sx_tx::Tx;
+
+/// What transactions do to a ledger, as a judgement and an execution need it.
+#[derive(Debug, Drop)]
+pub struct Survey {
+    /// What they debit and credit, the numbers that they use, the offers and the accounts that they name.
+    pub tally: Tally,
+    /// The offers after them, in order of their keys, where they are the body of a block.
+    pub offers: Offers,
+}
+
+/// The survey of transactions on a ledger, or the first of them that the ledger refuses by itself. It needs
+/// no header and no digest, so a caller may have it made while others make the digest of the transactions.
+///
+/// It goes over the transactions once and over the offers a fixed number of times.
+pub fn survey_of(alloc: Global, ledger: &Ledger, txs: &[Tx]) -> Result<Survey, PrecheckFault>
+    ensures survey { IfOk result (IsSurvey ledger.now txs.now) }
+    ensures refused { IfErr result (IsPrecheckFault ledger.now txs.now) }
+{
+    let tally = precheck(alloc, ledger, txs)?;
+    let offers = offers_after(alloc, ledger, &tally)?;
+    Ok(Survey { tally, offers })
+}
