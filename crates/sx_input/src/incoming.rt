@@ -14,6 +14,7 @@ ghost use Rattle.sx_meaning.specs.Items as item;
 ghost use Rattle.sx_record.specs.Frame.{frame_bytes, most_bytes};
 ghost use Rattle.sx_record.specs.Stream.{Took};
 ghost use Rattle.sx_record.specs.Tags.{block_tag};
+ghost use Rattle.sx_tx.specs.Transactions.{list_bytes};
 
 use crate::payloads::decoded;
 use crate::stop::Stop;
@@ -89,7 +90,7 @@ fn transactions_begin(payload: &[u8]) -> usize
 }
 
 // The block that the payload of a record encodes, and the survey of its transactions on a ledger.
-fn surveyed(alloc: Global, ledger: &Ledger, found: &Record) -> Result<Surveyed, Stop>
+fn with_survey(alloc: Global, ledger: &Ledger, found: &Record) -> Result<Surveyed, Stop>
     requires place { found.now.at ≤ 2 ^ 63 + 5 }
     requires fits { length found.now.payload ≤ most_bytes }
     ensures exact { Holds (λ said. item.block said.block) found.now.at (payload_at block_tag found.now.payload) result }
@@ -122,7 +123,7 @@ fn digest_and_block<R: Threads>(
 {
     let transactions = &found.payload.items()[from..];
     if transactions.len() < WORTH_A_THREAD {
-        return (digest_of(transactions), surveyed(alloc, ledger, found));
+        return (digest_of(transactions), with_survey(alloc, ledger, found));
     }
     join(
         rt,
@@ -136,8 +137,22 @@ fn digest_and_block<R: Threads>(
             ensures form { IfOk result (λ said. IsBlock said.block) }
             ensures encoded { IfOk result (λ said. found.entry.now.payload ≡ block_bytes said.block) }
             ensures survey { IfOk result (λ said. IsSurveyed ledger.entry.now said.block.txs said.found) }
-        { surveyed(alloc, ledger, found) },
+        { with_survey(alloc, ledger, found) },
     )
+}
+
+// The digest of the transactions of a block, where a digest was made of its payload from a place on.
+fn transactions_digest(payload: &[u8], block: &Block, from: usize, digest: Digest) -> Digest
+    requires form { IsBlock block.now }
+    requires encoded { payload.now ≡ block_bytes block.now }
+    requires digest { digest ≡ sha256 (drop from payload.now) }
+    ensures { result ≡ sha256 (list_bytes block.now.txs) }
+{
+    let begin = header_length(block);
+    if begin == from {
+        return digest;
+    }
+    digest_of(&payload[begin..])
 }
 
 /// The block that the payload of a record encodes, with the digest of its transactions, which is made of the payload's
@@ -161,18 +176,9 @@ pub fn decoded_block<R: Threads>(
     let payload = found.payload.items();
     let from = transactions_begin(payload);
     let (digest, said) = digest_and_block(rt, alloc, ledger, found, from);
-    match said {
-        Ok(Surveyed { block, found }) => {
-            let begin = header_length(&block);
-            let body = if begin == from {
-                digest
-            } else {
-                digest_of(&payload[begin..])
-            };
-            Ok(Incoming { block, body, found })
-        }
-        Err(stop) => Err(stop),
-    }
+    let Surveyed { block, found } = said?;
+    let body = transactions_digest(payload, &block, from, digest);
+    Ok(Incoming { block, body, found })
 }
 
 /// The block that the next record holds, which has to be there and to have the tag of a block, with its survey on

@@ -9,6 +9,7 @@ ghost use Rattle.sx_meaning.specs.Items as item;
 ghost use Rattle.sx_seal.specs.Filtering.{IsStoppedBy};
 ghost use Rattle.sx_tx.specs.Transactions.{IsTxList, most_transactions};
 
+use crate::lengths::candidates_length;
 use std::alloc::Global;
 use std::thread::Threads;
 use sx_base::Source;
@@ -17,7 +18,7 @@ use sx_check::Invalid;
 use sx_filter::FilterFault;
 use sx_input::{Stop, end, take};
 use sx_ledger::Ledger;
-use sx_record::{tag, write_record};
+use sx_record::{tag, write_frame};
 use sx_tx::{Tx, TxList, write_candidates};
 use sx_words::Command;
 
@@ -43,10 +44,9 @@ fn written(alloc: Global, txs: &[Tx]) -> Result<Writer, NoMemory>
     requires { length txs.now ≤ most_transactions }
     ensures { IfOk result (λ told. told ≡ item_record (item.candidates txs.now)) }
 {
-    let mut payload = Writer::new(alloc);
-    write_candidates(&mut payload, txs)?;
     let mut told = Writer::new(alloc);
-    write_record(&mut told, tag::CANDIDATES, payload.bytes())?;
+    write_frame(&mut told, tag::CANDIDATES, candidates_length(txs))?;
+    write_candidates(&mut told, txs)?;
     Ok(told)
 }
 

@@ -1,8 +1,9 @@
-//! How many bytes a block takes, before it is written.
+//! How many bytes a block and a list of candidates take, before they are written.
 
 ghost use Rattle.std.specs.Prelude.{◌≡◌, ◌≤◌, length};
 ghost use Rattle.sx_block.specs.Block.{IsBlock};
 ghost use Rattle.sx_block.specs.Encoding.{block_bytes};
+ghost use Rattle.sx_record.specs.Frame.{most_bytes};
 ghost use Rattle.sx_tx.specs.Laws.{length_of};
 ghost use Rattle.sx_tx.specs.Transactions.{list_bytes, most_transactions};
 
@@ -40,4 +41,13 @@ pub fn block_length(block: &Block) -> u32
 {
     block_laws();
     (header_length(block) + list_length(block.txs.items())) as u32
+}
+
+// How many bytes the payload of candidates takes.
+pub fn candidates_length(txs: &[Tx]) -> u32
+    requires { length txs.now ≤ most_transactions }
+    ensures exact { result ≡ length (list_bytes txs.now) }
+    ensures few { result ≤ most_bytes }
+{
+    list_length(txs) as u32
 }

@@ -1,9 +1,11 @@
-use Rattle.std.proofs.Common.{[], ◌∷◌, refl}
+use Rattle.std.proofs.Common.{[], ◌∷◌, List, ℕ, refl, sym, subst, ◌∙◌}
+use Rattle.std.specs.Prelude.{IsTrue}
 use Rattle.std.proofs.lemmas.Result.{err_from_is_err_and}
 use Rattle.sx_input.proofs.Readings.{concludes, has_state, nothing_read, one_more, stops}
 use Rattle.sx_meaning.specs.Items.{block, state}
 use Rattle.sx_meaning.proofs.ItemLists.{needed_listed}
 use Rattle.sx_record.specs.Tags.{block_tag}
+use Rattle.sx_chain.proofs.Taking.{steady_too}
 use Rattle.sx_chain.proofs.checking.check.Goals as goal
 use Rattle.sx_words.specs.declared.command.Command.TheVariants.{Check}
 
@@ -49,3 +51,13 @@ returns-clause-found g c =
     concludes Check (state opening.held.ledger ∷ block incoming.held.block ∷ []) incoming.end _ _ _ c.verdict.result
     both
     c.in_ok-end.ensures.ended refl c.verdict.ensures.concludes
+
+pub returns-in_err-end-clause-steady : goal.returns-in_err-end-clause-steady
+returns-in_err-end-clause-steady g c =
+    let p = err_from_is_err_and c.from_residual-in_err-end.result c.from_residual-in_err-end.ensures.1 in
+    rw (p.1, p.2) (steady_too (Unit {0}) (List ℕ) c.in_err-end.field-0.0 _ _
+    (λ ended is.
+    let first = subst IsTrue (sym c.in_ok-opening.ensures.kept) is in
+    ended (subst IsTrue (sym c.in_ok-incoming.ensures.kept) first)
+    ∙ c.in_ok-incoming.ensures.steady first ∙ c.in_ok-opening.ensures.steady is)
+    c.in_err-end.ensures.steady)
