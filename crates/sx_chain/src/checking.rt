@@ -18,12 +18,10 @@ use sx_base::Source;
 use sx_check::CheckFault;
 use sx_input::{Head, Incoming, Stop, end, take_block, take_head};
 use sx_text::{Text, check_line};
-use sx_words::Command;
+use sx_words::{Command, Setting};
 
-// A check is asked for no workers: its block is applied on one thread.
-const WORKERS: u32 = 1;
-
-// The line of a valid block, or the first reason why the block is refused.
+// The line of a valid block, or the first reason why the block is refused. As many workers apply it as a replay has
+// where its words name none.
 fn verdict<R: Threads + Sync>(
     rt: &R,
     alloc: Global,
@@ -37,7 +35,8 @@ fn verdict<R: Threads + Sync>(
     ensures concludes { ConcludesAs Command.Check (item.state head.ledger ∷ item.block incoming.block ∷ []) result }
     ensures calm { IsErrOf result Stop.ReadFault → ⊥ }
 {
-    match advance(rt, alloc, head, incoming, WORKERS) {
+    let workers = Setting::Workers.default();
+    match advance(rt, alloc, head, incoming, workers) {
         Ok(advanced) => Ok(check_line(alloc, &advanced.checked)?),
         Err(CheckFault::Invalid(why)) => Err(Stop::Refused { block: 0, why }),
         Err(CheckFault::NoMemory) => Err(Stop::NoMemory),
