@@ -1,23 +1,17 @@
 //! The end of a gathering.
 
 ghost use Rattle.std.specs.Prelude.{◌≡◌, ◌+◌, ◌<◌, ◌≤◌, vec_len, vec_capacity, [], ◌∷◌, ◌++◌, length, IfOk, if◌then◌else◌};
-ghost use Rattle.std.specs.Bool.{OnTrue};
-ghost use Rattle.std.specs.List.Sorted.{IsPermutation, IsSortedBy};
-ghost use Rattle.std.specs.Ordering.{is_lt};
 ghost use Rattle.sx_gather.specs.Passes.{AreSeats, IsPassOf};
 ghost use Rattle.sx_gather.specs.Seal.{HaveAll, HaveEnded, IsBodyOnceSorted};
 ghost use Rattle.sx_layout.specs.Gathering.{IsGathered, accepted as all_accepted, decisions, is_accepted as accepts};
-ghost use Rattle.sx_ledger.specs.Body.{tx_before};
 
 use crate::gather::Gather;
 use crate::pass::Pass;
 use crate::seat::PassSeat;
-use rayon::slice::par_sort_unstable_by;
 use std::alloc::Global;
-use std::cmp::Ordering;
 use std::thread::Threads;
 use sx_bytes::NoMemory;
-use sx_layout::{Outcome, Outcomes};
+use sx_layout::{Outcome, Outcomes, par_sort_txs, sort_txs};
 use sx_shard::Shard;
 use sx_tx::{Tx, TxList};
 
@@ -81,54 +75,6 @@ fn accepted(alloc: Global, candidates: &[Tx], outcomes: &[Outcome]) -> Result<Ve
     Ok(txs)
 }
 
-// Whether a transaction stands before another in a body: by account, and then by sequence number.
-fn stands_before(one: &Tx, other: &Tx) -> bool
-    ensures { result ≡ tx_before one.now other.now }
-{
-    one.account.0 < other.account.0
-        || one.account.0 == other.account.0 && one.seq.get() < other.seq.get()
-}
-
-// Whether transactions are in the order of a body.
-fn are_sorted(txs: &[Tx]) -> bool
-    ensures { OnTrue result (IsSortedBy tx_before txs.now) }
-{
-    for place in 1..txs.len() {
-        if stands_before(&txs[place], &txs[place - 1]) {
-            return false;
-        }
-    }
-    true
-}
-
-// How two transactions stand in the order of a body. Both numbers are always compared, since a sort is twice as
-// fast where nothing branches on the accounts.
-fn order(one: &Tx, other: &Tx) -> Ordering
-    ensures { is_lt result ≡ tx_before one.now other.now }
-{
-    let by_account = one.account.0.cmp(&other.account.0);
-    by_account.then(one.seq.get().cmp(&other.seq.get()))
-}
-
-// Puts transactions into the order of a body.
-fn sort(txs: &mut [Tx])
-    ensures moves { IsPermutation txs.old txs.new }
-    ensures sorted { IsSortedBy tx_before txs.new }
-{
-    txs.sort_unstable_by(|one, other| order(one, other));
-}
-
-// The same by several threads, unless they are in this order already.
-fn par_sort<R: Threads + Sync>(rt: &R, txs: &mut [Tx])
-    ensures moves { IsPermutation txs.old txs.new }
-    ensures sorted { IsSortedBy tx_before txs.new }
-{
-    if are_sorted(txs) {
-        return;
-    }
-    par_sort_unstable_by(rt, txs, |one: &Tx, other: &Tx| order(one, other));
-}
-
 impl<'a> Gather<'a> {
     // Ends all shards. It answers the accepted candidates, in the order of the candidates, and the outcomes.
     fn close(self, pass: Pass) -> Result<(Vec<Tx>, Outcomes), NoMemory>
@@ -166,7 +112,7 @@ impl<'a> Gather<'a> {
         ensures gathered { IfOk result (λ sealed. IsGathered self.entry.parts self.entry.candidates sealed.outcomes sealed.txs) }
     {
         let (mut txs, outcomes) = self.close(pass)?;
-        sort(&mut txs);
+        sort_txs(&mut txs);
         Ok(Sealed {
             txs: TxList::of(txs),
             outcomes,
@@ -184,7 +130,7 @@ impl<'a> Gather<'a> {
         ensures gathered { IfOk result (λ sealed. IsGathered self.entry.parts self.entry.candidates sealed.outcomes sealed.txs) }
     {
         let (mut txs, outcomes) = self.close(pass)?;
-        par_sort(rt, &mut txs);
+        par_sort_txs(rt, &mut txs);
         Ok(Sealed {
             txs: TxList::of(txs),
             outcomes,

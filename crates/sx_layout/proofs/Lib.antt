@@ -18,6 +18,7 @@ pub mod StepFits
 pub mod Openings
 pub mod NewIdLaws
 pub mod Totals
+pub mod TxOrder
 pub mod MarkedThings
 pub mod MarksLaws
 pub mod AskedThings

@@ -32,6 +32,9 @@
 //! are exactly those. They can be encoded, and they are those of a gathering, whatever the actors and the
 //! order of their turns: its own contract says so.
 //!
+//! [`sort_txs`] puts transactions into the order of a body, by account and then by sequence number, and
+//! [`par_sort_txs`] does the same by several threads.
+//!
 //! Not here: actors that run at the same time. Nothing says which of two candidates that exclude each
 //! other is accepted.
 #![tactic(auto)]
@@ -46,6 +49,7 @@ mod layout;
 mod new_ids;
 mod one_shard;
 mod opening;
+mod order;
 mod outcome;
 mod outcome_reading;
 mod outcome_writing;
@@ -65,6 +69,7 @@ pub use laws::{
     outcome_list_laws, script_laws,
 };
 pub use layout::Layout;
+pub use order::{par_sort_txs, sort_txs};
 pub use outcome::{MOST_OUTCOMES, Outcome, Outcomes};
 pub use outcome_reading::read_outcomes;
 pub use outcome_writing::write_outcomes;

@@ -1,8 +1,8 @@
 use Rattle.std.proofs.Common.{rules}
 use Rattle.std.proofs.lemmas.List.Sorted.{answers_always}
 use Rattle.sx_ledger.specs.Body.{tx_before}
-use Rattle.sx_gather.proofs.Bodies.{tx_order}
-use Rattle.sx_gather.proofs.seal.par_sort.Goals as goal
+use Rattle.sx_layout.proofs.TxOrder.{tx_order}
+use Rattle.sx_layout.proofs.order.par_sort_txs.Goals as goal
 
 pub returns-clause-sorted : goal.returns-clause-sorted
 returns-clause-sorted g c =
