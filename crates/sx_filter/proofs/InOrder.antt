@@ -79,7 +79,7 @@ number_same a b c d = elim (cases_order a c) [
   | inr (inr gt) ↦ rw (le-ltb a c (omega arith)) (rw (ne_eqb a c (λ e. absurd (omega (arith, e, gt)))) refl)
 ]
 
-before_is : (one other : Tx) → tx_before one other ≡ before (number_of one) (number_of other)
+pub before_is : (one other : Tx) → tx_before one other ≡ before (number_of one) (number_of other)
 before_is one other = sym (number_less one.account.0 one.seq other.account.0 other.seq)
 
 less_is : (o : Ordering) → is_lt o ≡ true → o ≡ Less
@@ -87,7 +87,7 @@ less_is Less e = refl
 less_is Equal e = absurd cc
 less_is Greater e = absurd cc
 
-through : (a b c : Number) → before a b ≡ true → before b c ≡ true → before a c ≡ true
+pub through : (a b c : Number) → before a b ≡ true → before b c ≡ true → before a c ≡ true
 through a b c one two =
     ap is_lt (number_total.trans a b c (less_is (number_cmp a b) one) (less_is (number_cmp b c) two))
 
@@ -117,7 +117,7 @@ put_is new [] = refl
 put_is new (tx ∷ txs) =
     λ i. cond (before_is new tx i) (new ∷ tx ∷ txs) (tx ∷ put_is new txs i)
 
-order_is : (txs : List Tx) → in_tx_order txs ≡ put_all number_of before txs []
+pub order_is : (txs : List Tx) → in_tx_order txs ≡ put_all number_of before txs []
 order_is [] = refl
 order_is (tx ∷ txs) = ap (put_tx tx) (order_is txs) ∙ put_is tx (put_all number_of before txs [])
 

@@ -71,11 +71,11 @@ each_covers parts txs account (suc n) each =
     (le-leb (debits txs account n) (holding_of parts.accounts account n) (each n (omega arith)))
 
 -- what is posted somewhere is of this account, and of an asset that there is
-record IsPosted (parts : Parts) (tx : Tx) (account asset : ℕ) : Type 0 where
-  owner : tx.account.0 ≡ account
-  small : asset < assets_of parts
+pub record IsPosted (parts : Parts) (tx : Tx) (account asset : ℕ) : Type 0 where
+  pub owner : tx.account.0 ≡ account
+  pub small : asset < assets_of parts
 
-posted_at : (parts : Parts) (tx : Tx) (account asset : ℕ) → passes parts tx ≡ true
+pub posted_at : (parts : Parts) (tx : Tx) (account asset : ℕ) → passes parts tx ≡ true
     → 1 ≤ posted (debit tx) account asset → IsPosted parts tx account asset
 posted_at parts tx account asset pass some = by (debit tx) refl some
   where

@@ -4,8 +4,12 @@ pub mod KeptAlone
 pub mod InOrder
 pub mod KeptLaws
 pub mod Accepting
+pub mod Ranks
+pub mod Sorted
 pub mod DebitSums
+pub mod RunSums
 pub mod Holdings
-pub mod Taken
+pub mod NamedAgain
+pub mod KeptSorted
 pub mod Picking
 pub mod Few

@@ -1,7 +1,11 @@
 -- The elements that pass a test, as a loop finds them.
-use Rattle.std.proofs.Common.{◌≡◌, ℕ, ◌+◌, ◌<◌, Bool, true, false, cond, List, [], ◌∷◌, ◌++◌, length, get_or, take}
-use Rattle.std.proofs.Common.{All, Ok, sym, ap, ◌∙◌, append-nil}
+use Rattle.std.proofs.Common.{◌≡◌, ℕ, zero, suc, ◌+◌, ◌<◌, Bool, true, false, cond, List, [], ◌∷◌, ◌++◌, length, get_or, take}
+use Rattle.std.proofs.Common.{All, Ok, Some, refl, sym, ap, ◌∙◌, append-nil, arith}
+use Rattle.std.specs.Prelude.{slice_get}
 use Rattle.std.specs.List.{filter}
+use Rattle.std.proofs.lemmas.List.{drop_more}
+use Rattle.std.proofs.lemmas.List.Filters.{FiltersInPlace, FiltersInPlace-more_no}
+use Rattle.std.proofs.lemmas.Option.{slice_get_read}
 use Rattle.std.proofs.lemmas.List.Elements.{Contains-get_or, filter_more}
 use Rattle.sx_filter.specs.Kept.{passes, passing}
 use Rattle.sx_filter.proofs.Counts.{in_contains, in_filter}
@@ -24,6 +28,25 @@ module _ {X : Type 0} (p : X → Bool) (xs : List X) (i : ℕ) (x : X) (lt : i <
 
   pub passed_over : (found : List X) → p x ≡ false → found ≡ filter p (take i xs) → found ≡ filter p (take (i + 1) xs)
   passed_over found e done = done ∙ sym (step false e ∙ append-nil (filter p (take i xs)))
+
+-- ---- in place
+
+element : {X : Type 0} (xs : List X) (i : ℕ) → i < length xs → (x : X) × (x ≡ get_or xs i x)
+element [] i lt = absurd (omega arith)
+element (x ∷ xs) zero lt = (x, refl)
+element (x ∷ xs) (suc i) lt = element xs i (omega (arith, lt))
+
+module _ {X : Type 0} {p : X → Bool} {xs ys : List X} {k i : ℕ} (is : FiltersInPlace p xs ys k i) where
+  pub rest_at : (x : X) → i < length ys → x ≡ get_or ys i x → slice_get xs i ≡ Some x
+  rest_at x lt read =
+      let inside : i < length xs = omega (arith, lt, is.long) in
+      slice_get_read xs (length xs) i x refl inside
+      (read ∙ ap (λ (list : List X). get_or list 0 x) (sym (drop_more ys i x lt) ∙ is.rest ∙ drop_more xs i x inside))
+
+  pub left_out : i < length ys → ((x : X) → slice_get xs i ≡ Some x → p x ≡ false) → FiltersInPlace p xs ys k (i + 1)
+  left_out lt fails =
+      let one = element ys i lt in
+      FiltersInPlace-more_no is lt (fails one.0 (rest_at one.0 lt one.1)) one.1
 
 pub all_pass : (parts : Parts) (candidates : List Tx)
     → All (λ tx. static_of parts tx ≡ Ok tt) (passing parts candidates)

@@ -17,3 +17,7 @@ is_alone parts passed tx =
     && (not (is_twice (same_offer tx) passed)
     && (not (is_twice (same_id tx) passed)
     && covers parts passed tx.account.0 (assets_of parts)))
+
+-- whether its account holds as much as all candidates debit
+abbrev pub is_covered : Parts → List Tx → Tx → Bool
+is_covered parts passed tx = covers parts passed tx.account.0 (assets_of parts)

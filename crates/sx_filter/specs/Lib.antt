@@ -3,4 +3,5 @@ pub mod Fault
 pub mod Laws
 pub mod Alone
 pub mod Verdicts
-pub mod Tally
+pub mod Named
+pub mod Runs

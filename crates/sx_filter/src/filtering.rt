@@ -1,51 +1,39 @@
 //! The candidates that a filter keeps.
 
-ghost use Rattle.std.specs.Prelude.{◌≡◌, ◌≤◌, List, length, IfOk, IfErr, OnOk, Err};
+ghost use Rattle.std.specs.Prelude.{◌≡◌, ◌≤◌, Bool, length, vec_len, IfOk, IfErr, Err};
 ghost use Rattle.std.specs.List.{filter as those};
-ghost use Rattle.std.specs.List.Sorted.{IsPermutation, IsSortedBy};
-ghost use Rattle.std.specs.Ordering.{is_lt};
-ghost use Rattle.sx_filter.specs.Alone.{is_alone};
 ghost use Rattle.sx_filter.specs.Fault.{fault_of as the_fault, IsFaultOf};
 ghost use Rattle.sx_filter.specs.Kept.{kept_of};
-ghost use Rattle.sx_filter.specs.Tally.{IsTally, pair_cmp};
+ghost use Rattle.sx_filter.specs.Verdicts.{AreVerdicts};
 ghost use Rattle.sx_layout.specs.declared.space.NoRoom.{NoRoom as WhyNoRoom};
 ghost use Rattle.sx_layout.specs.Room.{room_for};
-ghost use Rattle.sx_ledger.specs.declared.parts.Parts.{Parts as Ledgers};
 ghost use Rattle.sx_ledger.specs.Body.{IsAdmissible};
+ghost use Rattle.sx_tx.specs.declared.tx.Tx.{Tx as Transaction};
 ghost use Rattle.sx_tx.specs.Transactions.{most_transactions};
 
+use crate::alone::verdicts_of;
 use crate::fault::FilterFault;
 use crate::passing::passing;
-use crate::tally::Tally;
 use std::alloc::Global;
 use std::thread::Threads;
-use sx_bytes::NoMemory;
-use sx_layout::room;
+use sx_layout::{par_sort_txs, room};
 use sx_ledger::Ledger;
 use sx_tx::{Tx, TxList};
 
-// Those of the candidates that nothing stands in the way of, where all that pass were tallied.
-fn kept(alloc: Global, passed: &[Tx], tally: &Tally) -> Result<Vec<Tx>, NoMemory>
-    ensures { (parts : Ledgers) → IsTally parts passed.now tally.now
-        → IfOk result (λ txs. txs.items ≡ those (is_alone parts passed.now) passed.now) }
+// Keeps the candidates at the places that a list of verdicts names, in their order.
+fn keep(txs: &mut Vec<Tx>, verdicts: &[bool])
+    requires { length verdicts.now ≡ vec_len txs.old }
+    ensures { (passes : Transaction → Bool) → AreVerdicts passes txs.old.items verdicts.now
+        → txs.new.items ≡ those passes txs.old.items }
 {
-    let mut txs = Vec::new(alloc);
-    for tx in passed {
-        if tally.keeps(tx) {
-            txs.push(*tx)?;
+    let mut kept = 0;
+    for place in 0..verdicts.len() {
+        if verdicts[place] {
+            txs[kept] = txs[place];
+            kept += 1;
         }
     }
-    Ok(txs)
-}
-
-// Puts transactions into the order of a body.
-fn sort(txs: &mut Vec<Tx>) -> Result<(), NoMemory>
-    ensures moves { IsPermutation txs.old.items txs.new.items }
-    ensures sorted { OnOk result (IsSortedBy (λ x y. is_lt
-        (pair_cmp (x.account.0, x.seq) (y.account.0, y.seq))) txs.new.items) }
-{
-    txs.sort_by_key(|tx| (tx.account.0, tx.seq.get()))?;
-    Ok(())
+    txs.truncate(kept);
 }
 
 /// Chooses of at most 1,000,000 candidates of a ledger those that no other candidate stands in the way of,
@@ -76,9 +64,9 @@ pub fn filter<R: Threads + Sync>(
     ensures fault { IfErr result (IsFaultOf (room_for ledger.now candidates.now)) }
 {
     room(ledger, candidates)?;
-    let passed = passing(rt, alloc, ledger, candidates, workers)?;
-    let tally = Tally::of(alloc, ledger, &passed)?;
-    let mut txs = kept(alloc, &passed, &tally)?;
-    sort(&mut txs)?;
+    let mut txs = passing(rt, alloc, ledger, candidates, workers)?;
+    par_sort_txs(rt, &mut txs);
+    let verdicts = verdicts_of(rt, alloc, ledger, &txs, workers)?;
+    keep(&mut txs, &verdicts);
     Ok(TxList::of(txs))
 }

@@ -32,14 +32,15 @@
 //! tests and their bounds are this project's own.
 #![tactic(auto)]
 
-mod debited;
+mod alone;
 mod fault;
 mod filtering;
 mod kinds;
 mod laws;
+mod named;
 mod passing;
+mod runs;
 mod seen;
-mod tally;
 
 pub use fault::FilterFault;
 pub use filtering::filter;

@@ -1,38 +1,42 @@
 //! Which candidates pass the ledger's test.
 
-ghost use Rattle.std.specs.Prelude.{◌≡◌, ◌<◌, ◌≤◌, length, IfOk};
-ghost use Rattle.sx_filter.specs.Kept.{passing as passing_of};
+ghost use Rattle.std.specs.Prelude.{◌≡◌, ◌<◌, ◌≤◌, Bool, length, IfOk};
+ghost use Rattle.std.specs.List.{filter as those};
+ghost use Rattle.sx_filter.specs.Kept.{passes, passing as passing_of};
 ghost use Rattle.sx_filter.specs.Verdicts.{AreVerdicts, IsVerdict};
-ghost use Rattle.sx_ledger.specs.declared.parts.Parts.{Parts as Ledgers};
+ghost use Rattle.sx_ledger.specs.Ledger.{ids};
+ghost use Rattle.sx_tx.specs.declared.tx.Tx.{Tx as Transaction};
 
 use std::alloc::Global;
 use std::thread::{Threads, for_each_mut};
 use sx_bytes::NoMemory;
-use sx_ledger::Ledger;
+use sx_ledger::{AccountIndex, Ledger};
 use sx_tx::Tx;
 
 // Tests all candidates, each by itself, in so many threads.
 fn test_all<R: Threads + Sync>(
     rt: &R,
     ledger: &Ledger,
+    index: &AccountIndex,
     candidates: &[Tx],
     workers: u32,
     verdicts: &mut [bool],
 )
+    requires index { index.now ≡ ids ledger.now.accounts }
     requires some { 1 ≤ workers }
     requires one_each { length verdicts.old ≡ length candidates.now }
     ensures one_each { length verdicts.new ≡ length candidates.now }
-    ensures verdicts { AreVerdicts ledger.now candidates.now verdicts.new }
+    ensures verdicts { AreVerdicts (passes ledger.now) candidates.now verdicts.new }
 {
     for_each_mut(
         rt,
         verdicts,
         workers as usize,
         &|place: usize, verdict: &mut bool|
-            requires { place < length candidates.now }
-            ensures { IsVerdict ledger.entry.now candidates.entry.now place verdict.exit.now }
+            requires { (place < length candidates.now) × (index.now ≡ ids ledger.now.accounts) }
+            ensures { IsVerdict (passes ledger.entry.now) candidates.entry.now place verdict.exit.now }
         {
-            *verdict = ledger.static_check(&candidates[place]).is_ok();
+            *verdict = ledger.places_of(index, 0, &candidates[place]).is_ok();
         },
     );
 }
@@ -47,20 +51,21 @@ fn verdicts_of<R: Threads + Sync>(
 ) -> Result<Vec<bool>, NoMemory>
     requires { 1 ≤ workers }
     ensures one_each { IfOk result (λ verdicts. length verdicts.items ≡ length candidates.now) }
-    ensures verdicts { IfOk result (λ verdicts. AreVerdicts ledger.now candidates.now verdicts.items) }
+    ensures verdicts { IfOk result (λ verdicts. AreVerdicts (passes ledger.now) candidates.now verdicts.items) }
 {
+    let index = ledger.index()?;
     let mut verdicts = vec![in alloc; false; candidates.len()]?;
-    test_all(rt, ledger, candidates, workers, &mut verdicts);
+    test_all(rt, ledger, &index, candidates, workers, &mut verdicts);
     Ok(verdicts)
 }
 
-// The candidates at the places that pass.
-fn passed(alloc: Global, candidates: &[Tx], verdicts: &[bool]) -> Result<Vec<Tx>, NoMemory>
+// The candidates at the places of which the verdict is good.
+fn chosen(alloc: Global, candidates: &[Tx], verdicts: &[bool]) -> Result<Vec<Tx>, NoMemory>
     requires { length verdicts.now ≡ length candidates.now }
-    ensures { (parts : Ledgers) → AreVerdicts parts candidates.now verdicts.now
-        → IfOk result (λ txs. txs.items ≡ passing_of parts candidates.now) }
+    ensures { (passes : Transaction → Bool) → AreVerdicts passes candidates.now verdicts.now
+        → IfOk result (λ txs. txs.items ≡ those passes candidates.now) }
 {
-    let mut txs = Vec::new(alloc);
+    let mut txs = Vec::with_capacity(alloc, candidates.len())?;
     for place in 0..candidates.len() {
         let tx = candidates[place];
         if verdicts[place] {
@@ -82,5 +87,5 @@ pub(crate) fn passing<R: Threads + Sync>(
     ensures { IfOk result (λ txs. txs.items ≡ passing_of ledger.now candidates.now) }
 {
     let verdicts = verdicts_of(rt, alloc, ledger, candidates, workers)?;
-    passed(alloc, candidates, &verdicts)
+    chosen(alloc, candidates, &verdicts)
 }

@@ -1,48 +1,35 @@
-//! Keys, and those of them that come more than once.
+//! Keys in order, to tell those that come more than once.
 
-ghost use Rattle.std.specs.Prelude.{◌≡◌, ◌++◌, [], ◌∷◌, List, OnOk};
-ghost use Rattle.std.specs.BTreeSet.{contains};
-ghost use Rattle.sx_filter.specs.Tally.{IsSeen};
+ghost use Rattle.std.specs.Prelude.{◌≡◌, List};
+ghost use Rattle.std.specs.Ordering.{is_eq};
+ghost use Rattle.sx_filter.specs.Alone.{is_twice};
+ghost use Rattle.sx_filter.specs.Named.{IsSeen};
 
-use std::alloc::Global;
-use std::collections::BTreeSet;
-use sx_bytes::NoMemory;
-
-// The keys that were entered, and those that were entered more than once.
+// Keys, sorted.
 #[derive(Debug, Drop)]
 pub(crate) struct Seen<K: Ord> {
-    once: BTreeSet<K>,
-    again: BTreeSet<K>,
+    keys: Vec<K>,
 }
 
 impl<K: Ord + Copy> Seen<K> {
-    // No keys.
-    pub(crate) fn none(alloc: Global) -> Seen<K>
-        ensures { IsSeen K.cmp [] result }
+    // The keys of a list.
+    pub(crate) fn of(keys: Vec<K>) -> Seen<K>
+        ensures { IsSeen K.cmp keys.items result }
     {
-        Seen {
-            once: BTreeSet::new(alloc),
-            again: BTreeSet::new(alloc),
-        }
+        let mut keys = keys;
+        keys.sort_unstable();
+        Seen { keys }
     }
 
-    // Enters a key.
-    pub(crate) fn enter(&mut self, key: K) -> Result<(), NoMemory>
-        ensures { OnOk result ((keys : List K) → IsSeen K.cmp keys self.old
-            → IsSeen K.cmp (keys ++ key ∷ []) self.new) }
-    {
-        let is_new = self.once.insert(key)?;
-        if is_new {
-            return Ok(());
-        }
-        self.again.insert(key)?;
-        Ok(())
-    }
-
-    // Whether the key was entered more than once.
+    // Whether the key came more than once.
     pub(crate) fn is_again(&self, key: K) -> bool
-        ensures { result ≡ contains K.cmp self.now.again key }
+        ensures { (keys : List K) → IsSeen K.cmp keys self.now
+            → result ≡ is_twice (λ k. is_eq (K.cmp k key)) keys }
     {
-        self.again.contains(&key)
+        let first = self.keys.partition_point(|one| one.cmp(&key).is_lt());
+        if first >= self.keys.len().saturating_sub(1) {
+            return false;
+        }
+        self.keys[first + 1].cmp(&key).is_eq()
     }
 }

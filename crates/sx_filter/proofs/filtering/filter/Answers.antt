@@ -1,40 +1,52 @@
-use Rattle.std.proofs.Common.{◌≡◌, ◌≤◌, List, All, Ok, length, sym, ap, subst, ◌∙◌}
+use Rattle.std.proofs.Common.{◌≡◌, ◌≤◌, Bool, List, All, Ok, length, sym, ap, subst, ◌∙◌, arith}
 use Rattle.std.specs.List.{filter}
-use Rattle.std.specs.List.Sorted.{IsPermutation}
+use Rattle.std.specs.List.Sorted.{IsPermutation, IsSortedBy}
+use Rattle.std.proofs.lemmas.List.{with_items_is}
 use Rattle.sx_filter.specs.Alone.{is_alone}
 use Rattle.sx_filter.specs.Kept.{passing}
-use Rattle.sx_filter.specs.Tally.{IsTally}
+use Rattle.sx_filter.specs.Verdicts.{AreVerdicts}
 use Rattle.sx_filter.proofs.Few.{kept_is_few}
-use Rattle.sx_filter.proofs.InOrder.{sorted_is}
-use Rattle.sx_filter.proofs.KeptAlone.{alone, kept_is}
-use Rattle.sx_filter.proofs.KeptLaws.{kept_is_admissible, once}
-use Rattle.sx_filter.proofs.Picking.{all_pass}
+use Rattle.sx_filter.proofs.KeptLaws.{kept_is_admissible}
+use Rattle.sx_filter.proofs.KeptSorted.{kept_sorted, moved_pass}
 use Rattle.sx_filter.proofs.filtering.filter.Goals as goal
-use Rattle.sx_ledger.specs.Body.{IsAdmissible}
+use Rattle.sx_ledger.specs.Body.{IsAdmissible, tx_before}
 use Rattle.sx_ledger.specs.Static.{static_of}
 use Rattle.sx_tx.specs.declared.tx.Tx.{Tx}
 
-pub of-requires : goal.of-requires
-of-requires g c =
+pub verdicts_of-requires-clause-passes : goal.verdicts_of-requires-clause-passes
+verdicts_of-requires-clause-passes g c κs within =
     let parts = c.args.ledger.now in
-    subst (All (λ (tx : Tx). static_of parts tx ≡ Ok tt)) (sym (c.deref.ensures.value ∙ c.in_ok-passed.ensures))
-    (all_pass parts c.args.candidates.now)
+    let sorted = c.par_sort_txs.new.txs in
+    let whole = with_items_is c.in_ok-txs.txs sorted (omega (arith, c.par_sort_txs.auto.txs, c.deref_mut.ensures.len)) in
+    subst (All (λ (tx : Tx). static_of parts tx ≡ Ok tt)) (sym (c.deref.ensures.value ∙ whole))
+    (moved_pass parts c.args.candidates.now sorted
+    (subst (λ (txs : List Tx). IsPermutation txs sorted) (c.deref_mut.ensures.value ∙ c.in_ok-txs.ensures)
+    c.par_sort_txs.ensures.moves))
+
+pub verdicts_of-requires-clause-sorted : goal.verdicts_of-requires-clause-sorted
+verdicts_of-requires-clause-sorted g c κs within =
+    let sorted = c.par_sort_txs.new.txs in
+    let whole = with_items_is c.in_ok-txs.txs sorted (omega (arith, c.par_sort_txs.auto.txs, c.deref_mut.ensures.len)) in
+    subst (IsSortedBy tx_before) (sym (c.deref.ensures.value ∙ whole)) c.par_sort_txs.ensures.sorted
 
 pub returns-clause-kept : goal.returns-clause-kept
 returns-clause-kept g c =
     let parts = c.args.ledger.now in
-    let candidates = c.args.candidates.now in
-    let one : c.deref.result.now ≡ passing parts candidates = c.deref.ensures.value ∙ c.in_ok-passed.ensures in
-    let two : c.deref-2.result.now ≡ passing parts candidates = c.deref-2.ensures.value ∙ c.in_ok-passed.ensures in
-    let tally : IsTally parts c.deref-2.result.now c.in_ok-tally.tally =
-    subst (λ (txs : List Tx). IsTally parts txs c.in_ok-tally.tally) (one ∙ sym two) c.in_ok-tally.ensures in
-    let chosen : c.in_ok-txs.txs.items ≡ alone parts candidates =
-    c.in_ok-txs.ensures parts tally ∙ ap (λ (txs : List Tx). filter (is_alone parts txs) txs) two in
-    c.of-2.ensures
-    ∙ sorted_is (alone parts candidates) c.sort.new.txs.items (once parts candidates)
-    (subst (λ (txs : List Tx). IsPermutation txs c.sort.new.txs.items) chosen c.in_ok-sort.ensures.moves)
-    c.in_ok-sort.ensures.sorted
-    ∙ sym (kept_is parts candidates)
+    let sorted = c.par_sort_txs.new.txs in
+    let said = c.in_ok-verdicts.verdicts.items in
+    let whole = with_items_is c.in_ok-txs.txs sorted (omega (arith, c.par_sort_txs.auto.txs, c.deref_mut.ensures.len)) in
+    let moves : IsPermutation (passing parts c.args.candidates.now) sorted =
+    subst (λ (txs : List Tx). IsPermutation txs sorted) (c.deref_mut.ensures.value ∙ c.in_ok-txs.ensures)
+    c.par_sort_txs.ensures.moves in
+    let told : AreVerdicts (is_alone parts sorted) sorted said =
+    subst (λ (txs : List Tx). AreVerdicts (is_alone parts txs) txs said) (c.deref.ensures.value ∙ whole)
+    c.in_ok-verdicts.ensures.verdicts in
+    c.of.ensures
+    ∙ c.keep.ensures (is_alone parts sorted)
+    (subst (λ (verdicts : List Bool). AreVerdicts (is_alone parts sorted) _ verdicts) (sym c.deref-2.ensures.value)
+    (subst (λ (txs : List Tx). AreVerdicts (is_alone parts sorted) txs said) (sym whole) told))
+    ∙ ap (filter (is_alone parts sorted)) whole
+    ∙ kept_sorted parts c.args.candidates.now sorted moves c.par_sort_txs.ensures.sorted
 
 pub returns-clause-admissible : goal.returns-clause-admissible
 returns-clause-admissible g c =

@@ -1,36 +1,22 @@
--- What the tally tells of a candidate is what the list of candidates tells.
-use Rattle.std.proofs.Common.{◌≡◌, ℕ, ◌+◌, Bool, false, cond, List, [], ◌∷◌, map, Option, Some, None, refl, sym, ap}
+-- What is named more than once, told by the keys and by the ids.
+use Rattle.std.proofs.Common.{◌≡◌, ℕ, ◌+◌, Bool, false, cond, List, [], ◌∷◌, Option, Some, None, refl, sym, ap}
 use Rattle.std.proofs.Common.{◌∙◌, arith}
 use Rattle.std.specs.Prelude.{nat_le, nat_eq}
-use Rattle.std.specs.BTreeSet.{contains}
 use Rattle.std.specs.Cmp.{eq_by_cmp_equiv, nat_cmp_total}
 use Rattle.std.specs.Cmp.Lexicographic.{texts_ties}
 use Rattle.std.specs.List.{count_by, filter_map, cons_option}
 use Rattle.std.specs.Ordering.{is_eq, nat_cmp}
-use Rattle.sx_filter.specs.declared.tally.Tally.{Tally}
 use Rattle.sx_filter.specs.Alone.{is_twice}
-use Rattle.sx_filter.specs.Kept.{both, same_id, same_number, same_offer}
-use Rattle.sx_filter.specs.Tally.{IsTally, pair_cmp}
+use Rattle.sx_filter.specs.Kept.{both, same_id, same_offer}
 use Rattle.sx_filter.proofs.Counts.{count_is, times}
-use Rattle.sx_filter.proofs.InOrder.{nat_same, number_same, number_total}
+use Rattle.sx_filter.proofs.InOrder.{nat_same}
 use Rattle.sx_layout.proofs.Totals.{total_none}
 use Rattle.sx_ledger.specs.contracts.key.KeyOrd.TheImpl as derived
 use Rattle.sx_ledger.specs.declared.key.Key.{Key}
-use Rattle.sx_ledger.specs.declared.parts.Parts.{Parts}
-use Rattle.sx_ledger.specs.Body.{cancelled_by, created_by}
+use Rattle.sx_ledger.specs.Body.{cancelled, cancelled_by, created, created_by}
 use Rattle.sx_ledger.specs.Order.{numbers_of, same_key}
 use Rattle.sx_ledger.proofs.KeyOrder.{key_cmp_derived, key_cmp_total}
 use Rattle.sx_tx.specs.declared.tx.Tx.{Tx}
-
-times_map : {X Y : Type 0} (f : X → Y) (test : Y → Bool) (xs : List X)
-    → times test (map f xs) ≡ times (λ x. test (f x)) xs
-times_map f test [] = refl
-times_map f test (x ∷ xs) = ap (λ (n : ℕ). cond (test (f x)) 1 0 + n) (times_map f test xs)
-
-count_map : {X Y : Type 0} (f : X → Y) (test : Y → Bool) (xs : List X)
-    → count_by test (map f xs) ≡ count_by (λ x. test (f x)) xs
-count_map f test xs =
-    count_is test (map f xs) ∙ times_map f test xs ∙ sym (count_is (λ x. test (f x)) xs)
 
 -- ---- names
 
@@ -68,11 +54,6 @@ module _ {N : Type 0} (same : N → N → Bool) (named : Tx → Option N) where
 
 -- ---- each kind
 
-same_numbers : (tx y : Tx) → is_eq (pair_cmp (y.account.0, y.seq) (tx.account.0, tx.seq)) ≡ same_number tx y
-same_numbers tx y =
-    (eq_by_cmp_equiv number_total).symm (y.account.0, y.seq) (tx.account.0, tx.seq)
-    ∙ number_same tx.account.0 tx.seq y.account.0 y.seq
-
 same_keys : (key other : Key) → is_eq (derived.ghosts.cmp other key) ≡ same_key key other
 same_keys key other =
     ap is_eq (key_cmp_derived other key) ∙ (eq_by_cmp_equiv key_cmp_total).symm other key
@@ -81,28 +62,19 @@ same_keys key other =
 same_ids : (id other : ℕ) → is_eq (nat_cmp other id) ≡ nat_eq id other
 same_ids id other = (eq_by_cmp_equiv nat_cmp_total).symm other id ∙ nat_same id other
 
-module _ (parts : Parts) (txs : List Tx) (tally : Tally) (is : IsTally parts txs tally) (tx : Tx) where
-  pub number_taken : contains pair_cmp tally.numbers.again (tx.account.0, tx.seq) ≡ is_twice (same_number tx) txs
-  number_taken =
-      is.numbers.again (tx.account.0, tx.seq)
-      ∙ ap (nat_le 2) (count_map (λ t. (t.account.0, t.seq)) (λ k. is_eq (pair_cmp k (tx.account.0, tx.seq))) txs
-      ∙ (λ i. count_by (λ y. same_numbers tx y i) txs))
+pub offer_again : (txs : List Tx) (tx : Tx) (key : Key) → cancelled_by tx tx.kind ≡ Some key
+    → is_twice (λ k. is_eq (derived.ghosts.cmp k key)) (cancelled txs) ≡ is_twice (same_offer tx) txs
+offer_again txs tx key named =
+    named_twice same_key (λ t. cancelled_by t t.kind) tx key named (λ k. is_eq (derived.ghosts.cmp k key))
+    (same_keys key) txs
 
-  pub offer_taken : (key : Key) → cancelled_by tx tx.kind ≡ Some key
-      → contains derived.ghosts.cmp tally.offers.again key ≡ is_twice (same_offer tx) txs
-  offer_taken key named =
-      is.offers.again key
-      ∙ named_twice same_key (λ t. cancelled_by t t.kind) tx key named (λ k. is_eq (derived.ghosts.cmp k key))
-      (same_keys key) txs
+pub no_offer : (txs : List Tx) (tx : Tx) → cancelled_by tx tx.kind ≡ None → false ≡ is_twice (same_offer tx) txs
+no_offer txs tx nothing = never_twice same_key (λ t. cancelled_by t t.kind) tx nothing txs
 
-  pub no_offer : cancelled_by tx tx.kind ≡ None → false ≡ is_twice (same_offer tx) txs
-  no_offer nothing = never_twice same_key (λ t. cancelled_by t t.kind) tx nothing txs
+pub id_again : (txs : List Tx) (tx : Tx) (id : ℕ) → created_by tx.kind ≡ Some id
+    → is_twice (λ k. is_eq (nat_cmp k id)) (created txs) ≡ is_twice (same_id tx) txs
+id_again txs tx id named =
+    named_twice nat_eq (λ t. created_by t.kind) tx id named (λ k. is_eq (nat_cmp k id)) (same_ids id) txs
 
-  pub id_taken : (id : ℕ) → created_by tx.kind ≡ Some id
-      → contains nat_cmp tally.ids.again id ≡ is_twice (same_id tx) txs
-  id_taken id named =
-      is.ids.again id
-      ∙ named_twice nat_eq (λ t. created_by t.kind) tx id named (λ k. is_eq (nat_cmp k id)) (same_ids id) txs
-
-  pub no_id : created_by tx.kind ≡ None → false ≡ is_twice (same_id tx) txs
-  no_id nothing = never_twice nat_eq (λ t. created_by t.kind) tx nothing txs
+pub no_id : (txs : List Tx) (tx : Tx) → created_by tx.kind ≡ None → false ≡ is_twice (same_id tx) txs
+no_id txs tx nothing = never_twice nat_eq (λ t. created_by t.kind) tx nothing txs

@@ -1,0 +1,118 @@
+//! Runs of candidates: those of one account stand side by side, so that their debits are summed at once.
+
+ghost use Rattle.std.specs.Prelude.{◌≡◌, ◌<◌, ◌++◌, [], ◌∷◌, true, ℕ, List, All, Ok, IfOk, IfSome, length, slice_index_or};
+ghost use Rattle.std.specs.Bool.{OnTrue};
+ghost use Rattle.std.specs.List.Sorted.{IsSortedBy};
+ghost use Rattle.sx_filter.specs.Alone.{is_covered as is_covered_tx};
+ghost use Rattle.sx_filter.specs.Kept.{covers};
+ghost use Rattle.sx_filter.specs.Runs.{AreHeld, AreSums, EndsRun};
+ghost use Rattle.sx_filter.specs.Verdicts.{AreVerdicts};
+ghost use Rattle.sx_ledger.specs.declared.parts.Parts.{Parts as Ledgers};
+ghost use Rattle.sx_ledger.specs.Body.{tx_before};
+ghost use Rattle.sx_ledger.specs.Effects.{debit};
+ghost use Rattle.sx_ledger.specs.Ledger.{assets_of};
+ghost use Rattle.sx_ledger.specs.Static.{static_of};
+ghost use Rattle.sx_tx.specs.declared.tx.Tx.{Tx as Transaction};
+
+use crate::kinds::debited_portion;
+use std::alloc::Global;
+use sx_base::AccountId;
+use sx_bytes::NoMemory;
+use sx_ledger::Ledger;
+use sx_tx::Tx;
+
+// Where the run ends that begins at a place.
+fn end_of_run(txs: &[Tx], start: usize) -> usize
+    requires { start < length txs.now }
+    ensures { EndsRun txs.now start result }
+{
+    let account = txs[start].account.0;
+    for end in start + 1..txs.len() {
+        if txs[end].account.0 != account {
+            return end;
+        }
+    }
+    txs.len()
+}
+
+// What an account holds, by asset, and nothing where it is not there.
+fn balances_of(ledger: &Ledger, account: AccountId) -> &[u64]
+    ensures { AreHeld ledger.now account.0 result.now }
+{
+    match ledger.find(account) {
+        Some(place) => ledger.account(place).balances.items(),
+        None => &[],
+    }
+}
+
+// What is held of the asset at a place.
+fn held(balances: &[u64], asset: usize) -> u64
+    ensures { result ≡ slice_index_or balances.now asset 0 }
+{
+    match balances.get(asset) {
+        Some(units) => *units,
+        None => 0,
+    }
+}
+
+// Adds what a candidate debits to the sums of its account, and answers whether that is held. Where it is not,
+// the sums are left as they were.
+fn add(balances: &[u64], tx: &Tx, sums: &mut [u64]) -> bool
+    requires asset { IfSome (debit tx.now) (λ posting. posting.asset < length sums.old) }
+    ensures len { length sums.new ≡ length sums.old }
+    ensures sums { OnTrue result ((parts : Ledgers) (before : List Transaction)
+        → AreSums parts before tx.now.account.0 sums.old
+        → AreSums parts (before ++ tx.now ∷ []) tx.now.account.0 sums.new) }
+    ensures covers { (parts : Ledgers) (before : List Transaction) → AreHeld parts tx.now.account.0 balances.now
+        → AreSums parts before tx.now.account.0 sums.old
+        → covers parts before tx.now.account.0 (assets_of parts) ≡ true
+        → result ≡ covers parts (before ++ tx.now ∷ []) tx.now.account.0 (assets_of parts) }
+{
+    let Some(portion) = debited_portion(tx) else {
+        return true;
+    };
+    let asset = usize::from(portion.asset.get());
+    let left = held(balances, asset).saturating_sub(sums[asset]);
+    if left < portion.units {
+        return false;
+    }
+    sums[asset] += portion.units;
+    true
+}
+
+// Whether the account of a run holds of each asset as much as the run debits. The sums are set to 0 before.
+fn is_covered(ledger: &Ledger, account: AccountId, run: &[Tx], sums: &mut [u64]) -> bool
+    requires passes { All (λ tx. static_of ledger.now tx ≡ Ok tt) run.now }
+    requires one { All (λ tx. tx.account.0 ≡ account.0) run.now }
+    requires sums { length sums.old ≡ assets_of ledger.now }
+    ensures len { length sums.new ≡ length sums.old }
+    ensures covers { result ≡ covers ledger.now run.now account.0 (assets_of ledger.now) }
+{
+    sums.fill(0);
+    let balances = balances_of(ledger, account);
+    for tx in run {
+        if !add(balances, tx, sums) {
+            return false;
+        }
+    }
+    true
+}
+
+// Of each candidate whether its account holds of each asset as much as all its candidates debit.
+pub(crate) fn covered_places(alloc: Global, ledger: &Ledger, txs: &[Tx]) -> Result<Vec<bool>, NoMemory>
+    requires passes { All (λ tx. static_of ledger.now tx ≡ Ok tt) txs.now }
+    requires sorted { IsSortedBy tx_before txs.now }
+    ensures one_each { IfOk result (λ covered. length covered.items ≡ length txs.now) }
+    ensures covered { IfOk result (λ covered. AreVerdicts (is_covered_tx ledger.now txs.now) txs.now covered.items) }
+{
+    let mut sums = vec![in alloc; 0; ledger.assets() as usize]?;
+    let mut covered = Vec::with_capacity(alloc, txs.len())?;
+    let mut start = 0;
+    while start < txs.len() {
+        let end = end_of_run(txs, start);
+        let is = is_covered(ledger, txs[start].account, &txs[start..end], &mut sums);
+        covered.resize(end, is)?;
+        start = end;
+    }
+    Ok(covered)
+}
