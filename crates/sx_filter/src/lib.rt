@@ -21,8 +21,12 @@
 //! workers. [`filter_laws`] says that the order of the candidates is of no account, that what is kept is
 //! the body of a block by the rule of version 1, and that a gathering of what is kept accepts all of it.
 //!
-//! Cost: for n candidates the ledger's test of each, which is shared among the workers, and then one
-//! thread's work of n log n, with entries in ordered sets and maps for each candidate that passes.
+//! Cost: for n candidates the ledger's test of each, which is shared among the workers, and a sort of those that
+//! pass by several threads. Then two of one number are neighbours, and the candidates of an account are a run, of
+//! which one thread sums up the debits, with one search for the account. The offers that are cancelled and the ids
+//! that are created are sorted too, and cost nothing where there are none. Those that are kept move to the front of
+//! the list that was sorted. No memory is taken for each run or candidate beside these lists and two answers of
+//! yes or no for each candidate.
 //!
 //! Not here: what is kept is not the most that could be kept, since of two that exclude each other neither is.
 //! Nothing says that workers run at the same time.

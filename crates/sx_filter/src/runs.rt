@@ -99,7 +99,11 @@ fn is_covered(ledger: &Ledger, account: AccountId, run: &[Tx], sums: &mut [u64])
 }
 
 // Of each candidate whether its account holds of each asset as much as all its candidates debit.
-pub(crate) fn covered_places(alloc: Global, ledger: &Ledger, txs: &[Tx]) -> Result<Vec<bool>, NoMemory>
+pub(crate) fn covered_places(
+    alloc: Global,
+    ledger: &Ledger,
+    txs: &[Tx],
+) -> Result<Vec<bool>, NoMemory>
     requires passes { All (λ tx. static_of ledger.now tx ≡ Ok tt) txs.now }
     requires sorted { IsSortedBy tx_before txs.now }
     ensures one_each { IfOk result (λ covered. length covered.items ≡ length txs.now) }

@@ -41,10 +41,13 @@ returns-clause-kept g c =
     let told : AreVerdicts (is_alone parts sorted) sorted said =
     subst (λ (txs : List Tx). AreVerdicts (is_alone parts txs) txs said) (c.deref.ensures.value ∙ whole)
     c.in_ok-verdicts.ensures.verdicts in
+    let lent = c.deref-2.result.now in
+    let same : AreVerdicts (is_alone parts sorted) sorted lent =
+    subst (λ (verdicts : List Bool). AreVerdicts (is_alone parts sorted) sorted verdicts)
+    (sym c.deref-2.ensures.value) told in
     c.of.ensures
     ∙ c.keep.ensures (is_alone parts sorted)
-    (subst (λ (verdicts : List Bool). AreVerdicts (is_alone parts sorted) _ verdicts) (sym c.deref-2.ensures.value)
-    (subst (λ (txs : List Tx). AreVerdicts (is_alone parts sorted) txs said) (sym whole) told))
+    (subst (λ (txs : List Tx). AreVerdicts (is_alone parts sorted) txs lent) (sym whole) same)
     ∙ ap (filter (is_alone parts sorted)) whole
     ∙ kept_sorted parts c.args.candidates.now sorted moves c.par_sort_txs.ensures.sorted
 

@@ -8,9 +8,9 @@ use Rattle.sx_gather.proofs.gather.Gather.seal.Goals as goal
 pub returns-clause-gathered : goal.returns-clause-gathered
 returns-clause-gathered c =
     let txs = c.in_ok-txs.txs in
-    let body = c.sort.new.txs in
+    let body = c.sort_txs.new.txs in
     subst (IsGathered c.args.self.parts c.args.self.candidates c.in_ok-txs.outcomes)
-    (sym (c.of.ensures ∙ with_items_is txs body (omega (arith, c.sort.auto.txs, c.deref_mut.ensures.len))))
+    (sym (c.of.ensures ∙ with_items_is txs body (omega (arith, c.sort_txs.auto.txs, c.deref_mut.ensures.len))))
     (c.in_ok-txs.ensures.gathered body
-    (subst (λ (list : List Tx). IsPermutation list body) c.deref_mut.ensures.value c.sort.ensures.moves)
-    c.sort.ensures.sorted)
+    (subst (λ (list : List Tx). IsPermutation list body) c.deref_mut.ensures.value c.sort_txs.ensures.moves)
+    c.sort_txs.ensures.sorted)
