@@ -1,35 +1,17 @@
 -- The elements that pass a test, as a loop finds them.
-use Rattle.std.proofs.Common.{◌≡◌, ℕ, zero, suc, ◌+◌, ◌<◌, Bool, true, false, cond, List, [], ◌∷◌, ◌++◌, length, get_or, take}
-use Rattle.std.proofs.Common.{All, Ok, Some, refl, sym, ap, ◌∙◌, append-nil, arith}
+use Rattle.std.proofs.Common.{◌≡◌, ℕ, zero, suc, ◌+◌, ◌<◌, Bool, false, List, [], ◌∷◌, length, get_or}
+use Rattle.std.proofs.Common.{All, Ok, Some, refl, sym, ap, ◌∙◌, arith}
 use Rattle.std.specs.Prelude.{slice_get}
-use Rattle.std.specs.List.{filter}
 use Rattle.std.proofs.lemmas.List.{drop_more}
 use Rattle.std.proofs.lemmas.List.Filters.{FiltersInPlace, FiltersInPlace-more_no}
 use Rattle.std.proofs.lemmas.Option.{slice_get_read}
-use Rattle.std.proofs.lemmas.List.Elements.{Contains-get_or, filter_more}
+use Rattle.std.proofs.lemmas.List.Elements.{Contains-get_or}
 use Rattle.sx_filter.specs.Kept.{passes, passing}
 use Rattle.sx_filter.proofs.Counts.{in_contains, in_filter}
 use Rattle.sx_filter.proofs.KeptLaws.{passes_is}
 use Rattle.sx_ledger.specs.declared.parts.Parts.{Parts}
 use Rattle.sx_ledger.specs.Static.{static_of}
 use Rattle.sx_tx.specs.declared.tx.Tx.{Tx}
-
-module _ {X : Type 0} (p : X → Bool) (xs : List X) (i : ℕ) (x : X) (lt : i < length xs) (is : x ≡ get_or xs i x) where
-  step : (b : Bool) → p x ≡ b → filter p (take (i + 1) xs) ≡ filter p (take i xs) ++ cond b (x ∷ []) []
-  step b e =
-      filter_more p xs i x lt
-      ∙ ap (λ (y : X). filter p (take i xs) ++ cond (p y) (y ∷ []) []) (sym is)
-      ∙ ap (λ (c : Bool). filter p (take i xs) ++ cond c (x ∷ []) []) e
-
-  pub picked : (found more : List X) → p x ≡ true → found ≡ filter p (take i xs) → more ≡ found ++ x ∷ []
-      → more ≡ filter p (take (i + 1) xs)
-  picked found more e done is_more =
-      is_more ∙ ap (λ (ys : List X). ys ++ x ∷ []) done ∙ sym (step true e)
-
-  pub passed_over : (found : List X) → p x ≡ false → found ≡ filter p (take i xs) → found ≡ filter p (take (i + 1) xs)
-  passed_over found e done = done ∙ sym (step false e ∙ append-nil (filter p (take i xs)))
-
--- ---- in place
 
 element : {X : Type 0} (xs : List X) (i : ℕ) → i < length xs → (x : X) × (x ≡ get_or xs i x)
 element [] i lt = absurd (omega arith)

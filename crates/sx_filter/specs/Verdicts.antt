@@ -1,5 +1,8 @@
 -- Verdicts on the elements of a list, place by place.
 use Rattle.std.specs.Prelude.{◌≡◌, ℕ, ◌<◌, Bool, List, length, Some, slice_get, slice_index_or}
+use Rattle.sx_filter.specs.Kept.{passing}
+use Rattle.sx_ledger.specs.declared.parts.Parts.{Parts}
+use Rattle.sx_tx.specs.declared.tx.Tx.{Tx}
 
 -- whether the element at a place passes
 abbrev pub IsVerdict : {X : Type 0} → (X → Bool) → List X → ℕ → Bool → Type 0
@@ -8,3 +11,8 @@ IsVerdict {X} passes xs place verdict = (x : X) → slice_get xs place ≡ Some 
 abbrev pub AreVerdicts : {X : Type 0} → (X → Bool) → List X → List Bool → Type 0
 AreVerdicts passes xs verdicts =
     (place : ℕ) (d : Bool) → place < length verdicts → IsVerdict passes xs place (slice_index_or verdicts place d)
+
+-- these are all that pass of some candidates
+pub record ArePassed (parts : Parts) (txs : List Tx) : Type 0 where
+  pub candidates : List Tx
+  pub are : txs ≡ passing parts candidates

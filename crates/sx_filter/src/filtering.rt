@@ -1,10 +1,10 @@
 //! The candidates that a filter keeps.
 
-ghost use Rattle.std.specs.Prelude.{◌≡◌, ◌≤◌, Bool, length, vec_len, IfOk, IfErr, Err};
+ghost use Rattle.std.specs.Prelude.{◌≡◌, ◌≤◌, Bool, List, length, vec_len, IfOk, IfErr, Err};
 ghost use Rattle.std.specs.List.{filter as those};
 ghost use Rattle.sx_filter.specs.Fault.{fault_of as the_fault, IsFaultOf};
-ghost use Rattle.sx_filter.specs.Kept.{kept_of};
-ghost use Rattle.sx_filter.specs.Verdicts.{AreVerdicts};
+ghost use Rattle.sx_filter.specs.Kept.{kept_of, passing as passing_of};
+ghost use Rattle.sx_filter.specs.Verdicts.{ArePassed, AreVerdicts};
 ghost use Rattle.sx_layout.specs.declared.space.NoRoom.{NoRoom as WhyNoRoom};
 ghost use Rattle.sx_layout.specs.Room.{room_for};
 ghost use Rattle.sx_ledger.specs.Body.{IsAdmissible};
@@ -16,6 +16,7 @@ use crate::fault::FilterFault;
 use crate::passing::passing;
 use std::alloc::Global;
 use std::thread::Threads;
+use sx_bytes::NoMemory;
 use sx_layout::{par_sort_txs, room};
 use sx_ledger::Ledger;
 use sx_tx::{Tx, TxList};
@@ -34,6 +35,26 @@ fn keep(txs: &mut Vec<Tx>, verdicts: &[bool])
         }
     }
     txs.truncate(kept);
+}
+
+// Those of candidates, all of which pass, that nothing stands in the way of, sorted.
+fn alone<R: Threads + Sync>(
+    rt: &R,
+    alloc: Global,
+    ledger: &Ledger,
+    txs: Vec<Tx>,
+    workers: u32,
+) -> Result<TxList, NoMemory>
+    requires some { 1 ≤ workers }
+    requires passed { ArePassed ledger.now txs.items }
+    ensures { (candidates : List Transaction) → txs.items ≡ passing_of ledger.now candidates
+        → IfOk result (λ kept. kept ≡ kept_of ledger.now candidates) }
+{
+    let mut txs = txs;
+    par_sort_txs(rt, &mut txs);
+    let verdicts = verdicts_of(rt, alloc, ledger, &txs, workers)?;
+    keep(&mut txs, &verdicts);
+    Ok(TxList::of(txs))
 }
 
 /// Chooses of at most 1,000,000 candidates of a ledger those that no other candidate stands in the way of,
@@ -64,9 +85,30 @@ pub fn filter<R: Threads + Sync>(
     ensures fault { IfErr result (IsFaultOf (room_for ledger.now candidates.now)) }
 {
     room(ledger, candidates)?;
-    let mut txs = passing(rt, alloc, ledger, candidates, workers)?;
-    par_sort_txs(rt, &mut txs);
-    let verdicts = verdicts_of(rt, alloc, ledger, &txs, workers)?;
+    let list = TxList::of(candidates.to_vec(alloc)?);
+    filter_list(rt, alloc, ledger, list, workers)
+}
+
+/// The same of a list that the caller needs no more: those that are kept stay in its memory.
+pub fn filter_list<R: Threads + Sync>(
+    rt: &R,
+    alloc: Global,
+    ledger: &Ledger,
+    candidates: TxList,
+    workers: u32,
+) -> Result<TxList, FilterFault>
+    requires few_candidates { length candidates ≤ most_transactions }
+    requires some_worker { 1 ≤ workers }
+    requires few_workers { workers ≤ 64 }
+    ensures kept { IfOk result (λ txs. txs ≡ kept_of ledger.now candidates) }
+    ensures admissible { IfOk result (λ txs. IsAdmissible ledger.now txs) }
+    ensures few { IfOk result (λ txs. length txs ≤ length candidates) }
+    ensures no_room { (why : WhyNoRoom) → room_for ledger.now candidates ≡ Err why → result ≡ Err (the_fault why) }
+    ensures fault { IfErr result (IsFaultOf (room_for ledger.now candidates)) }
+{
+    room(ledger, candidates.items())?;
+    let mut txs = candidates.into_items();
+    let verdicts = passing(rt, alloc, ledger, &txs, workers)?;
     keep(&mut txs, &verdicts);
-    Ok(TxList::of(txs))
+    Ok(alone(rt, alloc, ledger, txs, workers)?)
 }

@@ -17,6 +17,8 @@
 //! candidates that fall out for another reason. `specs/Kept` says so over plain lists, and the answer is exactly that,
 //! sorted by account and then by number.
 //!
+//! [`filter_list`] does the same in the memory of a list that the caller needs no more.
+//!
 //! So the answer is a function of the ledger and the candidates: it is the same for every number of
 //! workers. [`filter_laws`] says that the order of the candidates is of no account, that what is kept is
 //! the body of a block by the rule of version 1, and that a gathering of what is kept accepts all of it.
@@ -24,9 +26,9 @@
 //! Cost: for n candidates the ledger's test of each, which is shared among the workers, and a sort of those that
 //! pass by several threads. Then two of one number are neighbours, and the candidates of an account are a run, of
 //! which one thread sums up the debits, with one search for the account. The offers that are cancelled and the ids
-//! that are created are sorted too, and cost nothing where there are none. Those that are kept move to the front of
-//! the list that was sorted. No memory is taken for each run or candidate beside these lists and two answers of
-//! yes or no for each candidate.
+//! that are created are sorted too, and cost nothing where there are none. Those that pass, and later those that are
+//! kept, move to the front of the list, which is a copy for [`filter`] and the caller's own for [`filter_list`]. No
+//! memory is taken for each run or candidate beside these lists and two answers of yes or no for each candidate.
 //!
 //! Not here: what is kept is not the most that could be kept, since of two that exclude each other neither is.
 //! Nothing says that workers run at the same time.
@@ -47,5 +49,5 @@ mod runs;
 mod seen;
 
 pub use fault::FilterFault;
-pub use filtering::filter;
+pub use filtering::{filter, filter_list};
 pub use laws::filter_laws;

@@ -1,11 +1,9 @@
 //! Which candidates pass the ledger's test.
 
-ghost use Rattle.std.specs.Prelude.{◌≡◌, ◌<◌, ◌≤◌, Bool, length, IfOk};
-ghost use Rattle.std.specs.List.{filter as those};
-ghost use Rattle.sx_filter.specs.Kept.{passes, passing as passing_of};
+ghost use Rattle.std.specs.Prelude.{◌≡◌, ◌<◌, ◌≤◌, length, IfOk};
+ghost use Rattle.sx_filter.specs.Kept.{passes};
 ghost use Rattle.sx_filter.specs.Verdicts.{AreVerdicts, IsVerdict};
 ghost use Rattle.sx_ledger.specs.Ledger.{ids};
-ghost use Rattle.sx_tx.specs.declared.tx.Tx.{Tx as Transaction};
 
 use std::alloc::Global;
 use std::thread::{Threads, for_each_mut};
@@ -41,8 +39,8 @@ fn test_all<R: Threads + Sync>(
     );
 }
 
-// Of each candidate whether it passes.
-fn verdicts_of<R: Threads + Sync>(
+// Of each candidate whether it passes. So many workers test them.
+pub(crate) fn passing<R: Threads + Sync>(
     rt: &R,
     alloc: Global,
     ledger: &Ledger,
@@ -57,35 +55,4 @@ fn verdicts_of<R: Threads + Sync>(
     let mut verdicts = vec![in alloc; false; candidates.len()]?;
     test_all(rt, ledger, &index, candidates, workers, &mut verdicts);
     Ok(verdicts)
-}
-
-// The candidates at the places of which the verdict is good.
-fn chosen(alloc: Global, candidates: &[Tx], verdicts: &[bool]) -> Result<Vec<Tx>, NoMemory>
-    requires { length verdicts.now ≡ length candidates.now }
-    ensures { (passes : Transaction → Bool) → AreVerdicts passes candidates.now verdicts.now
-        → IfOk result (λ txs. txs.items ≡ those passes candidates.now) }
-{
-    let mut txs = Vec::with_capacity(alloc, candidates.len())?;
-    for place in 0..candidates.len() {
-        let tx = candidates[place];
-        if verdicts[place] {
-            txs.push(tx)?;
-        }
-    }
-    Ok(txs)
-}
-
-// The candidates that pass, in their order. So many workers test them.
-pub(crate) fn passing<R: Threads + Sync>(
-    rt: &R,
-    alloc: Global,
-    ledger: &Ledger,
-    candidates: &[Tx],
-    workers: u32,
-) -> Result<Vec<Tx>, NoMemory>
-    requires { 1 ≤ workers }
-    ensures { IfOk result (λ txs. txs.items ≡ passing_of ledger.now candidates.now) }
-{
-    let verdicts = verdicts_of(rt, alloc, ledger, candidates, workers)?;
-    chosen(alloc, candidates, &verdicts)
 }

@@ -15,7 +15,7 @@ use std::thread::Threads;
 use sx_base::Source;
 use sx_bytes::{NoMemory, Writer};
 use sx_check::Invalid;
-use sx_filter::FilterFault;
+use sx_filter::{FilterFault, filter_list};
 use sx_input::{Stop, end, take};
 use sx_ledger::Ledger;
 use sx_record::{tag, write_frame};
@@ -55,16 +55,16 @@ fn kept<R: Threads + Sync>(
     rt: &R,
     alloc: Global,
     ledger: &Ledger,
-    candidates: &TxList,
+    candidates: TxList,
     workers: u32,
 ) -> Result<Writer, Stop>
-    requires candidates { IsTxList candidates.now }
+    requires candidates { IsTxList candidates }
     requires some_worker { 1 ≤ workers }
     requires few_workers { workers ≤ 64 }
-    ensures concludes { ConcludesAs (Command.Filter workers) (item.state ledger.now ∷ item.candidates candidates.now ∷ []) result }
+    ensures concludes { ConcludesAs (Command.Filter workers) (item.state ledger.now ∷ item.candidates candidates ∷ []) result }
     ensures calm { IsErrOf result Stop.ReadFault → ⊥ }
 {
-    match sx_filter::filter(rt, alloc, ledger, candidates.items(), workers) {
+    match filter_list(rt, alloc, ledger, candidates, workers) {
         Ok(txs) => Ok(written(alloc, txs.items())?),
         Err(fault) => Err(stop_of(fault)),
     }
@@ -86,5 +86,5 @@ pub fn filter<R: Threads + Sync, S: Source>(
     let opening = take::<Ledger, S>(alloc, source, 0)?;
     let candidates = take::<TxList, S>(alloc, source, opening.end)?;
     end(alloc, source, candidates.end)?;
-    kept(rt, alloc, &opening.held, &candidates.held, workers)
+    kept(rt, alloc, &opening.held, candidates.held, workers)
 }

@@ -1,15 +1,13 @@
-use Rattle.std.proofs.Common.{◌≡◌, ◌≤◌, Bool, List, All, Ok, length, sym, ap, subst, ◌∙◌, arith}
+use Rattle.std.proofs.Common.{◌≡◌, Bool, List, All, Ok, sym, ap, subst, ◌∙◌, arith}
 use Rattle.std.specs.List.{filter}
 use Rattle.std.specs.List.Sorted.{IsPermutation, IsSortedBy}
 use Rattle.std.proofs.lemmas.List.{with_items_is}
 use Rattle.sx_filter.specs.Alone.{is_alone}
 use Rattle.sx_filter.specs.Kept.{passing}
 use Rattle.sx_filter.specs.Verdicts.{AreVerdicts}
-use Rattle.sx_filter.proofs.Few.{kept_is_few}
-use Rattle.sx_filter.proofs.KeptLaws.{kept_is_admissible}
 use Rattle.sx_filter.proofs.KeptSorted.{kept_sorted, moved_pass}
-use Rattle.sx_filter.proofs.filtering.filter.Goals as goal
-use Rattle.sx_ledger.specs.Body.{IsAdmissible, tx_before}
+use Rattle.sx_filter.proofs.filtering.alone.Goals as goal
+use Rattle.sx_ledger.specs.Body.{tx_before}
 use Rattle.sx_ledger.specs.Static.{static_of}
 use Rattle.sx_tx.specs.declared.tx.Tx.{Tx}
 
@@ -17,26 +15,26 @@ pub verdicts_of-requires-clause-passes : goal.verdicts_of-requires-clause-passes
 verdicts_of-requires-clause-passes g c κs within =
     let parts = c.args.ledger.now in
     let sorted = c.par_sort_txs.new.txs in
-    let whole = with_items_is c.in_ok-txs.txs sorted (omega (arith, c.par_sort_txs.auto.txs, c.deref_mut.ensures.len)) in
+    let whole = with_items_is c.args.txs sorted (omega (arith, c.par_sort_txs.auto.txs, c.deref_mut.ensures.len)) in
     subst (All (λ (tx : Tx). static_of parts tx ≡ Ok tt)) (sym (c.deref.ensures.value ∙ whole))
-    (moved_pass parts c.args.candidates.now sorted
-    (subst (λ (txs : List Tx). IsPermutation txs sorted) (c.deref_mut.ensures.value ∙ c.in_ok-txs.ensures)
+    (moved_pass parts c.requires.passed.candidates sorted
+    (subst (λ (txs : List Tx). IsPermutation txs sorted) (c.deref_mut.ensures.value ∙ c.requires.passed.are)
     c.par_sort_txs.ensures.moves))
 
 pub verdicts_of-requires-clause-sorted : goal.verdicts_of-requires-clause-sorted
 verdicts_of-requires-clause-sorted g c κs within =
     let sorted = c.par_sort_txs.new.txs in
-    let whole = with_items_is c.in_ok-txs.txs sorted (omega (arith, c.par_sort_txs.auto.txs, c.deref_mut.ensures.len)) in
+    let whole = with_items_is c.args.txs sorted (omega (arith, c.par_sort_txs.auto.txs, c.deref_mut.ensures.len)) in
     subst (IsSortedBy tx_before) (sym (c.deref.ensures.value ∙ whole)) c.par_sort_txs.ensures.sorted
 
-pub returns-clause-kept : goal.returns-clause-kept
-returns-clause-kept g c =
+pub returns : goal.returns
+returns g c = λ candidates are.
     let parts = c.args.ledger.now in
     let sorted = c.par_sort_txs.new.txs in
     let said = c.in_ok-verdicts.verdicts.items in
-    let whole = with_items_is c.in_ok-txs.txs sorted (omega (arith, c.par_sort_txs.auto.txs, c.deref_mut.ensures.len)) in
-    let moves : IsPermutation (passing parts c.args.candidates.now) sorted =
-    subst (λ (txs : List Tx). IsPermutation txs sorted) (c.deref_mut.ensures.value ∙ c.in_ok-txs.ensures)
+    let whole = with_items_is c.args.txs sorted (omega (arith, c.par_sort_txs.auto.txs, c.deref_mut.ensures.len)) in
+    let moves : IsPermutation (passing parts candidates) sorted =
+    subst (λ (txs : List Tx). IsPermutation txs sorted) (c.deref_mut.ensures.value ∙ are)
     c.par_sort_txs.ensures.moves in
     let told : AreVerdicts (is_alone parts sorted) sorted said =
     subst (λ (txs : List Tx). AreVerdicts (is_alone parts txs) txs said) (c.deref.ensures.value ∙ whole)
@@ -49,15 +47,4 @@ returns-clause-kept g c =
     ∙ c.keep.ensures (is_alone parts sorted)
     (subst (λ (txs : List Tx). AreVerdicts (is_alone parts sorted) txs lent) (sym whole) same)
     ∙ ap (filter (is_alone parts sorted)) whole
-    ∙ kept_sorted parts c.args.candidates.now sorted moves c.par_sort_txs.ensures.sorted
-
-pub returns-clause-admissible : goal.returns-clause-admissible
-returns-clause-admissible g c =
-    let parts = c.args.ledger.now in
-    subst (IsAdmissible parts) (sym (returns-clause-kept g c))
-    (kept_is_admissible parts c.args.candidates.now (sym c.in_ok-room.ensures))
-
-pub returns-clause-few : goal.returns-clause-few
-returns-clause-few g c =
-    subst (λ (txs : List Tx). length txs ≤ length c.args.candidates.now) (sym (returns-clause-kept g c))
-    (kept_is_few c.args.ledger.now c.args.candidates.now)
+    ∙ kept_sorted parts candidates sorted moves c.par_sort_txs.ensures.sorted
