@@ -14,8 +14,8 @@ use sx_price::{Mu, Prices};
 /// By how much more value is wanted of each asset than is sold of it at these prices, and both values
 /// together, at most `2^108`. There is a price for each asset of the curves. `NoMemory` is the only
 /// error. For n assets it takes 2 n² searches, each of twice as many steps as the number of a pair's quotes
-/// has binary digits, shared among threads from 28 assets and 131,072 quotes on; the answer is the same
-/// whatever threads run.
+/// has binary digits, shared among threads from 28 assets and 1,048,576 quotes on; the answer is the
+/// same whatever threads run.
 pub fn excess<R: Threads + Sync>(
     rt: &R,
     alloc: Global,

@@ -8,7 +8,7 @@
 //! has. For n assets an update takes 2 n² such searches, which double their steps outward from there
 //! (Bentley and Yao, "An almost optimal algorithm for unbounded searching", 1976).
 //!
-//! From 28 assets and 131,072 quotes on the pairs are shared among threads, and the answer is the same
+//! From 28 assets and 1,048,576 quotes on the pairs are shared among threads, and the answer is the same
 //! whatever threads run.
 //!
 //! Not here: how prices are changed by it.

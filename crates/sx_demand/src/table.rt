@@ -35,7 +35,7 @@ pub(crate) const FIRST: Entry = Entry {
 // 2^18 quotes of 16 assets, 58 and 61 for 2^17 of 32, 66 and 103 for 2^18, and 82 and 159 for 2^20.
 const MANY_ASSETS: usize = 28;
 
-const MANY_QUOTES: usize = 1 << 17;
+const MANY_QUOTES: usize = 1 << 20;
 
 // The asset of this number.
 fn asset_of(number: usize) -> AssetId

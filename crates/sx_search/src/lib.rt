@@ -18,8 +18,9 @@
 //! The search ends where nothing is to mend, where steps are too small, or after the rounds that it
 //! is given. Its result has at most the imbalance of its start.
 //!
-//! Cost: for n assets each round takes 2 n² binary searches in supply curves, shared among threads
-//! from 28 assets and 131,072 quotes on, and n² additions. A round takes no memory but what threads take.
+//! Cost: for n assets each round takes 2 n² searches in supply curves, and n² additions. Each search
+//! begins where that of an earlier round ended, and takes a few steps while prices move little. From 28
+//! assets and 1,048,576 quotes on threads share them. A round takes no memory but what threads take.
 //!
 //! Not here: nothing says that the result balances the market, or that a longer search finds better
 //! prices.

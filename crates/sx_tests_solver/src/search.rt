@@ -94,10 +94,10 @@ fn many_ones(alloc: Global) -> Option<Prices>
 #[test]
 fn threads_share_many_quotes(rt: HostRuntime) -> Result<(), Fail> {
     let quote = quote(0, 1, 1).ok_or("quote")?;
-    let curves = alike(rt.alloc(), quote, 1 << 17)?;
+    let curves = alike(rt.alloc(), quote, 1 << 20)?;
     let ones = many_ones(rt.alloc()).ok_or("prices")?;
     let found = excess(&rt, rt.alloc(), &curves, &ones, Mu::new(10)?)?;
-    let sold = 1 << 41;
+    let sold = 1 << 44;
     assert_eq!(rt; found.net.items().get(..2), Some([-sold, sold].as_slice()));
     Ok(())
 }
