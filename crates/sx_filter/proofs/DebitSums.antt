@@ -2,7 +2,7 @@
 use Rattle.std.proofs.Common.{◌≡◌, ℕ, zero, suc, ◌+◌, ◌<◌, ◌≤◌, Bool, true, false, cond, ◌&&◌, List, [], ◌∷◌, ◌++◌}
 use Rattle.std.proofs.Common.{Some, None, drop, take, get_or, length, set, inl, inr, refl, sym, ap, subst, ◌∙◌, arith}
 use Rattle.std.specs.Prelude.{nat_le, ◌==◌}
-use Rattle.std.proofs.lemmas.Bool.{and_left, and_right, cases_eq, eq-eqb, false_from_ne_true, ne_eqb}
+use Rattle.std.proofs.lemmas.Bool.{and_right, cases_eq, eq-eqb, false_from_ne_true, ne_eqb}
 use Rattle.std.proofs.lemmas.List.{get_or-set_other, get_or-set_same, length-set, take-append-drop}
 use Rattle.sx_filter.specs.Kept.{covers}
 use Rattle.sx_filter.specs.Runs.{AreSums}

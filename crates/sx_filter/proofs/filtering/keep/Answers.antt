@@ -1,5 +1,5 @@
-use Rattle.std.proofs.Common.{◌≡◌, ◌<◌, false, Some, length, refl, sym, ap, ◌∙◌, arith}
-use Rattle.std.specs.Prelude.{slice_get, vec_len}
+use Rattle.std.proofs.Common.{◌<◌, false, length, sym, ap, ◌∙◌, arith}
+use Rattle.std.specs.Prelude.{vec_len}
 use Rattle.std.proofs.lemmas.List.Filters.{FiltersInPlace-more_set}
 use Rattle.sx_filter.proofs.Picking.{left_out, rest_at}
 use Rattle.sx_filter.proofs.filtering.keep.Goals as goal

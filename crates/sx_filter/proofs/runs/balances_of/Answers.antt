@@ -1,4 +1,4 @@
-use Rattle.std.proofs.Common.{◌≡◌, get_or, sym, ap, subst, List, Option}
+use Rattle.std.proofs.Common.{◌≡◌, get_or, sym, ap, subst, Option}
 use Rattle.std.specs.Prelude.{IfSome}
 use Rattle.sx_filter.proofs.Holdings.{held_at, none_held}
 use Rattle.sx_filter.proofs.runs.balances_of.Goals as goal
