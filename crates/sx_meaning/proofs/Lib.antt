@@ -18,5 +18,6 @@ pub mod KnownTags
 pub mod SomeConclusion
 pub mod SomeFinding
 pub mod Cases
+pub mod CommandCases
 pub mod AnswerCases
 pub mod SettlingCases
