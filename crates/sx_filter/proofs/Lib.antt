@@ -13,3 +13,4 @@ pub mod NamedAgain
 pub mod KeptSorted
 pub mod Picking
 pub mod Few
+pub mod WholeBodies

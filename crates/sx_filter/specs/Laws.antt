@@ -18,6 +18,10 @@ KeptIsAdmissible =
     (parts : Parts) (candidates : List Tx) → room_for parts candidates ≡ Ok tt
     → IsAdmissible parts (kept_of parts candidates)
 
+-- what may be the body of a block is kept whole
+abbrev pub BodyIsKept : Type 0
+BodyIsKept = (parts : Parts) (body : List Tx) → IsAdmissible parts body → kept_of parts body ≡ body
+
 -- the order of the candidates is of no account
 abbrev pub KeptPermuted : Type 0
 KeptPermuted =

@@ -1,10 +1,14 @@
 use Rattle.sx_filter.proofs.Accepting.{kept_is_accepted}
 use Rattle.sx_filter.proofs.Few.{kept_is_few}
 use Rattle.sx_filter.proofs.KeptLaws.{covers_all, kept_is_admissible, kept_permuted, refused_are_nothing}
+use Rattle.sx_filter.proofs.WholeBodies.{body_is_kept}
 use Rattle.sx_filter.proofs.laws.filter_laws.Goals as goal
 
 pub returns-clause-admissible : goal.returns-clause-admissible
 returns-clause-admissible c = kept_is_admissible
+
+pub returns-clause-whole : goal.returns-clause-whole
+returns-clause-whole c = body_is_kept
 
 pub returns-clause-permuted : goal.returns-clause-permuted
 returns-clause-permuted c = kept_permuted
