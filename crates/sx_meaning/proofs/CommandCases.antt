@@ -1,5 +1,5 @@
 -- What is said of each command, and what is written of single accounts.
-use Rattle.std.proofs.Common.{◌≡◌, ℕ, Bool, true, false, List, [], ◌∷◌, Option, Some, None, refl}
+use Rattle.std.proofs.Common.{◌≡◌, ℕ, true, false, List, [], ◌∷◌, Some, None, refl}
 use Rattle.sx_block.specs.declared.header.Block.{Block}
 use Rattle.sx_check.specs.declared.invalid.Invalid.{Invalid}
 use Rattle.sx_commit.specs.Claim.{Claim}
@@ -23,8 +23,8 @@ module _ (number workers shards mu rounds searches id : ℕ) where
       × (writes_one (Prove id) ≡ true) × (writes_one Verify ≡ true) × (writes_one Follow ≡ true)
   one_text = (refl, refl, refl, refl, refl, refl, refl, refl, refl)
 
-  some_text : (writes_one (Seal workers shards mu rounds searches) ≡ false) × (writes_one (Demo number workers) ≡ false)
-  some_text = (refl, refl)
+  many_texts : (writes_one (Seal workers shards mu rounds searches) ≡ false) × (writes_one (Demo number workers) ≡ false)
+  many_texts = (refl, refl)
 
   -- each but a demonstration reads an input
   with_input : (takes_no_input Check ≡ false) × (takes_no_input (Replay workers) ≡ false)
