@@ -30,9 +30,10 @@ pub(crate) const FIRST: Entry = Entry {
 };
 
 // From how many assets and quotes on the places are shared among threads. To start the threads of a
-// round takes as long as hundreds of places, and a place takes the longer the more quotes there are.
-// Measured for 500 rounds on four processors, in milliseconds with threads and without: 40 and 16 for
-// 2^18 quotes of 16 assets, 58 and 61 for 2^17 of 32, 66 and 103 for 2^18, and 82 and 159 for 2^20.
+// round takes as long as hundreds of places, and a place takes few steps where the guesses are near, so
+// threads do not pay for fewer quotes. Measured for 500 rounds on four processors, in milliseconds
+// without threads: 6 for 2^18 quotes of 16 assets, and 32 for 2^17 of 32. To start threads in each
+// round takes about 40 by itself.
 const MANY_ASSETS: usize = 28;
 
 const MANY_QUOTES: usize = 1 << 20;
