@@ -1,6 +1,6 @@
 //! One level of the tree of digests.
 
-ghost use Rattle.std.specs.Prelude.{◌≡◌, ℕ, ◌<◌, ◌≤◌, ◌^◌, List, IfOk, length, slice_index_or};
+ghost use Rattle.std.specs.Prelude.{◌≡◌, ◌<◌, ◌≤◌, ◌^◌, IfOk, length};
 ghost use Rattle.sx_commit.specs.Levels.{AreLeaves, AreNodes, IsAbove, IsLeaf, IsLevel, level_at, node_at};
 
 use crate::hashing::{empty_digest, leaf_digest, node_digest};
