@@ -23,8 +23,8 @@ debits_more txs others account asset =
     ∙ omega (arith, debits_total txs account asset, debits_total others account asset)
 
 -- the first of candidates that are covered are covered
-pub first_covered : (parts : Parts) (txs others : List Tx) (account n : ℕ) → covers parts (txs ++ others) account n ≡ true
-    → covers parts txs account n ≡ true
+pub first_covered : (parts : Parts) (txs others : List Tx) (account n : ℕ)
+    → covers parts (txs ++ others) account n ≡ true → covers parts txs account n ≡ true
 first_covered parts txs others account n all =
     each_covers parts txs account n (λ asset lt.
     let holds = covers_each parts (txs ++ others) account n all asset lt in

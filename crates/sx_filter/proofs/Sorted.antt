@@ -24,7 +24,8 @@ by_number txs sorted k d low lt = sym (before_is (get_or txs (k + 1) d) (get_or 
 
 abbrev Far : List Tx → Type 0
 Far txs =
-    (i j : ℕ) (d : Tx) → i ≤ j → j < length txs → before (number_of (get_or txs j d)) (number_of (get_or txs i d)) ≡ false
+    (i j : ℕ) (d : Tx) → i ≤ j → j < length txs
+    → before (number_of (get_or txs j d)) (number_of (get_or txs i d)) ≡ false
 
 far : (txs : List Tx) → ByNumber txs → Far txs
 far txs sorted = sorted_far (λ x y. before (number_of x) (number_of y)) (ranks_by number_total number_of) txs sorted

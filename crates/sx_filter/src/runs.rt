@@ -1,6 +1,7 @@
 //! Runs of candidates: those of one account stand side by side, so that their debits are summed at once.
 
-ghost use Rattle.std.specs.Prelude.{◌≡◌, ◌<◌, ◌++◌, [], ◌∷◌, true, ℕ, List, All, Ok, IfOk, IfSome, length, slice_index_or};
+ghost use Rattle.std.specs.Prelude.{◌≡◌, ◌<◌, ◌++◌, [], ◌∷◌, true, List, All, Ok, IfOk, IfSome, length};
+ghost use Rattle.std.specs.Prelude.{slice_index_or};
 ghost use Rattle.std.specs.Bool.{OnTrue};
 ghost use Rattle.std.specs.List.Sorted.{IsSortedBy};
 ghost use Rattle.sx_filter.specs.Alone.{is_covered as is_covered_tx};

@@ -15,7 +15,8 @@ returns-then-is_offer_taken c = λ parts told x at.
     let txs = c.args.txs.now in
     let tx = c.index-txs-place.result in
     let own : tx ≡ x =
-    same_Some tx x (sym (slice_get_read txs (length txs) c.args.place tx refl c.requires.place c.index-txs-place.is) ∙ at) in
+    same_Some tx x
+    (sym (slice_get_read txs (length txs) c.args.place tx refl c.requires.place c.index-txs-place.is) ∙ at) in
     by_offer parts txs x (sym (c.is_number_taken.ensures x at) ∙ c.if-is_number_taken.false)
     (ap (λ (t : Tx). is_twice (same_offer t) txs) (sym own)
     ∙ sym (c.is_offer_taken.ensures txs c.requires.named) ∙ c.if-is_offer_taken.true)
@@ -25,7 +26,8 @@ returns-then-is_id_taken c = λ parts told x at.
     let txs = c.args.txs.now in
     let tx = c.index-txs-place.result in
     let own : tx ≡ x =
-    same_Some tx x (sym (slice_get_read txs (length txs) c.args.place tx refl c.requires.place c.index-txs-place.is) ∙ at) in
+    same_Some tx x
+    (sym (slice_get_read txs (length txs) c.args.place tx refl c.requires.place c.index-txs-place.is) ∙ at) in
     by_id parts txs x (sym (c.is_number_taken.ensures x at) ∙ c.if-is_number_taken.false)
     (ap (λ (t : Tx). is_twice (same_offer t) txs) (sym own)
     ∙ sym (c.is_offer_taken.ensures txs c.requires.named) ∙ c.if-is_offer_taken.false)
@@ -37,7 +39,8 @@ returns c = λ parts told x at.
     let txs = c.args.txs.now in
     let tx = c.index-txs-place.result in
     let own : tx ≡ x =
-    same_Some tx x (sym (slice_get_read txs (length txs) c.args.place tx refl c.requires.place c.index-txs-place.is) ∙ at) in
+    same_Some tx x
+    (sym (slice_get_read txs (length txs) c.args.place tx refl c.requires.place c.index-txs-place.is) ∙ at) in
     told x at
     ∙ by_debits parts txs x (sym (c.is_number_taken.ensures x at) ∙ c.if-is_number_taken.false)
     (ap (λ (t : Tx). is_twice (same_offer t) txs) (sym own)

@@ -39,7 +39,8 @@ loop-start-preserved c =
           c.is_covered-is.ensures.covers
           ∙ ap (λ (t : Tx). covers parts (slice_range txs start end) t.account.0 (assets_of parts))
           (sym c.index-txs-start.is)
-          ∙ run_covers txs c.requires.sorted start end ends parts c.requires.passes inv.begins first at (assets_of parts)
+          ∙ run_covers txs c.requires.sorted start end ends parts c.requires.passes inv.begins first at
+          (assets_of parts)
           ∙ ap (λ (a : ℕ). covers parts txs a (assets_of parts))
           (sym (one_account txs c.requires.sorted start end ends first at k x there le lt)))
           inv.covered;
