@@ -88,8 +88,8 @@ pub fn judge(
     judge_body(alloc, ledger, block, found)
 }
 
-/// The same for a caller that has the survey of the transactions already, by [`survey_of`], as one does that makes their digest
-/// on another thread meanwhile. `found` is what the survey answered.
+/// The same for a caller that has the survey of the transactions already, by [`survey_of`], as one does that has
+/// another thread make their digest meanwhile. `found` is what that call answered.
 pub fn judge_surveyed(
     alloc: Global,
     ledger: &Ledger,
