@@ -1,5 +1,7 @@
 //! Laws of chains.
 
+ghost use Rattle.std.specs.Prelude.{◌≡◌};
+ghost use Rattle.sx_follow.specs.Follower.{most_blocks};
 ghost use Rattle.sx_follow.specs.Laws.{
   ChainGrows,
   EveryListHasChain,
@@ -10,6 +12,7 @@ ghost use Rattle.sx_follow.specs.Laws.{
   ValidAreChain,
 };
 
+use crate::follower::Follower;
 use sx_block::block_effect_laws;
 use sx_check::check_laws;
 
@@ -17,7 +20,7 @@ use sx_check::check_laws;
 /// end. Where no two different blocks have one parent, the chain of a part of them is the beginning of the
 /// chain of all; so followers of the same blocks, in any order and with any repeats, have the same head
 /// where none can advance. Where each block is valid in turn, the chain is the list, and the head is what a
-/// replay gives.
+/// replay gives. `Follower::MOST_BLOCKS` is the most that a follower takes.
 pub fn follow_laws()
     ensures some { EveryListHasChain }
     ensures one { OneChain }
@@ -26,6 +29,7 @@ pub fn follow_laws()
     ensures agree { FollowersAgree }
     ensures chain { ValidAreChain }
     ensures replay { FollowersReplay }
+    ensures most { Follower.MOST_BLOCKS ≡ most_blocks }
 {
     block_effect_laws();
     check_laws();
