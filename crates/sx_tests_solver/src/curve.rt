@@ -53,7 +53,9 @@ fn curves_of(alloc: Global, quotes: &[Quote]) -> Option<Curves> {
     if quotes.len() > 8 || !small {
         return None;
     }
-    let quotes = quotes.to_vec(alloc).ok()?;
+    let Ok(quotes) = quotes.to_vec(alloc) else {
+        return None;
+    };
     Curves::build(alloc, 3, quotes).ok()
 }
 
