@@ -30,10 +30,8 @@ pub(crate) const FIRST: Entry = Entry {
 };
 
 // From how many assets and quotes on the places are shared among threads. To start the threads of a
-// round takes as long as hundreds of places, and a place takes few steps where the guesses are near, so
-// threads do not pay for fewer quotes. Measured for 500 rounds on four processors, in milliseconds
-// without threads: 6 for 2^18 quotes of 16 assets, and 32 for 2^17 of 32. To start threads in each
-// round takes about 40 by itself.
+// round takes as long as hundreds of places, and a place takes few steps where the guesses are near. For
+// 2^18 quotes of 32 assets rounds took less time without threads than with them.
 const MANY_ASSETS: usize = 28;
 
 const MANY_QUOTES: usize = 1 << 20;
