@@ -14,11 +14,11 @@ use std::alloc::Global;
 use std::thread::Threads;
 use sx_block::{digest_of, validity_laws};
 use sx_check::{CheckFault, Checked, Judged, check_laws, close, judge_surveyed};
-use sx_input::{Head, Incoming, written};
+use sx_input::{Head, Incoming, StateDigest, written};
 use sx_spread::apply_spread;
 
 // Where the chain stands after a block, and what is told of the block.
-#[derive(Debug, Drop)]
+#[derive(Drop)]
 pub struct Advanced {
     pub head: Head,
     pub checked: Checked,
@@ -52,8 +52,9 @@ pub fn advance<R: Threads + Sync>(
         digest,
     } = head;
     let Incoming { block, body, found } = incoming;
+    let parent = digest.wait(rt);
     let Judged { checked, effects } = judge_surveyed(
-        alloc, &ledger, &block, &digest, &body, found,
+        alloc, &ledger, &block, &parent, &body, found,
     )?;
     let ledger = apply_spread(rt, alloc, ledger, &block, effects, workers)?;
     let state = written(alloc, &ledger, state)?;
@@ -62,7 +63,7 @@ pub fn advance<R: Threads + Sync>(
     let head = Head {
         ledger,
         state: Some(state),
-        digest,
+        digest: StateDigest::Known(digest),
     };
     Ok(Advanced { head, checked })
 }

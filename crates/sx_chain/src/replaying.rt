@@ -25,7 +25,7 @@ const MOST_BLOCKS: u32 = 1_000_000;
 
 // Where a replay stands: the head, the offset of the next record, how many blocks have come, and
 // whether the last record is a block.
-#[derive(Debug, Drop)]
+#[derive(Drop)]
 pub struct Place {
     pub head: Head,
     pub at: u64,

@@ -22,6 +22,7 @@ use crate::opening::{Opened, Search, copy_of, digest_and_prices};
 use crate::ranges::price_ranges;
 use crate::trade::{Trade, trade_at};
 use std::alloc::Global;
+use std::snapshot::Snapshot;
 use std::sync::ledger;
 use std::thread::Threads;
 use sx_block::Block;
@@ -34,13 +35,13 @@ use sx_tx::{Tx, TxList};
 
 // What a body trades at the prices that are found, and what each offer and rounding keep of it.
 #[derive(Drop)]
-struct Trading {
-    trade: Trade,
-    filled: Filled,
+pub struct Trading {
+    pub trade: Trade,
+    pub filled: Filled,
 }
 
 // What the offers after a body trade at the prices that are found.
-fn trade_body<L: ledger::Ledger>(
+pub fn trade_body<L: ledger::Ledger>(
     alloc: Global,
     ledger: &Ledger,
     txs: &[Tx],
@@ -115,7 +116,7 @@ pub fn clear_at<L: ledger::Ledger>(
         after,
     };
     let height = ledger.height() + 1;
-    Ok(block_of(ledger, height, txs, digests, terms))
+    Ok(block_of(Snapshot::of(ledger), height, txs, digests, terms))
 }
 
 /// The block of a body at the prices that the search from those of the ledger ends at, in at most so many
@@ -213,5 +214,5 @@ pub fn clear_many<R: Threads + Sync, L: ledger::Ledger>(
         after,
     };
     let height = ledger.height() + 1;
-    Ok(block_of(ledger, height, txs, digests, terms))
+    Ok(block_of(Snapshot::of(ledger), height, txs, digests, terms))
 }

@@ -12,6 +12,7 @@ ghost use Rattle.sx_tx.specs.Transactions.{IsTx, most_transactions};
 use crate::digests::Digests;
 use crate::ranges::potential_ranges;
 use crate::trade::Trade;
+use std::snapshot::Snapshot;
 use sx_base::Balances;
 use sx_block::{Block, Digest, Header};
 use sx_ledger::Ledger;
@@ -28,18 +29,24 @@ pub struct Terms {
     pub after: Digest,
 }
 
-// The block of a body at these terms, where these are its digests.
-pub fn block_of(ledger: &Ledger, height: u64, txs: TxList, digests: Digests, terms: Terms) -> Block
-    requires kept { IsLedger ledger.now }
-    requires admissible { IsAdmissible ledger.now txs }
+// The block of a body of a ledger, of which nothing but a snapshot is left, at these terms, where these are its digests.
+pub fn block_of(
+    ledger: Snapshot<Ledger>,
+    height: u64,
+    txs: TxList,
+    digests: Digests,
+    terms: Terms,
+) -> Block
+    requires kept { IsLedger ledger.value }
+    requires admissible { IsAdmissible ledger.value txs }
     requires few { length txs ≤ most_transactions }
     requires each { All IsTx txs }
-    requires below_last { ledger.now.height < most_height }
-    requires height { height ≡ ledger.now.height + 1 }
-    requires digests { AreDigests ledger.now txs digests }
-    requires terms { AreTerms ledger.now txs terms }
+    requires below_last { ledger.value.height < most_height }
+    requires height { height ≡ ledger.value.height + 1 }
+    requires digests { AreDigests ledger.value txs digests }
+    requires terms { AreTerms ledger.value txs terms }
     requires digest { IsDigest terms.after }
-    ensures valid { IsValid ledger.now result }
+    ensures valid { IsValid ledger.value result }
     ensures version { result.header.version ≡ 1 }
     ensures txs { result.txs ≡ txs }
     ensures mu { result.header.mu ≡ terms.mu }

@@ -28,6 +28,26 @@ use sx_price::Prices;
 // to start a thread a small part of one.
 const MANY_BYTES: u32 = 1 << 18;
 
+// The digest of what a body and these fills of the offers after it leave of a ledger, which is let go.
+pub fn digest_after(
+    alloc: Global,
+    ledger: Ledger,
+    body: Body,
+    prices: &Prices,
+    rounding: &Balances,
+    fills: &[Fill],
+) -> Result<Digest, NoMemory>
+    requires below_last { ledger.height < most_height }
+    requires body { CanLeave ledger body prices.now rounding.now fills.now }
+    ensures hash { (txs : List Tx) (flow : Flow) → IsAdmissible ledger txs → IsBodyOf ledger txs body → fills.now ≡ all_fills prices.now flow (body_after ledger txs).offers → IfOk result (λ digest. digest ≡ digest_of_ledger (traded (body_after ledger txs) prices.now flow rounding.now)) }
+    ensures digest { IfOk result IsDigest }
+{
+    let Body { tally, offers } = body;
+    let with_body = apply_accounts(alloc, ledger, &tally, offers)?;
+    let left = execute(alloc, with_body, prices, rounding, fills)?;
+    ledger_digest(alloc, &left)
+}
+
 // The digest of what a body and these fills of the offers after it leave of a copy of the ledger.
 pub fn digest_left(
     alloc: Global,
@@ -42,10 +62,8 @@ pub fn digest_left(
     ensures hash { (txs : List Tx) (flow : Flow) → IsAdmissible ledger.now txs → IsBodyOf ledger.now txs body → fills.now ≡ all_fills prices.now flow (body_after ledger.now txs).offers → IfOk result (λ digest. digest ≡ digest_of_ledger (traded (body_after ledger.now txs) prices.now flow rounding.now)) }
     ensures digest { IfOk result IsDigest }
 {
-    let Body { tally, offers } = body;
-    let with_body = apply_accounts(alloc, ledger.copy()?, &tally, offers)?;
-    let left = execute(alloc, with_body, prices, rounding, fills)?;
-    ledger_digest(alloc, &left)
+    let copy = ledger.copy()?;
+    digest_after(alloc, copy, body, prices, rounding, fills)
 }
 
 // The digest of the ledger, made on a thread of its own where that is worth it, and beside it the digest of what a body

@@ -4,7 +4,8 @@
 //! the ledger, and at the prices that it finds it takes a circulation of greatest value within the
 //! bounds of the offers after the body. Where no circulation keeps the lower bounds, they are dropped and
 //! the block names a cut that shows it; they are dropped nowhere else. [`clear_many`] takes the prices of the best
-//! of several searches, and [`clear_at`] prices that are given. [`curves_of`] answers the supply curves that the search goes by.
+//! of several searches, [`clear_in_place`] does the same without a copy of the ledger, and [`clear_at`] takes prices that
+//! are given. [`curves_of`] answers the supply curves that the search goes by.
 //!
 //! The method: one pass over the body finds what it credits and the offers after it. Their quotes make
 //! curves, on which prices are searched. The offers that must and that may trade at the prices are the
@@ -35,6 +36,7 @@
 
 mod body;
 mod clearing;
+mod clearing_in_place;
 mod curves;
 mod digests;
 mod filling;
@@ -46,4 +48,5 @@ mod ranges;
 mod trade;
 
 pub use clearing::{clear, clear_at, clear_many};
+pub use clearing_in_place::clear_in_place;
 pub use curves::curves_of;

@@ -1,4 +1,5 @@
 pub mod Stream
+pub mod StateDigest
 pub mod Head
 pub mod Found
 pub mod Incoming

@@ -4,18 +4,19 @@ ghost use Rattle.std.specs.Prelude.{◌≡◌, IfOk};
 ghost use Rattle.sx_input.specs.Head.{IsHead};
 ghost use Rattle.sx_meaning.specs.Items.{state_record};
 
+use crate::state_digest::StateDigest;
 use std::alloc::Global;
-use sx_block::Digest;
 use sx_bytes::{NoMemory, Writer};
 use sx_ledger::Ledger;
 use sx_record::{tag, write_frame};
 
-/// A ledger, its record, where that was written, and its digest, which is that of the record.
-#[derive(Debug, Drop)]
+/// A ledger, its record, where that was written, and its digest, which is that of the record and which a thread may
+/// still be making.
+#[derive(Drop)]
 pub struct Head {
     pub ledger: Ledger,
     pub state: Option<Writer>,
-    pub digest: Digest,
+    pub digest: StateDigest,
 }
 
 impl Head {

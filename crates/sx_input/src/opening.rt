@@ -1,7 +1,6 @@
 //! The state at the beginning of an input, with its digest.
 
 ghost use Rattle.std.specs.Prelude.{◌≡◌, ◌+◌, ◌^◌, ◌<◌, ◌≤◌, length, IfErr, IfOk, IsErrOf, IsTrue};
-ghost use Rattle.sha2.specs.Sha256.{sha256};
 ghost use Rattle.sx_base.specs.Outside.{Rose};
 ghost use Rattle.sx_input.specs.Head.{IsHead};
 ghost use Rattle.sx_input.specs.Stream.{Holds, Stops, UnlessReadFault};
@@ -10,56 +9,41 @@ ghost use Rattle.sx_ledger.specs.Ledger.{IsLedger};
 ghost use Rattle.sx_meaning.specs.Expected.{item_at, needed};
 ghost use Rattle.sx_meaning.specs.Items.{item_record, payload_at};
 ghost use Rattle.sx_meaning.specs.Items as item;
-ghost use Rattle.sx_record.specs.Frame.{frame_bytes, most_bytes, record_bytes};
+ghost use Rattle.sx_record.specs.Frame.{frame_bytes, most_bytes};
 ghost use Rattle.sx_record.specs.Stream.{Took};
 ghost use Rattle.sx_record.specs.Tags.{state_tag};
 
 use crate::head::Head;
 use crate::payloads::decoded;
+use crate::state_digest::StateDigest;
 use crate::stop::Stop;
 use crate::stream::{Taken, end_of, required};
 use std::alloc::Global;
-use std::thread::{Threads, join};
+use std::sync::Arc;
+use std::thread::Threads;
 use sx_base::Source;
-use sx_block::{Digest, record_digest};
-use sx_ledger::Ledger;
 use sx_record::{Record, tag};
 
-// From how many bytes on a payload is hashed on a thread of its own. Hashing takes milliseconds there,
-// and to start a thread a small part of one.
-const WORTH_A_THREAD: usize = 1 << 20;
-
-// The digest of the record of this payload, and the ledger that the payload encodes.
-fn digest_and_ledger<R: Threads>(
-    rt: &R,
-    alloc: Global,
-    found: &Record,
-) -> (Digest, Result<Ledger, Stop>)
-    requires place { found.now.at ≤ 2 ^ 63 + 5 }
-    requires fits { length found.now.payload ≤ most_bytes }
-    ensures digest { result.0 ≡ sha256 (record_bytes state_tag found.now.payload) }
-    ensures exact { Holds (λ ledger. item.state ledger) found.now.at (payload_at state_tag found.now.payload) result.1 }
-    ensures form { IfOk result.1 IsLedger }
-    ensures encoded { IfOk result.1 (λ ledger. found.now.payload ≡ state_bytes ledger) }
+// The ledger of a record, which is let go, and where a chain of blocks stands on it. A thread makes the digest of a
+// large record while it is decoded, and goes on after that.
+fn begun<R: Threads>(rt: &R, alloc: Global, found: Record) -> Result<Head, Stop>
+    requires place { found.at ≤ 2 ^ 63 + 5 }
+    requires fits { length found.payload ≤ most_bytes }
+    ensures exact { Holds (λ head. item.state head.ledger) found.at (payload_at state_tag found.payload) result }
+    ensures form { IfOk result (λ head. IsLedger head.ledger) }
+    ensures encoded { IfOk result (λ head. found.payload ≡ state_bytes head.ledger) }
+    ensures head { IfOk result IsHead }
 {
-    let payload = found.payload.items();
-    if payload.len() < WORTH_A_THREAD {
-        return (record_digest(tag::STATE, payload), decoded(alloc, found));
-    }
-    join(
-        rt,
-        || -> Digest
-            requires { length payload.now < 2 ^ 32 }
-            ensures { result ≡ sha256 (record_bytes state_tag payload.entry.now) }
-        { record_digest(tag::STATE, payload) },
-        || -> Result<Ledger, Stop>
-            requires place { found.now.at ≤ 2 ^ 63 + 5 }
-            requires fits { length found.now.payload ≤ most_bytes }
-            ensures exact { Holds (λ ledger. item.state ledger) found.entry.now.at (payload_at state_tag found.entry.now.payload) result }
-            ensures form { IfOk result IsLedger }
-            ensures encoded { IfOk result (λ ledger. found.entry.now.payload ≡ state_bytes ledger) }
-        { decoded(alloc, found) },
-    )
+    let Ok(found) = Arc::new(alloc, found) else {
+        return Err(Stop::NoMemory);
+    };
+    let digest = StateDigest::start(rt, &found);
+    let ledger = decoded(alloc, &found)?;
+    Ok(Head {
+        ledger,
+        state: None,
+        digest,
+    })
 }
 
 /// The state, which has to be the first record, and where a chain of blocks stands on it.
@@ -80,12 +64,7 @@ pub fn take_head<R: Threads, S: Source>(
     ensures kept { S.strict source.new ≡ S.strict source.old }
 {
     let found = required(alloc, source, 0, tag::STATE)?;
-    let (digest, ledger) = digest_and_ledger(rt, alloc, &found);
-    let held = Head {
-        ledger: ledger?,
-        state: None,
-        digest,
-    };
     let end = end_of(&found);
+    let held = begun(rt, alloc, found)?;
     Ok(Taken { held, end })
 }

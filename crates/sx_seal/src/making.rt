@@ -1,8 +1,10 @@
 //! A block of candidates: worker threads gather them, and the body that they make is cleared.
 
 ghost use Rattle.std.specs.Prelude.{◌≡◌, ◌+◌, ◌≤◌, ◌<◌, Ok, IfErr, IfOk, length};
+ghost use Rattle.sx_clear.specs.Digests.{IsParentDigest};
 ghost use Rattle.sx_clear.specs.Searches.{most_clearing_searches};
 ghost use Rattle.sx_gather.specs.Start.{IsFaultOf};
+ghost use Rattle.sx_input.specs.Head.{IsHead};
 ghost use Rattle.sx_layout.specs.Gathering.{IsGathered};
 ghost use Rattle.sx_layout.specs.Room.{room_for};
 ghost use Rattle.sx_ledger.specs.Body.{IsAdmissible};
@@ -14,10 +16,11 @@ ghost use Rattle.sx_tx.specs.Transactions.{most_transactions};
 use std::alloc::Global;
 use std::sync::ledger;
 use std::thread::Threads;
-use sx_block::Block;
+use sx_block::{Block, Digest};
 use sx_bytes::NoMemory;
-use sx_clear::clear_many;
+use sx_clear::{clear_in_place, clear_many};
 use sx_gather::{GatherFault, Sealed};
+use sx_input::Head;
 use sx_layout::{Outcomes, gathering_laws};
 use sx_ledger::Ledger;
 use sx_net::Steps;
@@ -102,6 +105,42 @@ fn cleared<R: Threads + Sync, L: ledger::Ledger>(
     Ok(Made { block, outcomes })
 }
 
+// The same on a ledger that is needed no more, and of which this is the digest.
+fn cleared_in_place<R: Threads + Sync, L: ledger::Ledger>(
+    rt: &R,
+    alloc: Global,
+    ledger: Ledger,
+    parent: Digest,
+    sealed: Sealed,
+    numbers: Numbers,
+    steps: &mut Steps<L>,
+) -> Result<Made, NoMemory>
+    requires parent { IsParentDigest ledger parent }
+    requires admissible { IsAdmissible ledger sealed.txs }
+    requires few { length sealed.txs ≤ most_transactions }
+    requires below_last { ledger.height < most_height }
+    requires numbers { AreNumbers numbers }
+    ensures cleared { IfOk result (λ made. IsClearedFor ledger numbers.mu numbers.rounds numbers.searches made.block) }
+    ensures txs { IfOk result (λ made. made.block.txs ≡ sealed.txs) }
+    ensures outcomes { IfOk result (λ made. made.outcomes ≡ sealed.outcomes) }
+    ensures counted { steps.new ≤ steps.old + most_clearing_searches }
+    ensures rising { steps.old ≤ steps.new }
+{
+    let Sealed { txs, outcomes } = sealed;
+    let block = clear_in_place(
+        rt,
+        alloc,
+        ledger,
+        parent,
+        txs,
+        numbers.mu,
+        numbers.rounds,
+        numbers.searches,
+        steps,
+    )?;
+    Ok(Made { block, outcomes })
+}
+
 // A block of the candidates and what became of each, or why there is no room for them. The candidates are
 // let go before the body is cleared.
 pub fn make<R: Threads + Sync, G: Gate + Sync, L: ledger::Ledger>(
@@ -125,4 +164,32 @@ pub fn make<R: Threads + Sync, G: Gate + Sync, L: ledger::Ledger>(
     gathering_laws();
     let sealed = gathered(rt, alloc, ledger, candidates, numbers, gate)?;
     Ok(cleared(rt, alloc, ledger, sealed, numbers, steps)?)
+}
+
+// The same on a ledger that is needed no more, whose digest a thread may still be making.
+pub fn make_in_place<R: Threads + Sync, G: Gate + Sync, L: ledger::Ledger>(
+    rt: &R,
+    alloc: Global,
+    head: Head,
+    candidates: TxList,
+    numbers: Numbers,
+    gate: &G,
+    steps: &mut Steps<L>,
+) -> Result<Made, GatherFault>
+    requires ledger { IsLedger head.ledger }
+    requires head { IsHead head }
+    requires few { length candidates ≤ most_transactions }
+    requires numbers { AreNumbers numbers }
+    ensures made { IfOk result (λ made. IsMadeOf head.ledger candidates numbers.mu numbers.rounds numbers.searches made.block made.outcomes) }
+    ensures room { IfOk result (λ _. room_for head.ledger candidates ≡ Ok tt) }
+    ensures fault { IfErr result (IsFaultOf (room_for head.ledger candidates)) }
+    ensures counted { steps.new ≤ steps.old + most_clearing_searches }
+    ensures rising { steps.old ≤ steps.new }
+{
+    gathering_laws();
+    let Head { ledger, digest, .. } = head;
+    let sealed = gathered(rt, alloc, &ledger, candidates, numbers, gate);
+    let parent = digest.wait(rt);
+    let sealed = sealed?;
+    Ok(cleared_in_place(rt, alloc, ledger, parent, sealed, numbers, steps)?)
 }

@@ -6,8 +6,10 @@ ghost use Rattle.sx_base.specs.Outside.{Rose};
 ghost use Rattle.sx_block.specs.Block.{IsBlock};
 ghost use Rattle.sx_clear.specs.Searches.{most_clearing_searches};
 ghost use Rattle.sx_input.specs.Found.{ConcludesAs, Found};
+ghost use Rattle.sx_input.specs.Head.{IsHead};
 ghost use Rattle.sx_input.specs.Stream.{UnlessReadFault};
 ghost use Rattle.sx_layout.specs.Outcomes.{AreOutcomes};
+ghost use Rattle.sx_ledger.specs.Ledger.{IsLedger};
 ghost use Rattle.sx_meaning.specs.Findings.{Concludes, no_fault};
 ghost use Rattle.sx_meaning.specs.Items.{item_record};
 ghost use Rattle.sx_meaning.specs.Items as item;
@@ -16,7 +18,7 @@ ghost use Rattle.sx_seal.specs.Making.{AreNumbers, IsStoppedBy, seal_of};
 ghost use Rattle.sx_tx.specs.Transactions.{IsTxList};
 
 use crate::lengths::block_length;
-use crate::making::{Made, Numbers, make};
+use crate::making::{Made, Numbers, make_in_place};
 use std::alloc::Global;
 use std::sync::ledger;
 use std::thread::Threads;
@@ -25,9 +27,8 @@ use sx_block::{Block, block_laws, write_block};
 use sx_bytes::{NoMemory, Writer};
 use sx_check::Invalid;
 use sx_gather::GatherFault;
-use sx_input::{Stop, end, take};
+use sx_input::{Head, Stop, end, take, take_head};
 use sx_layout::{Outcomes, outcome_list_laws, write_outcomes};
-use sx_ledger::Ledger;
 use sx_net::Steps;
 use sx_record::{tag, write_frame, write_record};
 use sx_tx::TxList;
@@ -80,23 +81,25 @@ fn written(alloc: Global, block: Block, outcomes: &Outcomes) -> Result<Writer, N
 fn made<R: Threads + Sync, G: Gate + Sync, L: ledger::Ledger>(
     rt: &R,
     alloc: Global,
-    ledger: Ledger,
+    head: Head,
     candidates: TxList,
     numbers: Numbers,
     gate: &G,
     steps: &mut Steps<L>,
 ) -> Result<Made, Stop>
+    requires ledger { IsLedger head.ledger }
+    requires head { IsHead head }
     requires candidates { IsTxList candidates }
     requires numbers { AreNumbers numbers }
-    ensures made { IfOk result (λ made. IsMadeOf ledger candidates numbers.mu numbers.rounds numbers.searches made.block made.outcomes) }
+    ensures made { IfOk result (λ made. IsMadeOf head.ledger candidates numbers.mu numbers.rounds numbers.searches made.block made.outcomes) }
     ensures told { IfOk result (λ made. AreOutcomes made.outcomes) }
-    ensures room { IfOk result (λ _. Concludes (seal_of numbers) (item.state ledger ∷ item.candidates candidates ∷ []) no_fault) }
-    ensures stops { IfErr result (λ why. ConcludesAs (seal_of numbers) (item.state ledger ∷ item.candidates candidates ∷ []) (Err why)) }
+    ensures room { IfOk result (λ _. Concludes (seal_of numbers) (item.state head.ledger ∷ item.candidates candidates ∷ []) no_fault) }
+    ensures stops { IfErr result (λ why. ConcludesAs (seal_of numbers) (item.state head.ledger ∷ item.candidates candidates ∷ []) (Err why)) }
     ensures calm { IsErrOf result Stop.ReadFault → ⊥ }
     ensures counted { steps.new ≤ steps.old + most_clearing_searches }
     ensures rising { steps.old ≤ steps.new }
 {
-    match make(rt, alloc, &ledger, candidates, numbers, gate, steps) {
+    match make_in_place(rt, alloc, head, candidates, numbers, gate, steps) {
         Ok(made) => Ok(made),
         Err(fault) => Err(stop_of(fault)),
     }
@@ -106,20 +109,22 @@ fn made<R: Threads + Sync, G: Gate + Sync, L: ledger::Ledger>(
 fn sealed<R: Threads + Sync, G: Gate + Sync, L: ledger::Ledger>(
     rt: &R,
     alloc: Global,
-    ledger: Ledger,
+    head: Head,
     candidates: TxList,
     numbers: Numbers,
     gate: &G,
     steps: &mut Steps<L>,
 ) -> Result<Writer, Stop>
+    requires ledger { IsLedger head.ledger }
+    requires head { IsHead head }
     requires candidates { IsTxList candidates }
     requires numbers { AreNumbers numbers }
-    ensures concludes { ConcludesAs (seal_of numbers) (item.state ledger ∷ item.candidates candidates ∷ []) result }
+    ensures concludes { ConcludesAs (seal_of numbers) (item.state head.ledger ∷ item.candidates candidates ∷ []) result }
     ensures calm { IsErrOf result Stop.ReadFault → ⊥ }
     ensures counted { steps.new ≤ steps.old + most_clearing_searches }
     ensures rising { steps.old ≤ steps.new }
 {
-    let Made { block, outcomes } = made(rt, alloc, ledger, candidates, numbers, gate, steps)?;
+    let Made { block, outcomes } = made(rt, alloc, head, candidates, numbers, gate, steps)?;
     Ok(written(alloc, block, &outcomes)?)
 }
 
@@ -139,7 +144,7 @@ pub fn seal<R: Threads + Sync, S: Source, G: Gate + Sync, L: ledger::Ledger>(
     ensures counted { steps.new ≤ steps.old + most_clearing_searches }
     ensures rising { steps.old ≤ steps.new }
 {
-    let opening = take::<Ledger, S>(alloc, source, 0)?;
+    let opening = take_head(rt, alloc, source)?;
     let candidates = take::<TxList, S>(alloc, source, opening.end)?;
     end(alloc, source, candidates.end)?;
     sealed(

@@ -3,7 +3,7 @@
 ghost use Rattle.std.specs.Prelude.{◌≤◌};
 
 // Fewer entries than this are not worth a thread of their own.
-const LEAST: usize = 2_048;
+const LEAST: usize = 8_192;
 
 // How many of the workers get a share of so many entries.
 pub fn sharers(entries: usize, workers: u32) -> usize

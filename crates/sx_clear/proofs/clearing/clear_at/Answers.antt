@@ -21,7 +21,7 @@ block_of-requires-clause-terms g c =
     c.items-3.ensures c.in_ok-trade.ensures.trading in
     let left = c.in_ok-after.ensures.hash txs (value_of trading.trade.flow)
     c.requires.admissible found (c.items-4.ensures ∙ trades.fills) in
-    terms_of parts txs body trading
+    rw c.of.ensures (terms_of parts txs body trading
     (record {
       mu = c.args.mu;
       prices = prices;
@@ -29,13 +29,13 @@ block_of-requires-clause-terms g c =
       rounding = trading.filled.rounding;
       after = c.in_ok-after.after;
     })
-    trades (ap length c.in_ok-prices.ensures ∙ c.requires.prices) c.trade_body.ensures.in_range refl refl left
+    trades (ap length c.in_ok-prices.ensures ∙ c.requires.prices) c.trade_body.ensures.in_range refl refl left)
 
 pub returns-clause-greatest : goal.returns-clause-greatest
-returns-clause-greatest g c = block_trades_most c.args.ledger.now c.block_of.result c.block_of.ensures.valid
+returns-clause-greatest g c = block_trades_most c.args.ledger.now c.block_of.result (rw c.of.ensures at c.block_of.ensures.valid)
 
 pub returns-clause-dropped : goal.returns-clause-dropped
-returns-clause-dropped g c = drops_exactly c.args.ledger.now c.block_of.result c.block_of.ensures.valid
+returns-clause-dropped g c = drops_exactly c.args.ledger.now c.block_of.result (rw c.of.ensures at c.block_of.ensures.valid)
 
 pub returns-clause-counted : goal.returns-clause-counted
 returns-clause-counted g c =

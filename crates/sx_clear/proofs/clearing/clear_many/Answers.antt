@@ -36,7 +36,7 @@ block_of-requires-clause-terms g c =
     c.items-2.ensures c.in_ok-trade.ensures.trading in
     let left = rw c.in_ok-after.was at c.digests_around-parent.ensures.hash txs (value_of trading.trade.flow)
     c.requires.admissible found (c.items-3.ensures ∙ trades.fills) in
-    terms_of parts txs opened.body trading
+    rw c.of.ensures (terms_of parts txs opened.body trading
     (record {
       mu = c.args.mu;
       prices = opened.prices;
@@ -44,7 +44,7 @@ block_of-requires-clause-terms g c =
       rounding = trading.filled.rounding;
       after = c.in_ok-after.after;
     })
-    trades same c.trade_body.ensures.in_range refl refl left
+    trades same c.trade_body.ensures.in_range refl refl left)
 
 pub returns-clause-mends : goal.returns-clause-mends
 returns-clause-mends g c =
@@ -56,10 +56,10 @@ returns-clause-mends g c =
     c.block_of.ensures.txs c.block_of.ensures.prices
 
 pub returns-clause-greatest : goal.returns-clause-greatest
-returns-clause-greatest g c = block_trades_most c.args.ledger.now c.block_of.result c.block_of.ensures.valid
+returns-clause-greatest g c = block_trades_most c.args.ledger.now c.block_of.result (rw c.of.ensures at c.block_of.ensures.valid)
 
 pub returns-clause-dropped : goal.returns-clause-dropped
-returns-clause-dropped g c = drops_exactly c.args.ledger.now c.block_of.result c.block_of.ensures.valid
+returns-clause-dropped g c = drops_exactly c.args.ledger.now c.block_of.result (rw c.of.ensures at c.block_of.ensures.valid)
 
 pub returns-clause-counted : goal.returns-clause-counted
 returns-clause-counted g c =

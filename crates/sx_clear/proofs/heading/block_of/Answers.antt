@@ -8,7 +8,7 @@ use Rattle.sx_ledger.proofs.BodyKeepsLedger.{body_keeps_ledger}
 
 pub returns-clause-valid : goal.returns-clause-valid
 returns-clause-valid c =
-    let parts = c.args.ledger.now in
+    let parts = c.args.ledger.value in
     let asked = c.requires in
     let terms = asked.terms in
     let trade = terms.trade in

@@ -1,55 +1,28 @@
-use Rattle.std.proofs.Common.{◌≡◌, IfOk, sym, ap, subst, ◌∙◌, arith}
-use Rattle.sx_apply.specs.Effects.{AreOffersAfter}
-use Rattle.sx_apply.specs.Trading.{CanExecute}
+use Rattle.std.proofs.Common.{◌≡◌, ◌<◌, IfOk, List, sym, subst}
 use Rattle.sx_block.specs.Validity.{digest_of_ledger}
+use Rattle.sx_clear.specs.Found.{CanLeave, IsBodyOf}
 use Rattle.sx_clear.proofs.leaving.digest_left.Goals as goal
 use Rattle.sx_fill.specs.AllFills.{all_fills}
 use Rattle.sx_ledger.specs.declared.parts.Parts.{Parts}
-use Rattle.sx_ledger.specs.Body.{body_after}
+use Rattle.sx_ledger.specs.Body.{IsAdmissible, body_after}
+use Rattle.sx_ledger.specs.Fills.{Flow}
+use Rattle.sx_ledger.specs.Ledger.{most_height}
 use Rattle.sx_ledger.specs.Trade.{traded}
-use Rattle.sx_ledger.proofs.LaterBodies.{later_admits_more}
+use Rattle.sx_tx.specs.declared.tx.Tx.{Tx}
 
-pub apply_accounts-requires-clause-body : goal.apply_accounts-requires-clause-body
-apply_accounts-requires-clause-body c =
-    let can = c.requires.body in
-    let wide = later_admits_more 2 c.args.ledger.now can.txs can.admissible in
-    record { txs = can.txs; body = rw c.in_ok-copy.ensures wide; is = rw c.in_ok-copy.ensures can.body.tally }
+pub digest_after-requires-clause-below_last : goal.digest_after-requires-clause-below_last
+digest_after-requires-clause-below_last c =
+    subst (λ (p : Parts). p.height < most_height) (sym c.in_ok-copy.ensures) c.requires.below_last
 
-pub apply_accounts-requires-clause-offers : goal.apply_accounts-requires-clause-offers
-apply_accounts-requires-clause-offers c =
-    subst (λ (p : Parts). AreOffersAfter p c.args.body.tally c.args.body.offers) (sym c.in_ok-copy.ensures)
-    c.requires.body.body.offers
-
-pub execute-requires-clause-below_last : goal.execute-requires-clause-below_last
-execute-requires-clause-below_last c =
-    let can = c.requires.body in
-    let wide = later_admits_more 2 c.args.ledger.now can.txs can.admissible in
-    let copy = c.in_ok-copy.ensures in
-    let after : c.in_ok-with_body.with_body ≡ body_after c.args.ledger.now can.txs =
-    c.in_ok-with_body.ensures can.txs (rw copy wide) (rw copy can.body.tally)
-    ∙ ap (λ (p : Parts). body_after p can.txs) copy in
-    omega (arith, ap (λ (p : Parts). p.height) after, c.requires.below_last)
-
-pub execute-requires-clause-fills : goal.execute-requires-clause-fills
-execute-requires-clause-fills c =
-    let can = c.requires.body in
-    let wide = later_admits_more 2 c.args.ledger.now can.txs can.admissible in
-    let copy = c.in_ok-copy.ensures in
-    let after : c.in_ok-with_body.with_body ≡ body_after c.args.ledger.now can.txs =
-    c.in_ok-with_body.ensures can.txs (rw copy wide) (rw copy can.body.tally)
-    ∙ ap (λ (p : Parts). body_after p can.txs) copy in
-    subst (λ (p : Parts). CanExecute p c.args.prices.now c.args.rounding.now c.args.fills.now) (sym after) can.trade
+pub digest_after-requires-clause-body : goal.digest_after-requires-clause-body
+digest_after-requires-clause-body c =
+    subst (λ (p : Parts). CanLeave p c.args.body c.args.prices.now c.args.rounding.now c.args.fills.now)
+    (sym c.in_ok-copy.ensures) c.requires.body
 
 pub returns-clause-hash : goal.returns-clause-hash
-returns-clause-hash c = λ txs flow admissible found are.
-    let wide = later_admits_more 2 c.args.ledger.now txs admissible in
-    let copy = c.in_ok-copy.ensures in
-    let after : c.in_ok-with_body.with_body ≡ body_after c.args.ledger.now txs =
-    c.in_ok-with_body.ensures txs (rw copy wide) (rw copy found.tally)
-    ∙ ap (λ (p : Parts). body_after p txs) copy in
-    let left : c.in_ok-left.left ≡ traded c.in_ok-with_body.with_body c.args.prices.now flow c.args.rounding.now =
-    c.in_ok-left.ensures flow
-    (are ∙ ap (λ (p : Parts). all_fills c.args.prices.now flow p.offers) (sym after)) in
-    subst (λ (p : Parts). IfOk c.ledger_digest.result (λ digest. digest ≡ digest_of_ledger p))
-    (left ∙ ap (λ (p : Parts). traded p c.args.prices.now flow c.args.rounding.now) after)
-    c.ledger_digest.ensures.hash
+returns-clause-hash c =
+    subst (λ (p : Parts). (txs : List Tx) (flow : Flow) → IsAdmissible p txs → IsBodyOf p txs c.args.body
+    → c.args.fills.now ≡ all_fills c.args.prices.now flow (body_after p txs).offers
+    → IfOk c.digest_after.result (λ digest. digest
+    ≡ digest_of_ledger (traded (body_after p txs) c.args.prices.now flow c.args.rounding.now)))
+    c.in_ok-copy.ensures c.digest_after.ensures.hash
