@@ -2,12 +2,13 @@
 
 ghost use Rattle.std.specs.Prelude.{◌≡◌, ◌≤◌, Bool, List, length, vec_len, IfOk, IfErr, Err};
 ghost use Rattle.std.specs.List.{filter as those};
+ghost use Rattle.std.specs.List.Sorted.{IsPermutation, IsSortedBy};
 ghost use Rattle.sx_filter.specs.Fault.{fault_of as the_fault, IsFaultOf};
 ghost use Rattle.sx_filter.specs.Kept.{kept_of, passing as passing_of};
 ghost use Rattle.sx_filter.specs.Verdicts.{ArePassed, AreVerdicts};
 ghost use Rattle.sx_layout.specs.declared.space.NoRoom.{NoRoom as WhyNoRoom};
 ghost use Rattle.sx_layout.specs.Room.{room_for};
-ghost use Rattle.sx_ledger.specs.Body.{IsAdmissible};
+ghost use Rattle.sx_ledger.specs.Body.{IsAdmissible, tx_before};
 ghost use Rattle.sx_tx.specs.declared.tx.Tx.{Tx as Transaction};
 ghost use Rattle.sx_tx.specs.Transactions.{most_transactions};
 
@@ -17,7 +18,7 @@ use crate::passing::passing;
 use std::alloc::Global;
 use std::thread::Threads;
 use sx_bytes::NoMemory;
-use sx_layout::{par_sort_txs, room};
+use sx_layout::{par_sort_txs, room, sort_txs};
 use sx_ledger::Ledger;
 use sx_tx::{Tx, TxList};
 
@@ -37,6 +38,18 @@ fn keep(txs: &mut Vec<Tx>, verdicts: &[bool])
     txs.truncate(kept);
 }
 
+// Puts transactions into the order of a body, by several threads where there are several workers.
+fn sort<R: Threads + Sync>(rt: &R, txs: &mut [Tx], workers: u32)
+    ensures moves { IsPermutation txs.old txs.new }
+    ensures sorted { IsSortedBy tx_before txs.new }
+{
+    if workers == 1 {
+        sort_txs(txs);
+    } else {
+        par_sort_txs(rt, txs);
+    }
+}
+
 // Those of candidates, all of which pass, that nothing stands in the way of, sorted.
 fn alone<R: Threads + Sync>(
     rt: &R,
@@ -51,7 +64,7 @@ fn alone<R: Threads + Sync>(
         → IfOk result (λ kept. kept ≡ kept_of ledger.now candidates) }
 {
     let mut txs = txs;
-    par_sort_txs(rt, &mut txs);
+    sort(rt, &mut txs, workers);
     let verdicts = verdicts_of(rt, alloc, ledger, &txs, workers)?;
     keep(&mut txs, &verdicts);
     Ok(TxList::of(txs))
@@ -59,7 +72,7 @@ fn alone<R: Threads + Sync>(
 
 /// Chooses of at most 1,000,000 candidates of a ledger those that no other candidate stands in the way of,
 /// sorted by account and then by sequence number. The ledger's test of each is shared among 1 to 64
-/// workers, and the answer is the same for every number of them.
+/// workers, and where these are several, threads sort those that pass. The answer is the same for every number of them.
 ///
 /// A candidate is kept where it passes that test and, among all that pass, no other has its account and
 /// number, no other cancels its offer, no other creates its account, and its account holds of each asset

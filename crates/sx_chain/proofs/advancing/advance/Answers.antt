@@ -25,4 +25,5 @@ pub returns-clause-head : goal.returns-clause-head
 returns-clause-head g c = record {
   state = c.in_ok-state.ensures;
   digest = c.digest_of-digest.ensures.hash ∙ ap sha256 c.bytes.ensures ∙ ap sha256 c.in_ok-state.ensures;
+  whole = c.digest_of-digest.ensures.digest;
 }

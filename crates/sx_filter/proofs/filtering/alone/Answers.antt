@@ -14,28 +14,28 @@ use Rattle.sx_tx.specs.declared.tx.Tx.{Tx}
 pub verdicts_of-requires-clause-passes : goal.verdicts_of-requires-clause-passes
 verdicts_of-requires-clause-passes g c κs within =
     let parts = c.args.ledger.now in
-    let sorted = c.par_sort_txs.new.txs in
-    let whole = with_items_is c.args.txs sorted (omega (arith, c.par_sort_txs.auto.txs, c.deref_mut.ensures.len)) in
+    let sorted = c.sort.new.txs in
+    let whole = with_items_is c.args.txs sorted (omega (arith, c.sort.auto.txs, c.deref_mut.ensures.len)) in
     subst (All (λ (tx : Tx). static_of parts tx ≡ Ok tt)) (sym (c.deref.ensures.value ∙ whole))
     (moved_pass parts c.requires.passed.candidates sorted
     (subst (λ (txs : List Tx). IsPermutation txs sorted) (c.deref_mut.ensures.value ∙ c.requires.passed.are)
-    c.par_sort_txs.ensures.moves))
+    c.sort.ensures.moves))
 
 pub verdicts_of-requires-clause-sorted : goal.verdicts_of-requires-clause-sorted
 verdicts_of-requires-clause-sorted g c κs within =
-    let sorted = c.par_sort_txs.new.txs in
-    let whole = with_items_is c.args.txs sorted (omega (arith, c.par_sort_txs.auto.txs, c.deref_mut.ensures.len)) in
-    subst (IsSortedBy tx_before) (sym (c.deref.ensures.value ∙ whole)) c.par_sort_txs.ensures.sorted
+    let sorted = c.sort.new.txs in
+    let whole = with_items_is c.args.txs sorted (omega (arith, c.sort.auto.txs, c.deref_mut.ensures.len)) in
+    subst (IsSortedBy tx_before) (sym (c.deref.ensures.value ∙ whole)) c.sort.ensures.sorted
 
 pub returns : goal.returns
 returns g c = λ candidates are.
     let parts = c.args.ledger.now in
-    let sorted = c.par_sort_txs.new.txs in
+    let sorted = c.sort.new.txs in
     let said = c.in_ok-verdicts.verdicts.items in
-    let whole = with_items_is c.args.txs sorted (omega (arith, c.par_sort_txs.auto.txs, c.deref_mut.ensures.len)) in
+    let whole = with_items_is c.args.txs sorted (omega (arith, c.sort.auto.txs, c.deref_mut.ensures.len)) in
     let moves : IsPermutation (passing parts candidates) sorted =
     subst (λ (txs : List Tx). IsPermutation txs sorted) (c.deref_mut.ensures.value ∙ are)
-    c.par_sort_txs.ensures.moves in
+    c.sort.ensures.moves in
     let told : AreVerdicts (is_alone parts sorted) sorted said =
     subst (λ (txs : List Tx). AreVerdicts (is_alone parts txs) txs said) (c.deref.ensures.value ∙ whole)
     c.in_ok-verdicts.ensures.verdicts in
@@ -47,4 +47,4 @@ returns g c = λ candidates are.
     ∙ c.keep.ensures (is_alone parts sorted)
     (subst (λ (txs : List Tx). AreVerdicts (is_alone parts sorted) txs lent) (sym whole) same)
     ∙ ap (filter (is_alone parts sorted)) whole
-    ∙ kept_sorted parts candidates sorted moves c.par_sort_txs.ensures.sorted
+    ∙ kept_sorted parts candidates sorted moves c.sort.ensures.sorted
