@@ -13,6 +13,7 @@ pub mod Chains
 pub mod Settlements
 pub mod Following
 pub mod Proved
+pub mod Filtered
 pub mod SomeItem
 pub mod KnownTags
 pub mod SomeConclusion

@@ -12,3 +12,4 @@ pub mod Laws
 pub mod Settling
 pub mod SealLaws
 pub mod ProofLaws
+pub mod FilterLaws

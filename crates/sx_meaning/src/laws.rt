@@ -1,5 +1,6 @@
 //! Laws of inputs, and of chains of blocks.
 
+ghost use Rattle.sx_meaning.specs.FilterLaws.{FiltersBodies};
 ghost use Rattle.sx_meaning.specs.Laws.{ChainConserves, ChainKeepsLedger, FindsOne, FindsSome, FollowsReplays, ReplaysChains};
 ghost use Rattle.sx_meaning.specs.Laws.{WritesOne, WritesSome};
 ghost use Rattle.sx_meaning.specs.ProofLaws.{ProvedIsGood};
@@ -9,13 +10,15 @@ ghost use Rattle.sx_meaning.specs.Settling.{ReplaysSettle, ValidSettles};
 use sx_block::block_effect_laws;
 use sx_check::check_laws;
 use sx_commit::commitment_laws;
+use sx_filter::filter_laws;
 use sx_follow::follow_laws;
 
 /// Of each input one thing is found, for each command: no fault, or one first fault, and one list of
 /// bytes is then left of the input. So the answer to an input is a function of it. Where no fault is found,
 /// each command but `seal` and `demo` may write one output, and there always is one. What a seal may write is
 /// the same for any number of workers and shards, and what a filter or a demonstration may write for any number of
-/// workers. What is written of one account is nothing, or a record of which a verification tells that it is good.
+/// workers. What is written of one account is nothing, or a record of which a verification tells that it is good. What a
+/// filter writes is the record of candidates that may be the body of a block, and all of which a gathering accepts.
 pub fn input_laws()
     ensures one { FindsOne }
     ensures some { FindsSome }
@@ -25,11 +28,13 @@ pub fn input_laws()
     ensures filters_alike { FiltersAlike }
     ensures demos_alike { DemosAlike }
     ensures proved { ProvedIsGood }
+    ensures filtered { FiltersBodies }
 {
     check_laws();
     block_effect_laws();
     follow_laws();
     commitment_laws();
+    filter_laws();
 }
 
 /// The blocks of a replay are a chain of valid ones. What a chain of valid blocks leaves of a ledger is

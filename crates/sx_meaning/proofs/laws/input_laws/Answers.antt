@@ -1,4 +1,5 @@
 use Rattle.sx_meaning.proofs.AnyWorkers.{demos_alike, filters_alike, seals_alike}
+use Rattle.sx_meaning.proofs.Filtered.{filters_bodies}
 use Rattle.sx_meaning.proofs.OneFinding.{finds_one}
 use Rattle.sx_meaning.proofs.Outputs.{writes_one_text, writes_some_text}
 use Rattle.sx_meaning.proofs.Proved.{proved_is_good}
@@ -31,3 +32,6 @@ returns-clause-filters_alike c = filters_alike
 pub returns-clause-proved : goal.returns-clause-proved
 returns-clause-proved c =
     proved_is_good c.commitment_laws.ensures.true_is_good c.commitment_laws.ensures.true_is_claim
+
+pub returns-clause-filtered : goal.returns-clause-filtered
+returns-clause-filtered c = filters_bodies c.filter_laws.ensures.admissible c.filter_laws.ensures.accepted
