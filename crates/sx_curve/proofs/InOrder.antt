@@ -62,22 +62,31 @@ up_to_from one next not_less =
 
 -- ---- lists of quotes
 
-rises : (quotes : List Quote) → IsSorted derived.ghosts.cmp quotes → (d : Quote) (i n : ℕ) → i + n < length quotes
+-- none of the first quotes, so many, stands before one that comes earlier
+abbrev pub RiseWithin : List Quote → ℕ → Type 0
+RiseWithin quotes count =
+    (k : ℕ) (d : Quote) → k + 1 < count → IsUpTo (get_or quotes k d) (get_or quotes (k + 1) d)
+
+rises : (quotes : List Quote) → RiseWithin quotes (length quotes) → (d : Quote) (i n : ℕ) → i + n < length quotes
     → IsUpTo (get_or quotes i d) (get_or quotes (i + n) d)
-rises quotes sorted d i zero lt = let same : i + 0 ≡ i = omega arith in rw same (up_to_itself (get_or quotes i d))
-rises quotes sorted d i (suc n) lt =
+rises quotes rise d i zero lt = let same : i + 0 ≡ i = omega arith in rw same (up_to_itself (get_or quotes i d))
+rises quotes rise d i (suc n) lt =
     let next : i + suc n ≡ i + n + 1 = omega arith in
     rw next
     (up_to_both (get_or quotes i d) (get_or quotes (i + n) d) (get_or quotes (i + n + 1) d)
-    (rises quotes sorted d i n (omega arith))
-    (up_to_from (get_or quotes (i + n) d) (get_or quotes (i + n + 1) d)
-    (sorted (i + n) d (omega arith) (omega arith))))
+    (rises quotes rise d i n (omega arith))
+    (rise (i + n) d (omega arith)))
+
+pub in_order_from_rise : (quotes : List Quote) → RiseWithin quotes (length quotes) → AreInOrder quotes
+in_order_from_rise quotes rise i j d le lt =
+    let end : i + (j - i) ≡ j = omega arith in
+    let up = rises quotes rise d i (j - i) (omega arith) in
+    subst (λ (k : ℕ). IsUpTo (get_or quotes i d) (get_or quotes k d)) end up
 
 pub in_order_from_sort : (quotes : List Quote) → IsSorted derived.ghosts.cmp quotes → AreInOrder quotes
-in_order_from_sort quotes sorted i j d le lt =
-    let end : i + (j - i) ≡ j = omega arith in
-    let rise = rises quotes sorted d i (j - i) (omega arith) in
-    subst (λ (k : ℕ). IsUpTo (get_or quotes i d) (get_or quotes k d)) end rise
+in_order_from_sort quotes sorted =
+    in_order_from_rise quotes
+    (λ k d lt. up_to_from (get_or quotes k d) (get_or quotes (k + 1) d) (sorted k d (omega arith) (omega arith)))
 
 pub places_rise : (assets : ℕ) (quotes : List Quote) → AreQuotes assets quotes → AreInOrder quotes
     → IsNonDecreasingBy place_of_quote quotes
