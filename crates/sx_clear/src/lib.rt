@@ -12,8 +12,8 @@
 //! bounds of each pair. `solve` of `sx_level` finds a circulation of greatest value within them, or a cut.
 //! Where it finds a cut, it is asked once more, without the lower bounds: it is asked at most twice, and so
 //! the number of its searches has a bound. The value is shared out among the offers of each pair in their
-//! order, rounded to whole units. What the block leaves of a copy of the ledger is hashed for its header. A thread makes
-//! the digest of a large body beside the search for prices, and that of a large ledger beside that copy and its digest.
+//! order, rounded to whole units. What the block leaves of the ledger, or of a copy, is hashed for its header. A thread
+//! makes the digest of a large body beside the search for prices, and that of a large ledger beside a copy and its digest.
 //!
 //! ```text
 //!                  .-> curves -> prices -.                .-> fills, rounding -.
@@ -21,7 +21,7 @@
 //!                  '-> bounds at these  -'                '-> potentials, cut -'
 //! ```
 //!
-//! Cost: for n transactions and offers, n log n for sorting and looking up, one copy of the ledger, and
+//! Cost: for n transactions and offers, n log n for sorting and looking up, at most one copy of the ledger, and
 //! an encoding of it before and after the block for the two digests. A round of the search grows with
 //! the logarithm of n alone, and the circulation with the number of assets.
 //!
