@@ -157,8 +157,8 @@ fn conclude<K: Sink>(sink: &mut K, found: Result<Output, Stop>) -> Status
 /// thread makes the digest of a state whose payload has 1 MiB or more while what follows is read, and the call waits for
 /// it where it needs the digest; a call that stops before leaves the thread to end by itself. A block whose transactions
 /// take 256 KiB or more is decoded while a thread of its own makes their digest, and the call returns where that thread
-/// returns. Where no thread can be started, the two are done in turn. A block that meets many accounts or fills is applied by threads of its own, at most four for `check`, and the
-/// call returns where these return.
+/// returns. Where no thread can be started, the two are done in turn. A block that meets many accounts or fills is
+/// applied by threads of its own, at most four for `check`, and the call returns where these return.
 pub fn run<R: Threads + Sync, S: Source, K: Sink, G: Gate + Sync, L: Ledger>(
     rt: &R,
     alloc: Global,

@@ -9,7 +9,7 @@ pub returns-clause-head : goal.returns-clause-head
 returns-clause-head g c = record {
   state = tt;
   digest = c.start-digest.ensures.hash
-  ∙ ap (λ (found : Record). sha256 (record_bytes state_tag found.payload)) (sym c.deref.ensures)
-  ∙ ap (λ (payload : List ℕ). sha256 (record_bytes state_tag payload)) c.in_ok-ledger.ensures.encoded;
+      ∙ ap (λ (found : Record). sha256 (record_bytes state_tag found.payload)) (sym c.deref.ensures)
+      ∙ ap (λ (payload : List ℕ). sha256 (record_bytes state_tag payload)) c.in_ok-ledger.ensures.encoded;
   whole = c.start-digest.ensures.digest;
 }
