@@ -7,7 +7,9 @@
 //! a pass. [`Gather::seal`] takes the pass that has decided all, and answers the outcomes and the body of
 //! the accepted candidates. They are those of a gathering (`IsGathered` of `sx_layout`), whatever passes
 //! there were, on whatever threads, and in whatever order their steps were made. [`Gather::par_seal`] does
-//! the same, and sorts the body by several threads.
+//! the same, and sorts the body by several threads. Where the candidates stand in a list that is needed no
+//! more, [`Gather::outcomes`] answers the outcomes alone, and [`seal_list`] or [`par_seal_list`] makes the body
+//! by them, in the memory of the list.
 //!
 //! # Words, seats and passes
 //!
@@ -54,9 +56,10 @@
 //! A submit makes two steps and a search for what the candidate names, and takes no memory; another try at
 //! a purse is made only where another thread took from it meanwhile. A split and a join take a step for each
 //! shard, and a join copies the outcomes of the other pass. The memory for outcomes is taken by the start
-//! and by splits. A seal goes over the outcomes once, copies the accepted candidates into memory that it
-//! takes, and sorts them in place. `par_seal` starts threads for the sort, but none where the candidates come
-//! in the order of the body.
+//! and by splits. A seal copies the candidates into memory that it takes, goes over the outcomes once to move
+//! the accepted ones to the front of the copy, and sorts them there. `seal_list` does so in the list that it
+//! is given, and takes no memory. `par_seal` and `par_seal_list` start threads for the sort, but none where the
+//! accepted candidates come in the order of the body.
 //!
 //! Source: Ramseyer, Goel and Mazières, "SPEEDEX: A Scalable, Parallelizable, and Economically Efficient
 //! Decentralized EXchange" (NSDI 2023), for gathering by atomic words, of balances and of used numbers. That
@@ -78,4 +81,4 @@ mod submit;
 pub use fault::GatherFault;
 pub use gather::Gather;
 pub use pass::Pass;
-pub use seal::Sealed;
+pub use seal::{Sealed, par_seal_list, seal_list};

@@ -1,14 +1,14 @@
 //! The end of a gathering.
 
-ghost use Rattle.std.specs.Prelude.{◌≡◌, ◌+◌, ◌<◌, ◌≤◌, vec_len, vec_capacity, [], ◌∷◌, ◌++◌, length, IfOk, if◌then◌else◌};
+ghost use Rattle.std.specs.Prelude.{◌≡◌, length, IfOk};
 ghost use Rattle.sx_gather.specs.Passes.{AreSeats, IsPassOf};
 ghost use Rattle.sx_gather.specs.Seal.{HaveAll, HaveEnded, IsBodyOnceSorted};
 ghost use Rattle.sx_layout.specs.Gathering.{IsGathered, accepted as all_accepted, decisions, is_accepted as accepts};
+ghost use Rattle.sx_ledger.specs.declared.parts.Parts.{Parts};
 
 use crate::gather::Gather;
 use crate::pass::Pass;
 use crate::seat::PassSeat;
-use std::alloc::Global;
 use std::thread::Threads;
 use sx_bytes::NoMemory;
 use sx_layout::{Outcome, Outcomes, par_sort_txs, sort_txs};
@@ -50,54 +50,91 @@ fn is_accepted(outcome: &Outcome) -> bool
     }
 }
 
-// Puts a candidate behind the others, for which there is memory, if it is accepted.
-fn push_accepted(txs: &mut Vec<Tx>, tx: &Tx, outcome: &Outcome)
-    requires { vec_len txs.old < vec_capacity txs.old }
-    ensures items { txs.new.items ≡ txs.old.items ++ (if accepts outcome.now then tx.now ∷ [] else []) }
-    ensures len { vec_len txs.new ≤ vec_len txs.old + 1 }
-    ensures capacity { vec_capacity txs.new ≡ vec_capacity txs.old }
+// The accepted candidates, in their order and in the memory of the list.
+fn accepted(candidates: TxList, outcomes: &[Outcome]) -> Vec<Tx>
+    requires { length outcomes.now ≡ length candidates }
+    ensures { result.items ≡ all_accepted (decisions candidates outcomes.now) }
 {
-    if is_accepted(outcome) {
-        let Tx { account, seq, kind } = *tx;
-        txs.push_reserved(Tx { account, seq, kind });
+    let mut txs = candidates.into_items();
+    let mut kept = 0;
+    for (place, outcome) in outcomes.iter().enumerate() {
+        if is_accepted(outcome) {
+            txs[kept] = txs[place];
+            kept += 1;
+        }
+    }
+    txs.truncate(kept);
+    txs
+}
+
+/// Makes the body of candidates that have these outcomes: the accepted ones stay in the memory of the list, and
+/// are sorted there. Where the outcomes come from a gathering of these candidates, by [`Gather::outcomes`], both
+/// are those of a gathering. It takes no memory.
+pub fn seal_list(candidates: TxList, outcomes: Outcomes) -> Sealed
+    requires one_each { length outcomes ≡ length candidates }
+    ensures outcomes { result.outcomes ≡ outcomes }
+    ensures gathered { (parts : Parts) → IsBodyOnceSorted parts candidates outcomes (all_accepted (decisions candidates outcomes))
+        → IsGathered parts candidates result.outcomes result.txs }
+{
+    let mut txs = accepted(candidates, outcomes.items());
+    sort_txs(&mut txs);
+    Sealed {
+        txs: TxList::of(txs),
+        outcomes,
     }
 }
 
-// The accepted candidates, in the order of the candidates.
-fn accepted(alloc: Global, candidates: &[Tx], outcomes: &[Outcome]) -> Result<Vec<Tx>, NoMemory>
-    requires { length outcomes.now ≤ length candidates.now }
-    ensures { IfOk result (λ txs. txs.items ≡ all_accepted (decisions candidates.now outcomes.now)) }
+/// The same, with the body sorted by several threads, up to two for each processor. It returns where the
+/// threads that it joins return.
+pub fn par_seal_list<R: Threads + Sync>(rt: &R, candidates: TxList, outcomes: Outcomes) -> Sealed
+    requires one_each { length outcomes ≡ length candidates }
+    ensures outcomes { result.outcomes ≡ outcomes }
+    ensures gathered { (parts : Parts) → IsBodyOnceSorted parts candidates outcomes (all_accepted (decisions candidates outcomes))
+        → IsGathered parts candidates result.outcomes result.txs }
 {
-    let mut txs = Vec::with_capacity(alloc, outcomes.len())?;
-    for (place, outcome) in outcomes.iter().enumerate() {
-        push_accepted(&mut txs, &candidates[place], outcome);
+    let mut txs = accepted(candidates, outcomes.items());
+    par_sort_txs(rt, &mut txs);
+    Sealed {
+        txs: TxList::of(txs),
+        outcomes,
     }
-    Ok(txs)
 }
 
 impl<'a> Gather<'a> {
-    // Ends all shards. It answers the accepted candidates, in the order of the candidates, and the outcomes.
-    fn close(self, pass: Pass) -> Result<(Vec<Tx>, Outcomes), NoMemory>
+    /// Ends the gathering, by the pass that has decided all candidates, and answers the outcomes alone.
+    /// [`seal_list`] makes the body by them.
+    pub fn outcomes(self, pass: Pass) -> Outcomes
         requires of { IsPassOf self pass }
         requires from { pass.from ≡ 0 }
         requires done { pass.next ≡ pass.end }
         requires all { pass.end ≡ length self.candidates }
-        ensures outcomes { IfOk result (λ closed. closed.1 ≡ pass.outcomes) }
-        ensures gathered { IfOk result (λ closed. IsBodyOnceSorted self.entry.parts self.entry.candidates closed.1 closed.0.items) }
+        ensures outcomes { result ≡ pass.outcomes }
+        ensures one_each { length result ≡ length self.entry.candidates }
+        ensures body { IsBodyOnceSorted self.entry.parts self.entry.candidates result (all_accepted (decisions self.entry.candidates result)) }
     {
-        let Gather {
-            setting,
-            shards,
-            alloc,
-        } = self;
+        let Gather { shards, .. } = self;
         let Pass {
             seats,
             outcomes,
             ..
         } = pass;
         finish(shards, seats);
-        let txs = accepted(alloc, setting.candidates(), &outcomes)?;
-        Ok((txs, Outcomes::of(outcomes)))
+        Outcomes::of(outcomes)
+    }
+
+    // The same, with a copy of the candidates.
+    fn close(self, pass: Pass) -> Result<(TxList, Outcomes), NoMemory>
+        requires of { IsPassOf self pass }
+        requires from { pass.from ≡ 0 }
+        requires done { pass.next ≡ pass.end }
+        requires all { pass.end ≡ length self.candidates }
+        ensures candidates { IfOk result (λ closed. closed.0 ≡ self.entry.candidates) }
+        ensures outcomes { IfOk result (λ closed. closed.1 ≡ pass.outcomes) }
+        ensures one_each { IfOk result (λ closed. length closed.1 ≡ length self.entry.candidates) }
+        ensures body { IfOk result (λ closed. IsBodyOnceSorted self.entry.parts self.entry.candidates closed.1 (all_accepted (decisions self.entry.candidates closed.1))) }
+    {
+        let candidates = self.setting.candidates().to_vec(self.alloc)?;
+        Ok((TxList::of(candidates), self.outcomes(pass)))
     }
 
     /// Ends the gathering, by the pass that has decided all candidates, and answers the body of the
@@ -111,12 +148,8 @@ impl<'a> Gather<'a> {
         ensures outcomes { IfOk result (λ sealed. sealed.outcomes ≡ pass.outcomes) }
         ensures gathered { IfOk result (λ sealed. IsGathered self.entry.parts self.entry.candidates sealed.outcomes sealed.txs) }
     {
-        let (mut txs, outcomes) = self.close(pass)?;
-        sort_txs(&mut txs);
-        Ok(Sealed {
-            txs: TxList::of(txs),
-            outcomes,
-        })
+        let (candidates, outcomes) = self.close(pass)?;
+        Ok(seal_list(candidates, outcomes))
     }
 
     /// The same, with the body sorted by several threads, up to two for each processor. It returns where
@@ -129,11 +162,7 @@ impl<'a> Gather<'a> {
         ensures outcomes { IfOk result (λ sealed. sealed.outcomes ≡ pass.outcomes) }
         ensures gathered { IfOk result (λ sealed. IsGathered self.entry.parts self.entry.candidates sealed.outcomes sealed.txs) }
     {
-        let (mut txs, outcomes) = self.close(pass)?;
-        par_sort_txs(rt, &mut txs);
-        Ok(Sealed {
-            txs: TxList::of(txs),
-            outcomes,
-        })
+        let (candidates, outcomes) = self.close(pass)?;
+        Ok(par_seal_list(rt, candidates, outcomes))
     }
 }

@@ -26,7 +26,7 @@ use sx_ledger::Ledger;
 use sx_net::Steps;
 use sx_price::Mu;
 use sx_tx::TxList;
-use sx_workers::{Gate, gather_all};
+use sx_workers::{Gate, gather_list};
 
 /// How a block is made: how many threads gather on how many shards, the margin, how many rounds a search for
 /// prices has at most, and how many searches there are.
@@ -46,7 +46,7 @@ pub struct Made {
     pub outcomes: Outcomes,
 }
 
-// What worker threads make of the candidates, which are let go.
+// What worker threads make of the candidates, in their memory.
 fn gathered<R: Threads + Sync, G: Gate + Sync>(
     rt: &R,
     alloc: Global,
@@ -61,11 +61,11 @@ fn gathered<R: Threads + Sync, G: Gate + Sync>(
     ensures room { IfOk result (λ _. room_for ledger.now candidates ≡ Ok tt) }
     ensures fault { IfErr result (IsFaultOf (room_for ledger.now candidates)) }
 {
-    gather_all(
+    gather_list(
         rt,
         alloc,
         ledger,
-        candidates.items(),
+        candidates,
         numbers.shards,
         numbers.workers,
         gate,
@@ -141,8 +141,8 @@ fn cleared_in_place<R: Threads + Sync, L: ledger::Ledger>(
     Ok(Made { block, outcomes })
 }
 
-// A block of the candidates and what became of each, or why there is no room for them. The candidates are
-// let go before the body is cleared.
+// A block of the candidates and what became of each, or why there is no room for them. The body is made in
+// the memory of the candidates.
 pub fn make<R: Threads + Sync, G: Gate + Sync, L: ledger::Ledger>(
     rt: &R,
     alloc: Global,

@@ -11,8 +11,8 @@ use sx_base::{AccountId, Amount, AssetId, Seq};
 use sx_layout::Outcome;
 use sx_ledger::read_state;
 use sx_price::Limit;
-use sx_tx::{Kind, Tx};
-use sx_workers::{Gate, NoGate, gather_all};
+use sx_tx::{Kind, Tx, TxList};
+use sx_workers::{Gate, NoGate, gather_all, gather_list};
 
 // How often each gathering is repeated.
 const TIMES: u32 = 100;
@@ -136,7 +136,7 @@ pub fn are_allowed(outcomes: &[Outcome]) -> bool {
     true
 }
 
-// Whether what workers make of these pairs is allowed.
+// Whether what workers make of these pairs is allowed, in a copy and in the memory of a list.
 fn gathers<R: Threads + Sync, G: Gate + Sync>(
     rt: &R,
     alloc: Global,
@@ -150,8 +150,10 @@ fn gathers<R: Threads + Sync, G: Gate + Sync>(
     requires few_workers { workers ≤ 64 }
 {
     let ledger = read_state(alloc, state).ok()?;
+    let list = TxList::of(candidates.to_vec(alloc).ok()?);
     let sealed = gather_all(rt, alloc, &ledger, candidates, SHARDS, workers, gate).ok()?;
-    Some(are_allowed(sealed.outcomes.items()))
+    let other = gather_list(rt, alloc, &ledger, list, SHARDS, workers, gate).ok()?;
+    Some(are_allowed(sealed.outcomes.items()) && are_allowed(other.outcomes.items()))
 }
 
 #[test]

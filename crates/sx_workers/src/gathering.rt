@@ -14,9 +14,9 @@ use crate::parts::{split_all, working};
 use crate::working::work_all;
 use std::alloc::Global;
 use std::thread::Threads;
-use sx_gather::{Gather, GatherFault, Pass, Sealed};
+use sx_gather::{Gather, GatherFault, Pass, Sealed, par_seal_list, seal_list};
 use sx_ledger::Ledger;
-use sx_tx::Tx;
+use sx_tx::{Tx, TxList};
 
 // All passes joined, in the order of their parts.
 fn join_all(gather: &Gather, n: u32, mut slots: Vec<Option<Pass>>) -> Pass
@@ -33,6 +33,39 @@ fn join_all(gather: &Gather, n: u32, mut slots: Vec<Option<Pass>>) -> Pass
         gather.join(&mut whole, slot.unwrap());
     }
     whole
+}
+
+// Has workers decide all candidates, and answers the gathering and the pass that has decided them.
+fn decided<'a, R: Threads + Sync, G: Gate + Sync>(
+    rt: &R,
+    alloc: Global,
+    ledger: &'a Ledger,
+    candidates: &'a [Tx],
+    shards: u32,
+    workers: u32,
+    gate: &G,
+) -> Result<(Gather<'a>, Pass), GatherFault>
+    requires few_candidates { length candidates.now ≤ most_transactions }
+    requires some_shard { 1 ≤ shards }
+    requires few_shards { shards ≤ 64 }
+    requires some_worker { 1 ≤ workers }
+    requires few_workers { workers ≤ 64 }
+    ensures parts { IfOk result (λ made. made.0.parts ≡ ledger.now) }
+    ensures candidates { IfOk result (λ made. made.0.candidates ≡ candidates.now) }
+    ensures of { IfOk result (λ made. IsPassOf made.0 made.1) }
+    ensures from { IfOk result (λ made. made.1.from ≡ 0) }
+    ensures done { IfOk result (λ made. made.1.next ≡ made.1.end) }
+    ensures all { IfOk result (λ made. made.1.end ≡ length made.0.candidates) }
+    ensures no_room { (why : WhyNoRoom) → room_for ledger.now candidates.now ≡ Err why → result ≡ Err (the_fault why) }
+    ensures fault { IfErr result (IsFaultOf (room_for ledger.now candidates.now)) }
+{
+    let (gather, first) = Gather::start(alloc, ledger, candidates, shards)?;
+    let count = candidates.len() as u32;
+    let n = working(workers, count);
+    let mut slots = split_all(alloc, &gather, first, count, n)?;
+    work_all(rt, &gather, gate, n, &mut slots);
+    let whole = join_all(&gather, n, slots);
+    Ok((gather, whole))
 }
 
 /// Gathers at most 1,000,000 candidates of a ledger by 1 to 64 workers, on 1 to 64 shards. The gate is called
@@ -65,16 +98,42 @@ pub fn gather_all<R: Threads + Sync, G: Gate + Sync>(
     ensures no_room { (why : WhyNoRoom) → room_for ledger.now candidates.now ≡ Err why → result ≡ Err (the_fault why) }
     ensures fault { IfErr result (IsFaultOf (room_for ledger.now candidates.now)) }
 {
-    let (gather, first) = Gather::start(alloc, ledger, candidates, shards)?;
-    let count = candidates.len() as u32;
-    let n = working(workers, count);
-    let mut slots = split_all(alloc, &gather, first, count, n)?;
-    work_all(rt, &gather, gate, n, &mut slots);
-    let whole = join_all(&gather, n, slots);
-    let sealed = if n == 1 {
+    let (gather, whole) = decided(rt, alloc, ledger, candidates, shards, workers, gate)?;
+    let sealed = if workers == 1 {
         gather.seal(whole)?
     } else {
         gather.par_seal(rt, whole)?
+    };
+    Ok(sealed)
+}
+
+/// The same of a list that the caller needs no more: the body is made in its memory. All memory is taken before
+/// the first worker starts.
+pub fn gather_list<R: Threads + Sync, G: Gate + Sync>(
+    rt: &R,
+    alloc: Global,
+    ledger: &Ledger,
+    candidates: TxList,
+    shards: u32,
+    workers: u32,
+    gate: &G,
+) -> Result<Sealed, GatherFault>
+    requires few_candidates { length candidates ≤ most_transactions }
+    requires some_shard { 1 ≤ shards }
+    requires few_shards { shards ≤ 64 }
+    requires some_worker { 1 ≤ workers }
+    requires few_workers { workers ≤ 64 }
+    ensures gathered { IfOk result (λ sealed. IsGathered ledger.now candidates sealed.outcomes sealed.txs) }
+    ensures no_room { (why : WhyNoRoom) → room_for ledger.now candidates ≡ Err why → result ≡ Err (the_fault why) }
+    ensures fault { IfErr result (IsFaultOf (room_for ledger.now candidates)) }
+{
+    let items = candidates.items();
+    let (gather, whole) = decided(rt, alloc, ledger, items, shards, workers, gate)?;
+    let outcomes = gather.outcomes(whole);
+    let sealed = if workers == 1 {
+        seal_list(candidates, outcomes)
+    } else {
+        par_seal_list(rt, candidates, outcomes)
     };
     Ok(sealed)
 }

@@ -1,9 +1,10 @@
 //! Gathering by worker threads: the outcomes of candidates and the body of a block, by 1 to 64 workers at once.
 //!
-//! [`gather_all`] answers outcomes and a body that are those of a gathering by the rules of `sx_layout`, for
-//! every number of workers and whatever their threads do. Each worker has a part of the candidates, as even as
-//! can be, and a pass of `sx_gather` over them. All passes are made before the first worker starts. Each moves
-//! into the thread of its worker and comes back, and then they are joined in the order of their parts:
+//! [`gather_all`] and [`gather_list`] answer outcomes and a body that are those of a gathering by the rules of
+//! `sx_layout`, for every number of workers and whatever their threads do. Each worker has a part of the
+//! candidates, as even as can be, and a pass of `sx_gather` over them. All passes are made before the first
+//! worker starts. Each moves into the thread of its worker and comes back, and then they are joined in the order
+//! of their parts:
 //!
 //! ```text
 //!     candidates    0 . . . . . . . . . 10
@@ -27,7 +28,8 @@
 //!
 //! Cost: that of `sx_gather` for each candidate, divided among the workers, and a split, a join and a thread
 //! for each worker but the first. The memory is that of one gathering, and of the outcomes once more, since
-//! the first pass has room for all of them.
+//! the first pass has room for all of them. [`gather_list`] makes the body in the memory of the candidates,
+//! which its caller hands over, and [`gather_all`] in a copy of them.
 //!
 //! Not here: what a pass decides, and why its outcomes are right whatever others do (`sx_gather`). Nothing is
 //! promised of which of two candidates that exclude each other is accepted, nor that workers run at the
@@ -40,4 +42,4 @@ mod parts;
 mod working;
 
 pub use gate::{Gate, NoGate};
-pub use gathering::gather_all;
+pub use gathering::{gather_all, gather_list};

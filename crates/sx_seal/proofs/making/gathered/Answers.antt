@@ -17,5 +17,4 @@ room_there (Err why) (Err fault) none = tt
 
 pub returns-clause-room : goal.returns-clause-room
 returns-clause-room g c =
-    let none = rw c.items.ensures at c.gather_all.ensures.no_room in
-    room_there (room_for c.args.ledger.now c.args.candidates) c.gather_all.result none
+    room_there (room_for c.args.ledger.now c.args.candidates) c.gather_list.result c.gather_list.ensures.no_room
