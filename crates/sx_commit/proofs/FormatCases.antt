@@ -11,6 +11,7 @@ use Rattle.sx_commit.specs.Decoding.{claim_at, fields_at, proof_at}
 use Rattle.sx_commit.specs.Encoding.{proof_bytes}
 use Rattle.sx_commit.proofs.Cases.{seven}
 use Rattle.sx_ledger.specs.Decoding.{account_at}
+use Rattle.sx_tx.specs.Window.{bit_length}
 
 abbrev fault_at : ℕ → Form → FormFault
 fault_at at fault = record { at = at; fault = fault }
@@ -69,6 +70,14 @@ newer_begins = refl
 
 newer_long : length (proof_bytes (all 255) newer) ≡ 582
 newer_long = refl
+
+-- of two assets, at the last place
+abbrev wide : Proof
+wide = record said { version = 2; place = 65535; account = record seven { balances = 100 ∷ 9 ∷ [] } }
+
+wide_read : proof_at (proof_bytes (all 255) wide) ≡ Ok (all 255, wide)
+unfolding proof_at claim_at fields_at account_at many_at bit_length
+wide_read = refl
 
 -- ---- faults: the first one from left to right
 

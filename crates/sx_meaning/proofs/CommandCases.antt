@@ -4,13 +4,14 @@ use Rattle.sx_block.specs.declared.header.Block.{Block}
 use Rattle.sx_check.specs.declared.invalid.Invalid.{Invalid}
 use Rattle.sx_commit.specs.Claim.{Claim}
 use Rattle.sx_commit.specs.Commitments.{root_of, siblings_of}
+use Rattle.sx_follow.specs.Chain.{IsChain, ledger_after_all}
 use Rattle.sx_ledger.specs.declared.account.Account.{Account}
 use Rattle.sx_ledger.specs.declared.parts.Parts.{Parts}
 use Rattle.sx_meaning.specs.Answers.{takes_no_input}
 use Rattle.sx_meaning.specs.Findings.{GoesOn, StopsAt, shown_tags}
-use Rattle.sx_meaning.specs.Items.{Item, item_record, proof}
+use Rattle.sx_meaning.specs.Items.{Item, item_record, proof, state_record}
 use Rattle.sx_meaning.specs.Outputs.{Writes, shown_of, writes_one}
-use Rattle.sx_meaning.specs.Proving.{account_from, proved, shown_account}
+use Rattle.sx_meaning.specs.Proving.{IsFollowed, account_from, proved, shown_account}
 use Rattle.sx_words.specs.declared.command.Command.TheVariants.{Check, Demo, Filter, Follow, Interleave, Migrate, Prove}
 use Rattle.sx_words.specs.declared.command.Command.TheVariants.{Replay, Seal, Show, Verify}
 
@@ -52,6 +53,11 @@ module _ (claim : Claim) (text : List ℕ) where
 
   no_verdict : Writes Verify [] text → ⊥
   no_verdict wrote = wrote
+
+-- a follower writes the state after the chain, whatever else stands among the blocks
+module _ (parts : Parts) (blocks chain : List Block) where
+  after_chain : IsChain parts blocks chain → IsFollowed parts blocks (state_record (ledger_after_all parts chain))
+  after_chain is = record { chain = chain; is = is; written = refl }
 
 -- the tags of the records that are shown
 tags : shown_tags ≡ 1 ∷ 2 ∷ 3 ∷ 4 ∷ 5 ∷ []
