@@ -6,7 +6,7 @@ use Rattle.sha2.specs.Sha256.{sha256}
 use Rattle.sx_block.specs.Digest.{IsDigest}
 use Rattle.sx_commit.specs.declared.collision.Collision.{Collision}
 use Rattle.sx_commit.specs.declared.proof.Proof.{Proof}
-use Rattle.sx_commit.specs.Clashes.{IsClash, IsProof, IsSaid}
+use Rattle.sx_commit.specs.Clashes.{AreWhole, IsClash, IsProof, IsSaid}
 use Rattle.sx_commit.specs.Commitments.{IsGood, digest_at, folded, leaf_bytes, listed, place_beside, root_of}
 use Rattle.sx_commit.specs.Commitments.{siblings_of}
 use Rattle.sx_ledger.specs.declared.account.Account.{Account}
@@ -84,6 +84,11 @@ folded_thrice : (leaf a b c : List ℕ) → folded 5 (a ∷ b ∷ c ∷ []) leaf
 unfolding folded
 folded_thrice leaf a b c = refl
 
+-- past the last sibling it stands beside nothing
+folded_past : (leaf : List ℕ) → folded 0 [] leaf 1 ≡ sha256 (1 ∷ leaf ++ [])
+unfolding folded
+folded_past leaf = refl
+
 -- ---- what is told of a proof
 
 told_ranges : (proof : Proof) → IsProof proof
@@ -93,9 +98,12 @@ told_ranges : (proof : Proof) → IsProof proof
 told_ranges proof is =
     (is.some_version, is.few_versions, is.place, is.some_asset, is.few_assets, is.account, is.whole, is.siblings)
 
-told_good : (root : List ℕ) (proof : Proof) → IsGood root proof
-    → folded proof.place proof.siblings (sha256 (leaf_bytes proof.version proof.account)) 16 ≡ root
-told_good root proof is = is
+told_whole : (digests : List (List ℕ)) → AreWhole digests → All (λ digest. length digest ≡ 32) digests
+told_whole digests are = are
+
+told_good : (top : List ℕ) (proof : Proof) → IsGood top proof
+    → folded proof.place proof.siblings (sha256 (leaf_bytes proof.version proof.account)) 16 ≡ top
+told_good top proof is = is
 
 -- ---- what the ledger says, and what is told of a clash
 

@@ -8,7 +8,7 @@ use Rattle.sx_bytes.specs.declared.fault.FormFault.{FormFault}
 use Rattle.sx_bytes.specs.Grammar.{many_at}
 use Rattle.sx_commit.specs.declared.proof.Proof.{Proof}
 use Rattle.sx_commit.specs.Decoding.{claim_at, fields_at, proof_at}
-use Rattle.sx_commit.specs.Encoding.{proof_bytes}
+use Rattle.sx_commit.specs.Encoding.{claim_bytes, proof_bytes}
 use Rattle.sx_commit.proofs.Cases.{seven}
 use Rattle.sx_ledger.specs.Decoding.{account_at}
 use Rattle.sx_tx.specs.Window.{bit_length}
@@ -55,6 +55,9 @@ ends = refl
 long : length text ≡ 574
 long = refl
 
+claimed : claim_bytes (all 255, said) ≡ text
+claimed = refl
+
 read : proof_at text ≡ Ok (all 255, said)
 unfolding proof_at claim_at fields_at account_at many_at
 read = refl
@@ -71,9 +74,9 @@ newer_begins = refl
 newer_long : length (proof_bytes (all 255) newer) ≡ 582
 newer_long = refl
 
--- of two assets, at the last place
+-- of three assets, at the last place
 abbrev wide : Proof
-wide = record said { version = 2; place = 65535; account = record seven { balances = 100 ∷ 9 ∷ [] } }
+wide = record said { version = 2; place = 65535; account = record seven { balances = 100 ∷ 9 ∷ 8 ∷ [] } }
 
 wide_read : proof_at (proof_bytes (all 255) wide) ≡ Ok (all 255, wide)
 unfolding proof_at claim_at fields_at account_at many_at bit_length

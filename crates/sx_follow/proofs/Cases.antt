@@ -3,10 +3,11 @@ use Rattle.std.proofs.Common.{◌≡◌, ◌≢◌, ℕ, zero, suc, ◌+◌, Lis
 use Rattle.std.specs.Prelude.{Contains}
 use Rattle.sx_block.specs.declared.header.Block.{Block}
 use Rattle.sx_block.specs.Validity.{IsValid, ledger_after}
+use Rattle.sx_follow.specs.declared.waiting.Waiting.{Waiting}
 use Rattle.sx_follow.specs.Chain.{AreValid, IsNext, ledger_after_all}
 use Rattle.sx_follow.specs.Follower.{Advances, Followed}
 use Rattle.sx_follow.specs.Laws.{IsPart, OneOfEachParent}
-use Rattle.sx_follow.specs.Waiting.{places_of}
+use Rattle.sx_follow.specs.Waiting.{AreWaiting, places_at, places_of}
 use Rattle.sx_follow.proofs.Chains.{one_next}
 use Rattle.sx_ledger.specs.declared.parts.Parts.{Parts}
 
@@ -66,3 +67,8 @@ module _ (any : Block) where
       × (places_of 8 (of_height 7 ∷ of_height 8 ∷ of_height 7 ∷ []) ≡ 1 ∷ [])
       × (places_of 9 (of_height 7 ∷ of_height 8 ∷ of_height 7 ∷ []) ≡ [])
   places = (refl, refl, refl)
+
+-- the places that wait are those of the blocks, at each height
+told_places : (blocks : List Block) (waiting : Waiting) → AreWaiting blocks waiting
+    → (height : ℕ) → places_at waiting height ≡ places_of height blocks
+told_places blocks waiting are = are
