@@ -111,7 +111,7 @@ each_takes {X} entry mark encode precedes P takes (suc n) before c next xs bytes
 
 -- ---- an encoding is decoded
 
-each_more : {X M : Type 0} (entry : Entry X M) (mark : X → M) (n : ℕ) (before : Option M) (c mid next : Cursor)
+pub each_more : {X M : Type 0} (entry : Entry X M) (mark : X → M) (n : ℕ) (before : Option M) (c mid next : Cursor)
     (x : X) (xs : List X)
     → entry before c ≡ Ok (x, mid) → each_at entry mark n (Some (mark x)) mid ≡ Ok (xs, next)
     → each_at entry mark (suc n) before c ≡ Ok (x ∷ xs, next)

@@ -31,6 +31,7 @@ pub mod SequenceChecks
 pub mod RunningTotals
 pub mod TotalsInRange
 pub mod EntriesInOrder
+pub mod OwnersLater
 pub mod DependentParts
 pub mod WindowFields
 pub mod AccountLaws

@@ -103,12 +103,22 @@ offer_at assets c = do
     amount.1,
   )
 
+-- an offer that comes after the one before it, of which the key is known, whoever it is of
+unfoldable pub placed_offer_at : ℕ → Option Key → Cursor → Result (Offer × Cursor) FormFault
+placed_offer_at assets before c = do
+  offer ← offer_at assets c
+  guarded (may_follow key_before before (key_of offer.0)) offer (record { at = c.place; fault = form.Order })
+
 -- an offer that comes after the one before it, of which the key is known, by one of these accounts
 unfoldable pub next_offer_at : List Account → ℕ → Option Key → Cursor → Result (Offer × Cursor) FormFault
 next_offer_at accounts assets before c = do
   offer ← offer_at assets c
   placed ← guarded (may_follow key_before before (key_of offer.0)) offer (record { at = c.place; fault = form.Order })
   guarded (has_owner accounts placed.0) placed (record { at = c.place; fault = form.Owner })
+
+-- offers in order, whoever they are of
+abbrev pub placed_offers_at : ℕ → ℕ → Option Key → Cursor → Result (List Offer × Cursor) FormFault
+placed_offers_at assets = each_at (placed_offer_at assets) key_of
 
 abbrev pub offers_at : List Account → ℕ → ℕ → Option Key → Cursor → Result (List Offer × Cursor) FormFault
 offers_at accounts assets = each_at (next_offer_at accounts assets) key_of

@@ -1,4 +1,5 @@
 pub mod Order
+pub mod Owners
 pub mod Ledger
 pub mod Encoding
 pub mod Decoding

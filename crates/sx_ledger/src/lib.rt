@@ -7,10 +7,11 @@
 //! `2^62`. Contracts see a ledger as its [`Parts`].
 //!
 //! [`read_state`] answers a ledger exactly where the bytes are the encoding of one, and else the
-//! first fault from left to right; [`Ledger::write_state`] writes the one encoding, and
-//! [`read_prices`] reads a price for each asset. [`read_account`] and [`write_account`] do the same for
-//! one account. A ledger is of version 1, in which the sequence numbers that a block skipped are lost,
-//! or of version 2, in which they stay open; [`Ledger::migrate`] makes a ledger one of version 2.
+//! first fault from left to right, and [`par_read_state`] the same, with threads that look up the
+//! owners of the offers; [`Ledger::write_state`] writes the one encoding, and [`read_prices`] reads
+//! a price for each asset. [`read_account`] and [`write_account`] do the same for one account. A
+//! ledger is of version 1, in which the sequence numbers that a block skipped are lost, or of
+//! version 2, in which they stay open; [`Ledger::migrate`] makes a ledger one of version 2.
 //! [`Ledger::static_check`] answers the first reason,
 //! a [`Static`], why the ledger refuses a transaction by itself, and [`Ledger::places_of`] the same
 //! with the [`Places`] where its account and what it names stand. [`Ledger::find`] and
@@ -41,6 +42,7 @@ mod laws;
 mod ledger;
 mod offer;
 mod offer_reading;
+mod owners;
 mod parts;
 mod places;
 mod reading;
@@ -60,6 +62,6 @@ pub use ledger::Ledger;
 pub use offer::{Offer, Offers};
 pub use parts::Parts;
 pub use places::{Places, Target};
-pub use reading::{read_prices, read_state};
+pub use reading::{par_read_state, read_prices, read_state};
 pub use statics::Static;
 pub use writing::write_account;

@@ -1,12 +1,13 @@
 //! Reading the offers of a state.
 
-ghost use Rattle.std.specs.Prelude.{◌≡◌, ◌≤◌, None, length};
+ghost use Rattle.std.specs.Prelude.{◌≡◌, ◌≤◌, None, Ok, IfOk, IfSome, length};
 ghost use Rattle.std.specs.List.Sorted.{IsStrictlyIncreasing};
 ghost use Rattle.sx_base.specs.Ranges.{most_assets};
 ghost use Rattle.sx_bytes.specs.Grammar.{DecodesOrStrays, MayDecodeOrStray, may_follow};
 ghost use Rattle.sx_ledger.specs.Ledger.{ids, most_accounts};
 ghost use Rattle.sx_ledger.specs.Order.{key_before};
-ghost use Rattle.sx_ledger.specs.Decoding.{sell_at, buy_at, offer_at, next_offer_at, offers_at, offer_list_at};
+ghost use Rattle.sx_ledger.specs.Decoding.{sell_at, buy_at, offer_at, placed_offer_at, placed_offers_at};
+ghost use Rattle.sx_ledger.specs.Decoding.{next_offer_at, offers_at, offer_list_at};
 
 use crate::account::Account;
 use crate::finding::has_owner;
@@ -14,11 +15,12 @@ use crate::index::AccountIndex;
 use crate::key::Key;
 use crate::ledger::Ledger;
 use crate::offer::{Offer, Offers};
+use crate::owners::Owners;
 use crate::reading::refusal;
 use crate::sizes::OFFER_BYTES;
 use std::alloc::Global;
 use sx_base::AssetId;
-use sx_bytes::{Form, FormFault, ReadError, Reader};
+use sx_bytes::{Form, FormFault, NoMemory, ReadError, Reader};
 use sx_tx::{read_amount, read_id, read_limit, read_seq};
 
 // What is sold, one of `assets` assets.
@@ -26,7 +28,9 @@ use sx_tx::{read_amount, read_id, read_limit, read_seq};
 fn sell(from: &mut Reader, assets: u8) -> Result<AssetId, FormFault>
     requires some { 1 ≤ assets }
     requires few { assets ≤ most_assets }
-    ensures { DecodesOrStrays (λ x. x) (sell_at assets from.old) from.new result }
+    ensures exact { DecodesOrStrays (λ x. x) (sell_at assets from.old) from.new result }
+    ensures same { from.new.bytes ≡ from.old.bytes }
+    ensures onward { from.old.place ≤ from.new.place }
 {
     let number = from.field_u8(0, assets - 1, Form::AssetRange)?;
     Ok(AssetId::new(number).unwrap())
@@ -37,7 +41,9 @@ fn sell(from: &mut Reader, assets: u8) -> Result<AssetId, FormFault>
 fn buy(from: &mut Reader, assets: u8, sell: AssetId) -> Result<AssetId, FormFault>
     requires some { 1 ≤ assets }
     requires few { assets ≤ most_assets }
-    ensures { DecodesOrStrays (λ x. x) (buy_at assets sell from.old) from.new result }
+    ensures exact { DecodesOrStrays (λ x. x) (buy_at assets sell from.old) from.new result }
+    ensures same { from.new.bytes ≡ from.old.bytes }
+    ensures onward { from.old.place ≤ from.new.place }
 {
     let at = from.place() as u64;
     let number = from.field_u8(0, assets - 1, Form::AssetRange)?;
@@ -53,7 +59,9 @@ fn buy(from: &mut Reader, assets: u8, sell: AssetId) -> Result<AssetId, FormFaul
 fn offer(from: &mut Reader, assets: u8) -> Result<Offer, FormFault>
     requires some { 1 ≤ assets }
     requires few { assets ≤ most_assets }
-    ensures { DecodesOrStrays (λ x. x) (offer_at assets from.old) from.new result }
+    ensures exact { DecodesOrStrays (λ x. x) (offer_at assets from.old) from.new result }
+    ensures same { from.new.bytes ≡ from.old.bytes }
+    ensures onward { from.old.place ≤ from.new.place }
 {
     let sell = sell(from, assets)?;
     let buy = buy(from, assets, sell)?;
@@ -81,7 +89,25 @@ fn follows(before: Option<Key>, key: &Key) -> bool
     }
 }
 
-#[tactic(auto, unfolding(crate::specs::Decoding::next_offer_at))]
+// The next offer, its owner not looked up.
+#[tactic(auto, unfolding(crate::specs::Decoding::placed_offer_at))]
+fn placed_offer(from: &mut Reader, assets: u8, before: Option<Key>) -> Result<Offer, FormFault>
+    requires some { 1 ≤ assets }
+    requires few { assets ≤ most_assets }
+    ensures exact { DecodesOrStrays (λ x. x) (placed_offer_at assets before from.old) from.new result }
+    ensures same { from.new.bytes ≡ from.old.bytes }
+    ensures onward { from.old.place ≤ from.new.place }
+{
+    let at = from.place() as u64;
+    let offer = offer(from, assets)?;
+    if !follows(before, &offer.key()) {
+        let fault = Form::Order;
+        return Err(FormFault { at, fault });
+    }
+    Ok(offer)
+}
+
+#[tactic(auto, using(crate::proofs::OwnersLater::next_is))]
 fn next_offer(
     from: &mut Reader,
     assets: u8,
@@ -95,17 +121,69 @@ fn next_offer(
     ensures { MayDecodeOrStray (λ x. x) (next_offer_at accounts.now assets before from.old) from.new result }
 {
     let at = from.place();
-    let offer = offer(from, assets)?;
-    if !follows(before, &offer.key()) {
-        return Err(refusal(at, Form::Order));
-    }
+    let offer = placed_offer(from, assets, before)?;
     if !has_owner(index, accounts, &offer) {
         return Err(refusal(at, Form::Owner));
     }
     Ok(offer)
 }
 
-// Memory grows with what the bytes left can hold, and not with what the count claims.
+// The offers at the place, their owners not looked up. Memory grows with what the bytes left can hold, and not with
+// what the count claims.
+fn placed_offers(
+    alloc: Global,
+    from: &mut Reader,
+    assets: u8,
+    count: u32,
+) -> Result<Offers, ReadError>
+    requires some { 1 ≤ assets }
+    requires few { assets ≤ most_assets }
+    ensures exact { MayDecodeOrStray (λ x. x) (placed_offers_at assets count None from.old) from.new result }
+    ensures same { from.new.bytes ≡ from.old.bytes }
+    ensures onward { from.old.place ≤ from.new.place }
+{
+    let room = from.left() / OFFER_BYTES as usize;
+    let mut offers = Vec::with_capacity(alloc, room.min(count as usize))?;
+    let mut before = None;
+    for _ in 0..count {
+        let offer = placed_offer(from, assets, before)?;
+        before = Some(offer.key());
+        offers.push(offer)?;
+    }
+    Ok(Offers::of(offers))
+}
+
+// The offers at the place, or none where anything is amiss. All are read before their owners are looked up.
+#[tactic(auto, using(crate::proofs::OwnersLater::all_owned))]
+fn sound_offers<O: Owners>(
+    owners: &O,
+    alloc: Global,
+    from: &mut Reader,
+    assets: u8,
+    index: &AccountIndex,
+    accounts: &[Account],
+    count: u32,
+) -> Result<Option<Offers>, NoMemory>
+    requires ready { O.is_ready }
+    requires some { 1 ≤ assets }
+    requires few { assets ≤ most_assets }
+    requires indexed { index.now ≡ ids accounts.now }
+    ensures sound { IfOk result (λ read. IfSome read (λ offers. offers_at accounts.now assets count None from.old ≡ Ok (offers, from.new))) }
+    ensures same { from.new.bytes ≡ from.old.bytes }
+    ensures onward { from.old.place ≤ from.new.place }
+{
+    let offers = match placed_offers(alloc, from, assets, count) {
+        Ok(offers) => offers,
+        Err(ReadError::NoMemory) => return Err(NoMemory),
+        Err(ReadError::Form(_)) => return Ok(None),
+    };
+    if !owners.are_there(alloc, index, accounts, offers.items())? {
+        return Ok(None);
+    }
+    Ok(Some(offers))
+}
+
+// The offers at the place one by one, each with its owner, up to the first fault. Memory grows as above.
 fn offers(
     alloc: Global,
     from: &mut Reader,
@@ -130,14 +208,17 @@ fn offers(
     Ok(Offers::of(offers))
 }
 
-// The offers at the place, by these accounts: how many there are, and each of them.
+// The offers at the place, by these accounts: how many there are, and each of them. What is amiss is found by reading
+// them once more.
 #[tactic(auto, unfolding(crate::specs::Decoding::offer_list_at))]
-pub fn offer_list(
+pub fn offer_list<O: Owners>(
+    owners: &O,
     alloc: Global,
     from: &mut Reader,
     assets: u8,
     accounts: &[Account],
 ) -> Result<Offers, ReadError>
+    requires ready { O.is_ready }
     requires some { 1 ≤ assets }
     requires few { assets ≤ most_assets }
     requires by_id { IsStrictlyIncreasing (ids accounts.now) }
@@ -146,5 +227,10 @@ pub fn offer_list(
 {
     let count = from.field_u32(0, Ledger::MOST_OFFERS, Form::TooMany)?;
     let index = AccountIndex::of(alloc, accounts)?;
+    let place = from.place();
+    if let Some(offers) = sound_offers(owners, alloc, from, assets, &index, accounts, count)? {
+        return Ok(offers);
+    }
+    from.back(place);
     offers(alloc, from, assets, &index, accounts, count)
 }

@@ -14,9 +14,11 @@ use crate::account::Accounts;
 use crate::account_reading::account_list;
 use crate::ledger::Ledger;
 use crate::offer_reading::offer_list;
+use crate::owners::{Alone, Owners, Spread};
 use crate::parts::Parts;
 use crate::totals::totals_fit;
 use std::alloc::Global;
+use std::thread::Threads;
 use sx_base::{Amount, AssetId, Balances};
 use sx_bytes::{Form, FormFault, ReadError, Reader};
 use sx_price::{Price, Prices};
@@ -108,7 +110,8 @@ fn read_head(alloc: Global, from: &mut Reader) -> Result<Head, ReadError>
 }
 
 #[tactic(auto, unfolding(crate::specs::Decoding::parts_at))]
-fn parts(alloc: Global, from: &mut Reader) -> Result<Parts, ReadError>
+fn parts<O: Owners>(owners: &O, alloc: Global, from: &mut Reader) -> Result<Parts, ReadError>
+    requires { O.is_ready }
     ensures { MayDecodeOrStray (λ parts. parts) (parts_at from.old) from.new result }
 {
     let Head {
@@ -119,7 +122,7 @@ fn parts(alloc: Global, from: &mut Reader) -> Result<Parts, ReadError>
     } = read_head(alloc, from)?;
     let assets = prices.items().len() as u8;
     let accounts = account_list(alloc, from, version, assets)?;
-    let offers = offer_list(alloc, from, assets, &accounts)?;
+    let offers = offer_list(owners, alloc, from, assets, &accounts)?;
     Ok(Parts {
         version,
         height,
@@ -131,11 +134,12 @@ fn parts(alloc: Global, from: &mut Reader) -> Result<Parts, ReadError>
 }
 
 #[tactic(auto, unfolding(crate::specs::Decoding::state_at))]
-fn whole(alloc: Global, payload: &[u8]) -> Result<Parts, ReadError>
+fn whole<O: Owners>(owners: &O, alloc: Global, payload: &[u8]) -> Result<Parts, ReadError>
+    requires { O.is_ready }
     ensures { Gives (λ parts. parts) result (state_at payload.now) }
 {
     let mut from = Reader::new(payload);
-    let parts = parts(alloc, &mut from)?;
+    let parts = parts(owners, alloc, &mut from)?;
     if !totals_fit(&parts) {
         return Err(refusal(0, Form::Total));
     }
@@ -143,6 +147,17 @@ fn whole(alloc: Global, payload: &[u8]) -> Result<Parts, ReadError>
         return Err(refusal(from.place(), Form::Rest));
     }
     Ok(parts)
+}
+
+fn read_ledger<O: Owners>(owners: &O, alloc: Global, payload: &[u8]) -> Result<Ledger, ReadError>
+    requires { O.is_ready }
+    ensures found { IfOk result (λ ledger. IsLedger ledger × (payload.now ≡ state_bytes ledger)) }
+    ensures only { (parts : Parts) → IsLedger parts → payload.now ≡ state_bytes parts →
+        Gives (λ ledger. ledger) result (Ok parts) }
+    ensures exact { Gives (λ ledger. ledger) result (state_at payload.now) }
+{
+    let parts = whole(owners, alloc, payload)?;
+    Ok(Ledger::of(parts))
 }
 
 /// The ledger of which a payload is the encoding, or the first fault from left to right, its offset
@@ -165,6 +180,24 @@ pub fn read_state(alloc: Global, payload: &[u8]) -> Result<Ledger, ReadError>
     // Which fault it is.
     ensures exact { Gives (λ ledger. ledger) result (state_at payload.now) }
 {
-    let parts = whole(alloc, payload)?;
-    Ok(Ledger::of(parts))
+    read_ledger(&Alone, alloc, payload)
+}
+
+/// The same as [`read_state`], but that so many workers look up the owners of the offers.
+pub fn par_read_state<R: Threads + Sync>(
+    rt: &R,
+    alloc: Global,
+    payload: &[u8],
+    workers: u32,
+) -> Result<Ledger, ReadError>
+    requires some_worker { 1 ≤ workers }
+    // The payload is the encoding of what is read.
+    ensures found { IfOk result (λ ledger. IsLedger ledger × (payload.now ≡ state_bytes ledger)) }
+    // The encoding of a ledger is read as that ledger, unless memory runs out.
+    ensures only { (parts : Parts) → IsLedger parts → payload.now ≡ state_bytes parts →
+        Gives (λ ledger. ledger) result (Ok parts) }
+    // Which fault it is.
+    ensures exact { Gives (λ ledger. ledger) result (state_at payload.now) }
+{
+    read_ledger(&Spread { rt, workers }, alloc, payload)
 }

@@ -13,44 +13,44 @@ is_read payload c next parts same are e =
     (parts_take c next parts (subst AreBytes (sym (ap (λ (d : Cursor). d.bytes) same)) are) e).1
 
 pub totals_fit-requires-clause-few_assets : goal.totals_fit-requires-clause-few_assets
-totals_fit-requires-clause-few_assets c =
+totals_fit-requires-clause-few_assets g c =
     (is_read c.args.payload.now _ _ _ c.new-from.ensures (λ i. omega (arith, c.type_inv.payload i))
     c.in_ok-parts.ensures).head_is.1.1.0.1
 
 pub totals_fit-requires-clause-rounding : goal.totals_fit-requires-clause-rounding
-totals_fit-requires-clause-rounding c =
+totals_fit-requires-clause-rounding g c =
     (is_read c.args.payload.now _ _ _ c.new-from.ensures (λ i. omega (arith, c.type_inv.payload i))
     c.in_ok-parts.ensures).head_is.1.1.1.rounding.number
 
 pub totals_fit-requires-clause-kept : goal.totals_fit-requires-clause-kept
-totals_fit-requires-clause-kept c =
+totals_fit-requires-clause-kept g c =
     (is_read c.args.payload.now _ _ _ c.new-from.ensures (λ i. omega (arith, c.type_inv.payload i))
     c.in_ok-parts.ensures).head_is.1.1.1.rounding.are
 
 pub totals_fit-requires-clause-balances : goal.totals_fit-requires-clause-balances
-totals_fit-requires-clause-balances c =
+totals_fit-requires-clause-balances g c =
     let is = is_read c.args.payload.now _ _ _ c.new-from.ensures (λ i. omega (arith, c.type_inv.payload i))
     c.in_ok-parts.ensures in
     λ k d lt. (is.accounts_are.are k d lt).balances
 
 pub totals_fit-requires-clause-small : goal.totals_fit-requires-clause-small
-totals_fit-requires-clause-small c =
+totals_fit-requires-clause-small g c =
     let is = is_read c.args.payload.now _ _ _ c.new-from.ensures (λ i. omega (arith, c.type_inv.payload i))
     c.in_ok-parts.ensures in
     λ k d lt. (is.accounts_are.are k d lt).in_range
 
 pub totals_fit-requires-clause-few_accounts : goal.totals_fit-requires-clause-few_accounts
-totals_fit-requires-clause-few_accounts c =
+totals_fit-requires-clause-few_accounts g c =
     (is_read c.args.payload.now _ _ _ c.new-from.ensures (λ i. omega (arith, c.type_inv.payload i))
     c.in_ok-parts.ensures).accounts_are.few
 
 pub totals_fit-requires-clause-sold : goal.totals_fit-requires-clause-sold
-totals_fit-requires-clause-sold c =
+totals_fit-requires-clause-sold g c =
     let is = is_read c.args.payload.now _ _ _ c.new-from.ensures (λ i. omega (arith, c.type_inv.payload i))
     c.in_ok-parts.ensures in
     λ k d lt. (is.offers_are.are k d lt).sell
 
 pub totals_fit-requires-clause-few_offers : goal.totals_fit-requires-clause-few_offers
-totals_fit-requires-clause-few_offers c =
+totals_fit-requires-clause-few_offers g c =
     (is_read c.args.payload.now _ _ _ c.new-from.ensures (λ i. omega (arith, c.type_inv.payload i))
     c.in_ok-parts.ensures).offers_are.few
