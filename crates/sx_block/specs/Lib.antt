@@ -1,4 +1,5 @@
 pub mod Digest
+pub mod StateDigest
 pub mod Trades
 pub mod Encoding
 pub mod Decoding

@@ -1,11 +1,13 @@
 //! Digests of ledgers and of transactions, by SHA-256.
 
-ghost use Rattle.std.specs.Prelude.{◌≡◌, ◌^◌, ◌<◌, ◌≤◌, length, IfOk};
+ghost use Rattle.std.specs.Prelude.{◌≡◌, ℕ, ◌^◌, ◌<◌, ◌≤◌, List, ◌++◌, length, IfOk, OnOk};
+ghost use Rattle.std.specs.List.{flat_map};
+ghost use Rattle.sha2.specs.Hashers.{Holds256};
 ghost use Rattle.sha2.specs.Sha256.{sha256};
 ghost use Rattle.sx_block.specs.Digest.{IsDigest};
 ghost use Rattle.sx_block.specs.Validity.{digest_of_ledger};
 ghost use Rattle.sx_record.specs.Frame.{record_bytes};
-ghost use Rattle.sx_tx.specs.Transactions.{list_bytes, most_transactions};
+ghost use Rattle.sx_tx.specs.Transactions.{list_bytes, most_transactions, tx_bytes};
 
 use crate::digest::Digest;
 use sha2::{Digest as Hasher, Sha256};
@@ -13,7 +15,10 @@ use std::alloc::Global;
 use sx_bytes::{NoMemory, Writer};
 use sx_ledger::Ledger;
 use sx_record::tag;
-use sx_tx::{Tx, write_candidates};
+use sx_tx::{Tx, write_tx};
+
+// How many transactions are written before their bytes are hashed: they take at most 35 KiB.
+const A_PIECE: usize = 1024;
 
 /// SHA-256 of these bytes. It takes no memory.
 pub fn digest_of(bytes: &[u8]) -> Digest
@@ -49,13 +54,50 @@ pub fn ledger_digest(alloc: Global, ledger: &Ledger) -> Result<Digest, NoMemory>
     Ok(record_digest(tag::STATE, payload.bytes()))
 }
 
-/// The digest of a list of transactions: that of the list's encoding, their number included.
+// Writes transactions in place of what was written before.
+fn write_piece(to: &mut Writer, txs: &[Tx]) -> Result<(), NoMemory>
+    ensures { OnOk result (to.new ≡ flat_map tx_bytes txs.now) }
+{
+    to.cut(0);
+    for tx in txs {
+        write_tx(to, tx)?;
+    }
+    Ok(())
+}
+
+// Adds transactions to a message. They are written in place of what was written before.
+fn add_piece(hasher: &mut Sha256, piece: &mut Writer, txs: &[Tx]) -> Result<(), NoMemory>
+    ensures { OnOk result ((m : List ℕ) → Holds256 hasher.old m → Holds256 hasher.new (m ++ flat_map tx_bytes txs.now)) }
+{
+    write_piece(piece, txs)?;
+    hasher.update(piece.bytes());
+    Ok(())
+}
+
+// Adds transactions to a message, in pieces.
+fn add_transactions(alloc: Global, hasher: &mut Sha256, txs: &[Tx]) -> Result<(), NoMemory>
+    requires { length txs.now ≤ most_transactions }
+    ensures { OnOk result ((m : List ℕ) → Holds256 hasher.old m → Holds256 hasher.new (m ++ flat_map tx_bytes txs.now)) }
+{
+    let mut piece = Writer::new(alloc);
+    let mut done = 0;
+    while done < txs.len() {
+        let end = txs.len().min(done + A_PIECE);
+        add_piece(hasher, &mut piece, &txs[done..end])?;
+        done = end;
+    }
+    Ok(())
+}
+
+/// The digest of a list of transactions: that of the list's encoding, their number included. They are written and hashed
+/// in pieces, so that the call takes no more memory for many of them than for 1,024.
 pub fn body_digest(alloc: Global, txs: &[Tx]) -> Result<Digest, NoMemory>
     requires { length txs.now ≤ most_transactions }
     ensures hash { IfOk result (λ digest. digest ≡ sha256 (list_bytes txs.now)) }
     ensures digest { IfOk result IsDigest }
 {
-    let mut list = Writer::new(alloc);
-    write_candidates(&mut list, txs)?;
-    Ok(digest_of(list.bytes()))
+    let mut hasher = Sha256::new();
+    hasher.update((txs.len() as u32).to_be_bytes().as_slice());
+    add_transactions(alloc, &mut hasher, txs)?;
+    Ok(Digest::of(hasher.finalize()))
 }

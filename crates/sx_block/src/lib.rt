@@ -6,7 +6,8 @@
 //! where a payload is the encoding of one, and else the first fault from left to right; [`write_block`]
 //! appends the one encoding. [`block_laws`] says that no two blocks share an encoding and that each
 //! fits a record. [`ledger_digest`] and [`body_digest`] are the two digests of a header, by SHA-256;
-//! [`header_length`] tells where in a payload the bytes begin of which the second is made.
+//! [`header_length`] tells where in a payload the bytes begin of which the second is made. A [`StateDigest`] is the
+//! digest of a state record, which a thread of its own makes where the record is large.
 //!
 //! `specs/Validity` defines the ledger after a block and when a block is valid for a ledger: by sixteen
 //! rules, in the order of `specs/Rule`. [`validity_laws`] says what the rules make together.
@@ -25,6 +26,7 @@ mod header_writing;
 mod laws;
 mod reading;
 mod rule_laws;
+mod state_digest;
 mod trade;
 mod trade_reading;
 mod writing;
@@ -36,4 +38,5 @@ pub use header::{Block, Header};
 pub use laws::block_laws;
 pub use reading::read_block;
 pub use rule_laws::validity_laws;
+pub use state_digest::{DigestOf, StateDigest};
 pub use writing::{header_length, write_block};

@@ -1,5 +1,4 @@
 pub mod Stream
-pub mod StateDigest
 pub mod Head
 pub mod Found
 pub mod Incoming

@@ -4,8 +4,8 @@ ghost use Rattle.std.specs.Prelude.{◌≡◌, IfOk};
 ghost use Rattle.sx_input.specs.Head.{IsHead};
 ghost use Rattle.sx_meaning.specs.Items.{state_record};
 
-use crate::state_digest::StateDigest;
 use std::alloc::Global;
+use sx_block::StateDigest;
 use sx_bytes::{NoMemory, Writer};
 use sx_ledger::Ledger;
 use sx_record::{tag, write_frame};

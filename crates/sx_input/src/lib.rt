@@ -25,7 +25,6 @@ mod head;
 mod incoming;
 mod opening;
 mod payloads;
-mod state_digest;
 mod stop;
 mod stream;
 
@@ -33,6 +32,6 @@ pub use head::{Head, written};
 pub use incoming::{Incoming, decoded_block, take_block};
 pub use opening::take_head;
 pub use payloads::{Payload, decoded};
-pub use state_digest::{DigestOf, StateDigest};
 pub use stop::Stop;
 pub use stream::{Taken, end, end_of, next, stop_at, take};
+pub use sx_block::{DigestOf, StateDigest};

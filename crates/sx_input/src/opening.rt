@@ -15,13 +15,13 @@ ghost use Rattle.sx_record.specs.Tags.{state_tag};
 
 use crate::head::Head;
 use crate::payloads::decoded;
-use crate::state_digest::StateDigest;
 use crate::stop::Stop;
 use crate::stream::{Taken, end_of, required};
 use std::alloc::Global;
 use std::sync::Arc;
 use std::thread::Threads;
 use sx_base::Source;
+use sx_block::StateDigest;
 use sx_record::{Record, tag};
 
 // The ledger of a record, which is let go, and where a chain of blocks stands on it. A thread makes the digest of a

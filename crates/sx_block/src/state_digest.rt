@@ -4,15 +4,16 @@ ghost use Rattle.std.specs.Prelude.{◌≡◌, ◌<◌, ◌≤◌, ◌^◌, leng
 ghost use Rattle.std.specs.Arc.{arc_value};
 ghost use Rattle.sha2.specs.Sha256.{sha256};
 ghost use Rattle.sx_block.specs.Digest.{IsDigest};
-ghost use Rattle.sx_input.specs.StateDigest.{IsWhole, digest_in};
+ghost use Rattle.sx_block.specs.StateDigest.{IsWhole, digest_in};
 ghost use Rattle.sx_record.specs.Frame.{most_bytes, record_bytes};
 ghost use Rattle.sx_record.specs.Tags.{state_tag};
 
+use crate::digest::Digest;
+use crate::hashing::record_digest;
 use std::alloc::Global;
 use std::snapshot::Snapshot;
 use std::sync::Arc;
 use std::thread::{Promise, PromisedHandle, Threads, spawn_with};
-use sx_block::{Digest, record_digest};
 use sx_bytes::Bytes;
 use sx_record::{Record, tag};
 
@@ -41,8 +42,8 @@ pub enum StateDigest {
 }
 
 impl StateDigest {
-    // The digest of the state record with the payload of this record. Where there are many bytes, a thread of its own
-    // makes it, which has the record for as long. Where no thread can be started, it is made here.
+    /// The digest of the state record with the payload of this record. Where that is 1 MiB or more, a thread of its
+    /// own makes the digest, which has the record for as long. Where no thread can be started, the call makes it.
     pub fn start<R: Threads>(rt: &R, found: &Arc<Record, Global>) -> StateDigest
         requires { length (arc_value found.now).payload ≤ most_bytes }
         ensures hash { digest_in result ≡ sha256 (record_bytes state_tag (arc_value found.now).payload) }
