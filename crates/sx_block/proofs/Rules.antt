@@ -1,15 +1,15 @@
 -- The rules of a block one by one, and what they make together.
 use Rattle.std.proofs.Common.{◌≡◌, ℕ, zero, suc, ◌<◌, ◌≤◌, List, refl, sym, ap, subst, ◌∙◌, inl, inr, arith}
 use Rattle.std.specs.Prelude.{◌==◌}
-use Rattle.std.proofs.lemmas.Bool.{cases_Bool, cases_lt}
+use Rattle.std.proofs.lemmas.Bool.{cases_Bool, cases_lt, cases_order}
 use Rattle.sx_block.specs.declared.header.Block.{Block}
 use Rattle.sx_block.specs.Block.{IsBlock}
-use Rattle.sx_block.specs.EffectLaws.{IsTradable}
+use Rattle.sx_block.specs.EffectLaws.{IsRounded, IsTradable}
 use Rattle.sx_block.specs.Rule.{Rule, rank}
 use Rattle.sx_block.specs.Rule as rule
-use Rattle.sx_block.specs.Validity.{Holds, HoldsBefore, IsSound, IsValid, flow_of_block}
-use Rattle.sx_block.specs.ValidityLaws.{BlockFits, FittingIsSound, SoundFits, SoundIsAdmissible, SoundIsBody}
-use Rattle.sx_block.specs.ValidityLaws.{SoundIsTradable, SoundIsValid, ValidIsSound}
+use Rattle.sx_block.specs.Validity.{Holds, HoldsBefore, HoldsButParent, IsApplicable, IsSound, IsValid, flow_of_block}
+use Rattle.sx_block.specs.ValidityLaws.{ApplicableIsSound, BlockFits, FittingIsSound, SoundFits, SoundIsAdmissible}
+use Rattle.sx_block.specs.ValidityLaws.{SoundIsApplicable, SoundIsBody, SoundIsTradable, SoundIsValid, ValidIsSound}
 use Rattle.sx_ledger.specs.declared.parts.Parts.{Parts}
 use Rattle.sx_ledger.specs.Body.{IsAdmissibleIn, body_after}
 use Rattle.sx_tx.specs.declared.tx.Tx.{Tx}
@@ -103,41 +103,93 @@ header_rules parts block below next parent body assets =
     (one_more rule.BelowLast rule.NextHeight parts block refl (none_before parts block) below) next) parent) body)
     assets
 
+-- ---- all but the rule on the digest of the ledger
+
+module _ (parts : Parts) (block : Block) where
+  pub but_parent : (next : Rule) → HoldsBefore next parts block → HoldsButParent next parts block
+  but_parent next before r lt other = before r lt
+
+  -- one rule more
+  pub one_more_but : (this next : Rule) → rank next ≡ suc (rank this) → HoldsButParent this parts block
+      → Holds this parts block → HoldsButParent next parts block
+  one_more_but this next after before here r lt other =
+      elim (cases_lt (rank r) (rank this)) [
+        | inl earlier ↦ before r earlier other
+        | inr late ↦
+            let same : this ≡ r = one_rank this r (omega arith) in
+            subst (λ (r : Rule). Holds r parts block) same here
+      ]
+
+  -- the rule itself is passed over
+  pub past_parent : HoldsBefore rule.Parent parts block → HoldsButParent rule.Body parts block
+  past_parent before r lt other =
+      elim (cases_lt (rank r) 3) [
+        | inl earlier ↦ before r earlier
+        | inr late ↦ absurd (other (one_rank r rule.Parent (omega arith)))
+      ]
+
+  -- up to the rule itself nothing is left out
+  pub up_to_parent : (next : Rule) → 3 ≤ rank next → HoldsButParent next parts block
+      → HoldsBefore rule.Parent parts block
+  up_to_parent next late before r lt = before r (omega arith) (λ same. omega (arith, ap rank same))
+
+  -- where the block names the ledger, all rules hold
+  pub with_parent : (next : Rule) → Holds rule.Parent parts block → HoldsButParent next parts block
+      → HoldsBefore next parts block
+  with_parent next named before r lt =
+      elim (cases_order (rank r) 3) [
+        | inl same ↦ subst (λ (r : Rule). Holds r parts block) (sym (one_rank r rule.Parent same)) named
+        | inr (inl earlier) ↦ before r lt (λ same. omega (arith, ap rank same))
+        | inr (inr late) ↦ before r lt (λ same. omega (arith, ap rank same))
+      ]
+
+pub sound_is_applicable : SoundIsApplicable
+sound_is_applicable parts block sound = record {
+  form = sound.form;
+  rules = but_parent parts block rule.After sound.rules;
+}
+
+pub applicable_is_sound : ApplicableIsSound
+applicable_is_sound parts block applicable named = record {
+  form = applicable.form;
+  rules = with_parent parts block rule.After named applicable.rules;
+}
+
 -- ---- the body, and the fit
 
 module _ (parts : Parts) (block : Block) where
   -- where the rules up to the one on debits hold, the transactions are a body
-  pub body_is_admissible : IsBlock block → HoldsBefore rule.Within parts block
+  pub body_is_admissible : IsBlock block → HoldsButParent rule.Within parts block
       → IsAdmissibleIn block.header.version parts block.txs
   body_is_admissible form rules = record {
     ordered = form.ordered;
-    passes = rules rule.Passes (omega arith);
-    cancels_once = rules rule.CancelsOnce (omega arith);
-    creates_once = rules rule.CreatesOnce (omega arith);
-    accounts_fit = (rules rule.Room (omega arith)).0;
-    offers_fit = (rules rule.Room (omega arith)).1;
-    covered = rules rule.Covered (omega arith);
+    passes = rules rule.Passes (omega arith) (λ e. absurd cc);
+    cancels_once = rules rule.CancelsOnce (omega arith) (λ e. absurd cc);
+    creates_once = rules rule.CreatesOnce (omega arith) (λ e. absurd cc);
+    accounts_fit = (rules rule.Room (omega arith) (λ e. absurd cc)).0;
+    offers_fit = (rules rule.Room (omega arith) (λ e. absurd cc)).1;
+    covered = rules rule.Covered (omega arith) (λ e. absurd cc);
   }
 
-  pub rules_fit : HoldsBefore rule.Cut parts block → BlockFits parts block
+  pub rules_fit : HoldsButParent rule.Cut parts block → BlockFits parts block
   rules_fit rules = record {
-    circulation = record { within = rules rule.Within (omega arith); balanced = rules rule.Balanced (omega arith) };
-    tight = rules rule.Tight (omega arith);
+    circulation = record {
+      within = rules rule.Within (omega arith) (λ e. absurd cc);
+      balanced = rules rule.Balanced (omega arith) (λ e. absurd cc);
+    };
+    tight = rules rule.Tight (omega arith) (λ e. absurd cc);
   }
 
   -- what trades can be traded
-  pub rules_trade : IsBlock block → HoldsBefore rule.Cut parts block
+  pub rules_trade : IsBlock block → HoldsButParent rule.Cut parts block
       → IsTradable (body_after parts block.txs) block.header.prices (flow_of_block block)
   rules_trade form rules = record {
-    same_assets = rules rule.Assets (omega arith);
+    same_assets = rules rule.Assets (omega arith) (λ e. absurd cc);
     in_range = form.header.prices;
-    within = λ sell buy s b differ. (rules rule.Within (omega arith) sell buy s b differ).at_most;
-    balanced = rules rule.Balanced (omega arith);
+    within = λ sell buy s b differ.
+        (rules rule.Within (omega arith) (λ e. absurd cc) sell buy s b differ).at_most;
+    balanced = rules rule.Balanced (omega arith) (λ e. absurd cc);
   }
-
-pub sound_is_admissible : SoundIsAdmissible
-sound_is_admissible parts block sound =
-    body_is_admissible parts block sound.form (λ r lt. sound.rules r (omega arith))
 
 -- what any version admits, version 2 admits
 wider : (version : ℕ) (parts : Parts) (txs : List Tx) → IsAdmissibleIn version parts txs → IsAdmissibleIn 2 parts txs
@@ -156,21 +208,43 @@ wider version parts txs body = record {
       ];
 }
 
+-- ---- a block that can be applied
+
+module _ (parts : Parts) (block : Block) (applicable : IsApplicable parts block) where
+  applicable_is_admissible : IsAdmissibleIn block.header.version parts block.txs
+  applicable_is_admissible =
+      body_is_admissible parts block applicable.form (λ r lt. applicable.rules r (omega arith))
+
+  pub applicable_is_body : IsAdmissibleIn 2 parts block.txs
+  applicable_is_body = wider block.header.version parts block.txs applicable_is_admissible
+
+  pub applicable_fits : BlockFits parts block
+  applicable_fits = rules_fit parts block (λ r lt. applicable.rules r (omega arith))
+
+  pub applicable_is_tradable : IsTradable (body_after parts block.txs) block.header.prices (flow_of_block block)
+      × IsRounded (body_after parts block.txs) block.header.prices (flow_of_block block) block.header.rounding
+  applicable_is_tradable = (
+    rules_trade parts block applicable.form (λ r lt. applicable.rules r (omega arith)),
+    record {
+      one_each = applicable.form.header.one_rounding ∙ applicable.rules rule.Assets (omega arith) (λ e. absurd cc);
+      is = applicable.rules rule.Rounded (omega arith) (λ e. absurd cc);
+    },
+  )
+
+-- ---- a sound block
+
+pub sound_is_admissible : SoundIsAdmissible
+sound_is_admissible parts block sound =
+    applicable_is_admissible parts block (sound_is_applicable parts block sound)
+
 pub widely_admissible : SoundIsBody
-widely_admissible parts block sound =
-    wider block.header.version parts block.txs (sound_is_admissible parts block sound)
+widely_admissible parts block sound = applicable_is_body parts block (sound_is_applicable parts block sound)
 
 pub sound_fits : SoundFits
-sound_fits parts block sound = rules_fit parts block (λ r lt. sound.rules r (omega arith))
+sound_fits parts block sound = applicable_fits parts block (sound_is_applicable parts block sound)
 
 pub sound_is_tradable : SoundIsTradable
-sound_is_tradable parts block sound = (
-  rules_trade parts block sound.form (λ r lt. sound.rules r (omega arith)),
-  record {
-    one_each = sound.form.header.one_rounding ∙ sound.rules rule.Assets (omega arith);
-    is = sound.rules rule.Rounded (omega arith);
-  },
-)
+sound_is_tradable parts block sound = applicable_is_tradable parts block (sound_is_applicable parts block sound)
 
 pub valid_is_sound : ValidIsSound
 valid_is_sound parts block valid = record { form = valid.form; rules = λ r lt. valid.rules r }

@@ -1,7 +1,7 @@
 -- What a block leaves of a ledger, and which blocks are valid for one.
 pub use Rattle.sx_block.specs.Rule.{Rule, rank}
-use Rattle.std.specs.Prelude.{◌≡◌, ℕ, ◌+◌, ◌<◌, ◌≤◌, false, List, length, Option, None, Some, Ok, is_some, nat_eq}
-use Rattle.std.specs.Prelude.{slice_index}
+use Rattle.std.specs.Prelude.{◌≡◌, ◌≢◌, ℕ, ◌+◌, ◌<◌, ◌≤◌, false, List, length, Option, None, Some, Ok, is_some}
+use Rattle.std.specs.Prelude.{nat_eq, slice_index}
 use Rattle.std.specs.List.{All, IsDistinct}
 use Rattle.sha2.specs.Sha256.{sha256}
 use Rattle.sx_block.specs.declared.header.Block.{Block}
@@ -111,12 +111,23 @@ Holds rule.After parts block = block.header.after ≡ digest_of_ledger (ledger_a
 abbrev pub HoldsBefore : Rule → Parts → Block → Type 0
 HoldsBefore next parts block = (earlier : Rule) → rank earlier < rank next → Holds earlier parts block
 
+-- all rules before this one hold, but for the one on the digest of the ledger
+abbrev pub HoldsButParent : Rule → Parts → Block → Type 0
+HoldsButParent next parts block =
+    (earlier : Rule) → rank earlier < rank next → earlier ≢ rule.Parent → Holds earlier parts block
+
 -- ---- validity
 
 -- the block has the form of one, and is valid for the ledger but for the digest of the ledger that it leaves
 pub record IsSound (parts : Parts) (block : Block) : Type 0 where
   pub form : IsBlock block
   pub rules : HoldsBefore rule.After parts block
+
+-- the block has the form of one, and can be applied to the ledger: it is valid for it but for the digests that its
+-- header says of the ledger before and after
+pub record IsApplicable (parts : Parts) (block : Block) : Type 0 where
+  pub form : IsBlock block
+  pub rules : HoldsButParent rule.After parts block
 
 -- the block has the form of one, and is valid for the ledger
 pub record IsValid (parts : Parts) (block : Block) : Type 0 where

@@ -3,7 +3,7 @@ use Rattle.sx_block.specs.declared.header.Block.{Block}
 use Rattle.sx_block.specs.Block.{IsBlock, most_version}
 use Rattle.sx_block.specs.EffectLaws.{IsRounded, IsTradable}
 use Rattle.sx_block.specs.Rule as rule
-use Rattle.sx_block.specs.Validity.{Holds, HoldsBefore, IsSound, IsValid, flow_of_block, high_in, low_in}
+use Rattle.sx_block.specs.Validity.{Holds, HoldsBefore, IsApplicable, IsSound, IsValid, flow_of_block, high_in, low_in}
 use Rattle.sx_dual.specs.Fit.{Fits}
 use Rattle.sx_dual.specs.Tables.{potential_of}
 use Rattle.sx_ledger.specs.declared.parts.Parts.{Parts}
@@ -56,3 +56,14 @@ SoundIsValid = (parts : Parts) (block : Block) → IsSound parts block → Holds
 -- and a valid block is sound
 abbrev pub ValidIsSound : Type 0
 ValidIsSound = (parts : Parts) (block : Block) → IsValid parts block → IsSound parts block
+
+-- ---- the digest of the ledger before
+
+-- a sound block can be applied
+abbrev pub SoundIsApplicable : Type 0
+SoundIsApplicable = (parts : Parts) (block : Block) → IsSound parts block → IsApplicable parts block
+
+-- and a block that can be applied is sound where it names the ledger
+abbrev pub ApplicableIsSound : Type 0
+ApplicableIsSound =
+    (parts : Parts) (block : Block) → IsApplicable parts block → Holds rule.Parent parts block → IsSound parts block
