@@ -2,7 +2,7 @@
 
 ghost use Rattle.std.specs.Prelude.{◌≡◌, IfOk};
 ghost use Rattle.sx_apply.specs.Effects.{AreEffects};
-ghost use Rattle.sx_block.specs.Validity.{IsSound, ledger_after};
+ghost use Rattle.sx_block.specs.Validity.{IsApplicable, ledger_after};
 ghost use Rattle.sx_ledger.specs.Body.{IsAdmissibleIn, body_after};
 
 use crate::effects::Effects;
@@ -28,7 +28,7 @@ pub fn apply_body(alloc: Global, ledger: &Ledger, txs: &[Tx]) -> Result<Ledger, 
 }
 
 /// The ledger after a block, whose effects on the ledger are known: the ledger after the transactions,
-/// after trading. The block is valid but for the digest of the ledger that it leaves. The ledger changes in
+/// after trading. The block is valid but for the digests of the ledgers before and after it. The ledger changes in
 /// place.
 pub fn apply(
     alloc: Global,
@@ -36,7 +36,7 @@ pub fn apply(
     block: &Block,
     effects: Effects,
 ) -> Result<Ledger, NoMemory>
-    requires sound { IsSound ledger block.now }
+    requires applicable { IsApplicable ledger block.now }
     requires effects { AreEffects ledger block.now effects }
     ensures { IfOk result (λ after. after ≡ ledger_after ledger block.now) }
 {

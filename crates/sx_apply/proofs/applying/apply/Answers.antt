@@ -3,7 +3,7 @@ use Rattle.sx_apply.specs.Trading.{CanExecute}
 use Rattle.sx_apply.proofs.applying.apply.Goals as goal
 use Rattle.sx_block.specs.Rule as rule
 use Rattle.sx_block.specs.Validity.{flow_of_block}
-use Rattle.sx_block.proofs.Rules.{sound_is_tradable, widely_admissible}
+use Rattle.sx_block.proofs.Rules.{applicable_is_body, applicable_is_tradable}
 use Rattle.sx_fill.specs.AllFills.{all_fills}
 use Rattle.sx_ledger.specs.declared.parts.Parts.{Parts}
 use Rattle.sx_ledger.specs.Body.{body_after}
@@ -12,7 +12,7 @@ use Rattle.sx_ledger.specs.Trade.{traded}
 pub apply_accounts-requires-clause-body : goal.apply_accounts-requires-clause-body
 apply_accounts-requires-clause-body c = record {
   txs = c.args.block.now.txs;
-  body = widely_admissible c.args.ledger c.args.block.now c.requires.sound;
+  body = applicable_is_body c.args.ledger c.args.block.now c.requires.applicable;
   is = c.requires.effects.tally;
 }
 
@@ -24,11 +24,12 @@ execute-requires-clause-below_last c =
     let parts = c.args.ledger in
     let block = c.args.block.now in
     let after : c.in_ok-after_body.after_body ≡ body_after parts block.txs =
-    c.in_ok-after_body.ensures block.txs (widely_admissible parts block c.requires.sound) c.requires.effects.tally in
+    c.in_ok-after_body.ensures block.txs (applicable_is_body parts block c.requires.applicable)
+    c.requires.effects.tally in
     omega (
       arith,
       ap (λ (p : Parts). p.height) after,
-      c.requires.sound.rules rule.BelowLast (omega arith),
+      c.requires.applicable.rules rule.BelowLast (omega arith) (λ e. absurd cc),
     )
 
 pub execute-requires-clause-fills : goal.execute-requires-clause-fills
@@ -36,8 +37,9 @@ execute-requires-clause-fills c =
     let parts = c.args.ledger in
     let block = c.args.block.now in
     let after : c.in_ok-after_body.after_body ≡ body_after parts block.txs =
-    c.in_ok-after_body.ensures block.txs (widely_admissible parts block c.requires.sound) c.requires.effects.tally in
-    let trade = sound_is_tradable parts block c.requires.sound in
+    c.in_ok-after_body.ensures block.txs (applicable_is_body parts block c.requires.applicable)
+    c.requires.effects.tally in
+    let trade = applicable_is_tradable parts block c.requires.applicable in
     subst (λ (p : Parts). CanExecute p block.header.prices block.header.rounding c.items.result.now) (sym after)
     (record {
       flow = flow_of_block block;
@@ -53,7 +55,8 @@ returns c =
     let flow = flow_of_block block in
     let prices = block.header.prices in
     let after : c.in_ok-after_body.after_body ≡ body_after parts block.txs =
-    c.in_ok-after_body.ensures block.txs (widely_admissible parts block c.requires.sound) c.requires.effects.tally in
+    c.in_ok-after_body.ensures block.txs (applicable_is_body parts block c.requires.applicable)
+    c.requires.effects.tally in
     let are : c.items.result.now ≡ all_fills prices flow c.in_ok-after_body.after_body.offers =
     c.items.ensures ∙ c.requires.effects.fills ∙ ap (λ (p : Parts). all_fills prices flow p.offers) (sym after) in
     subst (λ (p : Parts). IfOk c.execute.result (λ left. left ≡ traded p prices flow block.header.rounding)) after
