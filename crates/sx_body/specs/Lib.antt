@@ -2,5 +2,6 @@ pub mod Postings
 pub mod Repeats
 pub mod Tally
 pub mod Refusal
+pub mod Known
 pub mod Overdraft
 pub mod Accounts

@@ -4,7 +4,8 @@
 //! or, where none is, a [`Tally`] of what all of them do: debits and credits, the sequence numbers that
 //! are used, the offers that are cancelled and made, and the accounts that are created. Contracts see a
 //! tally through its relation to the list of transactions (`IsTally`), where each part is a plain sum or
-//! a plain list. [`refusal_laws`] says that the first refusal is one.
+//! a plain list. [`par_precheck`] answers the same, and has threads look up where what the transactions name
+//! stands; no other call starts a thread. [`refusal_laws`] says that the first refusal is one.
 //!
 //! The tally tells the rest of what makes a body admissible (`IsAdmissibleIn` of `sx_ledger`), and no
 //! transaction is looked at again: [`Tally::cancelled_again`] and [`Tally::created_again`] tell the first
@@ -33,6 +34,7 @@ mod creations;
 mod entries;
 mod kinds;
 mod laws;
+mod lookup;
 mod offers;
 mod overdraft;
 mod postings;
@@ -47,5 +49,5 @@ pub use applying::{apply_accounts, complete_accounts};
 pub use laws::refusal_laws;
 pub use offers::offers_after;
 pub use overdraft::Overdraft;
-pub use prechecking::{PrecheckFault, precheck};
+pub use prechecking::{PrecheckFault, par_precheck, precheck};
 pub use tally::Tally;

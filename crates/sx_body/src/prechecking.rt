@@ -1,16 +1,29 @@
 //! One pass over transactions, which tests each by itself and adds up what they do.
 
-ghost use Rattle.std.specs.Prelude.{◌≡◌, IfOk, IfErr};
+ghost use Rattle.std.specs.Prelude.{◌≡◌, ◌+◌, ◌<◌, ◌≤◌, [], Err, IfErr, IfOk, IfSome, OnOk, length, slice_index_or, take};
 ghost use Rattle.sx_body.specs.declared.prechecking.PrecheckFault.TheVariants as precheck_fault;
+ghost use Rattle.sx_body.specs.Known.{AreKnown, HasPlaces};
 ghost use Rattle.sx_body.specs.Refusal.{IsPrecheckFault};
 ghost use Rattle.sx_body.specs.Tally.{IsTally};
+ghost use Rattle.sx_ledger.specs.Ledger.{IsLedger, ids};
+ghost use Rattle.sx_ledger.specs.Static.{static_of};
+ghost use Rattle.sx_tx.specs.declared.tx.Tx.{Tx as Transaction};
 
+use crate::lookup::look_up;
 use crate::tally::Tally;
 use std::alloc::Global;
+use std::thread::Threads;
 use sx_bytes::NoMemory;
-use sx_ledger::{Ledger, Static};
+use sx_ledger::{AccountIndex, Ledger, Places, Static};
 use sx_tx::Tx;
 use thiserror::Error;
+
+// From how many transactions on threads look places up. One thread takes three milliseconds there, and to start a
+// thread a small part of one.
+const MANY_TRANSACTIONS: usize = 1 << 13;
+
+// How many transactions are looked up before they are entered. Their places stay in a processor's cache meanwhile.
+const PIECE: usize = 1 << 16;
 
 /// Why transactions have no tally.
 #[derive(Clone, Copy, Debug, PartialEq, Eq, Error)]
@@ -32,6 +45,54 @@ impl From<NoMemory> for PrecheckFault {
     }
 }
 
+// The places of a transaction, which may be known, or the reason why the ledger refuses it.
+fn places_of(
+    ledger: &Ledger,
+    index: &AccountIndex,
+    near: u32,
+    tx: &Tx,
+    known: Option<Places>,
+) -> Result<Places, Static>
+    requires index { index.now ≡ ids ledger.now.accounts }
+    requires known { IfSome known (HasPlaces ledger.now tx.now) }
+    ensures places { IfOk result (HasPlaces ledger.now tx.now) }
+    ensures refused { IfErr result (λ why. static_of ledger.now tx.now ≡ Err why) }
+{
+    match known {
+        Some(places) => Ok(places),
+        None => ledger.places_of(index, near, tx),
+    }
+}
+
+// Enters the transaction at an index, whose places may be known, where all those before it are entered. It answers
+// where the account of the transaction stands, since that of the next one may stand near it.
+fn enter_at(
+    ledger: &Ledger,
+    index: &AccountIndex,
+    near: u32,
+    txs: &[Tx],
+    at: usize,
+    known: Option<Places>,
+    tally: &mut Tally,
+) -> Result<u32, PrecheckFault>
+    requires ledger { IsLedger ledger.now }
+    requires index { index.now ≡ ids ledger.now.accounts }
+    requires at { at < length txs.now }
+    requires known { (tx : Transaction) → IfSome known (HasPlaces ledger.now (slice_index_or txs.now at tx)) }
+    requires tally { IsTally ledger.now (take at txs.now) tally.old }
+    ensures tally { OnOk result (IsTally ledger.now (take (at + 1) txs.now) tally.new) }
+    ensures refused { IfErr result (IsPrecheckFault ledger.now txs.now) }
+{
+    let tx = &txs[at];
+    match places_of(ledger, index, near, tx, known) {
+        Ok(places) => {
+            tally.enter(ledger, at, tx, &places)?;
+            Ok(places.account)
+        }
+        Err(why) => Err(PrecheckFault::Refused { index: at, why }),
+    }
+}
+
 /// The tally of transactions on a ledger, or the first of them that the ledger refuses by itself. It goes
 /// over them once, in any order and of any number, and looks each payee and each cancelled offer up once;
 /// where transactions of one account stand together, the account is found without a search.
@@ -42,14 +103,94 @@ pub fn precheck(alloc: Global, ledger: &Ledger, txs: &[Tx]) -> Result<Tally, Pre
     let index = ledger.index()?;
     let mut tally = Tally::none(alloc, ledger)?;
     let mut near = 0;
-    for (at, tx) in txs.iter().enumerate() {
-        match ledger.places_of(&index, near, tx) {
-            Ok(places) => {
-                tally.enter(ledger, at, tx, &places)?;
-                near = places.account;
-            }
-            Err(why) => return Err(PrecheckFault::Refused { index: at, why }),
-        }
+    for at in 0..txs.len() {
+        near = enter_at(ledger, &index, near, txs, at, None, &mut tally)?;
     }
+    Ok(tally)
+}
+
+// Enters transactions from an index on, whose places may be known, where all those before them are entered.
+fn enter_known(
+    ledger: &Ledger,
+    index: &AccountIndex,
+    txs: &[Tx],
+    from: usize,
+    known: &[Option<Places>],
+    tally: &mut Tally,
+) -> Result<(), PrecheckFault>
+    requires ledger { IsLedger ledger.now }
+    requires index { index.now ≡ ids ledger.now.accounts }
+    requires within { from + length known.now ≤ length txs.now }
+    requires known { AreKnown ledger.now txs.now from known.now }
+    requires tally { IsTally ledger.now (take from txs.now) tally.old }
+    ensures tally { OnOk result (IsTally ledger.now (take (from + length known.now) txs.now) tally.new) }
+    ensures refused { IfErr result (IsPrecheckFault ledger.now txs.now) }
+{
+    let mut near = 0;
+    for k in 0..known.len() {
+        near = enter_at(ledger, index, near, txs, from + k, known[k], tally)?;
+    }
+    Ok(())
+}
+
+// Goes over the transactions piece by piece: threads look up what a piece names, and then its transactions are entered.
+// A piece has as many transactions as there are slots for their places.
+fn enter_pieces<R: Threads + Sync>(
+    rt: &R,
+    ledger: &Ledger,
+    index: &AccountIndex,
+    txs: &[Tx],
+    workers: u32,
+    slots: &mut [Option<Places>],
+    tally: &mut Tally,
+) -> Result<(), PrecheckFault>
+    requires ledger { IsLedger ledger.now }
+    requires index { index.now ≡ ids ledger.now.accounts }
+    requires some_worker { 1 ≤ workers }
+    requires some_slot { 1 ≤ length slots.old }
+    requires tally { IsTally ledger.now [] tally.old }
+    ensures tally { OnOk result (IsTally ledger.now txs.now tally.new) }
+    ensures refused { IfErr result (IsPrecheckFault ledger.now txs.now) }
+{
+    let mut from = 0;
+    while from < txs.len() {
+        let count = slots.len().min(txs.len() - from);
+        let known = &mut slots[..count];
+        look_up(rt, ledger, index, txs, from, workers, known);
+        enter_known(ledger, index, txs, from, known, tally)?;
+        from += count;
+    }
+    Ok(())
+}
+
+// Slots for the places of so many transactions.
+fn empty_slots(alloc: Global, count: usize) -> Result<Vec<Option<Places>>, NoMemory>
+    ensures { IfOk result (λ slots. length slots.items ≡ count) }
+{
+    Ok(vec![in alloc; None; count]?)
+}
+
+/// The same as [`precheck`], with threads that look places up. It goes over the transactions in pieces: at most so
+/// many threads look up what a piece names, and then one thread enters its transactions in their order. So the
+/// answer is that of [`precheck`], and the same for every number of workers. With one worker, or for few
+/// transactions, no thread is started.
+pub fn par_precheck<R: Threads + Sync>(
+    rt: &R,
+    alloc: Global,
+    ledger: &Ledger,
+    txs: &[Tx],
+    workers: u32,
+) -> Result<Tally, PrecheckFault>
+    requires some_worker { 1 ≤ workers }
+    ensures tally { IfOk result (IsTally ledger.now txs.now) }
+    ensures refused { IfErr result (IsPrecheckFault ledger.now txs.now) }
+{
+    if workers == 1 || txs.len() < MANY_TRANSACTIONS {
+        return precheck(alloc, ledger, txs);
+    }
+    let index = ledger.index()?;
+    let mut tally = Tally::none(alloc, ledger)?;
+    let mut slots = empty_slots(alloc, PIECE.min(txs.len()))?;
+    enter_pieces(rt, ledger, &index, txs, workers, &mut slots, &mut tally)?;
     Ok(tally)
 }
