@@ -4,4 +4,5 @@ pub mod UsedNumbers
 pub mod TxLaws
 pub mod ListLaws
 pub mod FaultPlaces
+pub mod Halves
 mod WindowCases

@@ -6,9 +6,10 @@
 //! encoding, and else the first fault from left to right, with the reader back where it was.
 //! [`read_id`], [`read_seq`], [`read_asset`], [`read_amount`] and [`read_limit`] do the same for one
 //! field. [`read_candidates`] reads a whole payload of candidates: a count and that many
-//! transactions, in any order and with repeats. [`write_tx`] and [`write_candidates`] append the
-//! encoding, or nothing where memory runs out. [`tx_laws`] and [`list_laws`] say that decoding
-//! inverts encoding, that no two values share an encoding, and that none is a prefix of another.
+//! transactions, in any order and with repeats; [`par_read_candidates`] does so by several threads.
+//! [`write_tx`] and [`write_candidates`] append the encoding, or nothing where memory runs out.
+//! [`tx_laws`] and [`list_laws`] say that decoding inverts encoding, that no two values share an
+//! encoding, and that none is a prefix of another.
 //!
 //! A [`Window`] says which of an account's sequence numbers were used: all up to the last one, and
 //! in version 2 some of the [`Window::OPEN`] after it. [`Window::place`] is where a number stands
@@ -22,6 +23,7 @@ mod fields;
 mod kind;
 mod laws;
 mod reading;
+mod reading_in_parts;
 mod tx;
 mod tx_list;
 mod window;
@@ -31,6 +33,7 @@ pub use fields::{read_amount, read_asset, read_id, read_limit, read_seq};
 pub use kind::Kind;
 pub use laws::{list_laws, tx_laws, window_laws};
 pub use reading::{read_candidates, read_tx};
+pub use reading_in_parts::par_read_candidates;
 pub use tx::Tx;
 pub use tx_list::{MOST_TRANSACTIONS, TxList};
 pub use window::{Window, WindowFault};

@@ -108,7 +108,7 @@ fn kind(from: &mut Reader) -> Result<Kind, FormFault>
 // A transaction. Where it refuses, the reader may stand anywhere after its old place.
 #[inline]
 #[tactic(auto, unfolding(crate::specs::TransactionDecoding::tx_at))]
-fn tx(from: &mut Reader) -> Result<Tx, FormFault>
+pub(crate) fn tx(from: &mut Reader) -> Result<Tx, FormFault>
     ensures exact { DecodesOrStrays (λ x. x) (tx_at from.old) from.new result }
     ensures same { from.new.bytes ≡ from.old.bytes }
     ensures onward { from.old.place ≤ from.new.place }

@@ -1,0 +1,157 @@
+//! Decoding a long payload of candidates by several threads.
+//!
+//! One thread steps over the front half of the transactions, by the bytes of their kinds alone, to where the back
+//! half seems to begin. Then half of the threads decode each half, in the same way, into its part of one vector. Where
+//! the front half is decoded whole and ends there, both halves side by side are what the payload says. Where anything
+//! is amiss, one thread decodes the payload from its first byte, and so finds the first fault.
+
+ghost use Rattle.std.specs.Prelude.{◌≡◌, ◌*◌, ◌≤◌, List, length, IfOk, Ok};
+ghost use Rattle.std.specs.Thread.{IsSync};
+ghost use Rattle.sx_bytes.specs.Grammar.{Gives};
+ghost use Rattle.sx_tx.specs.declared.tx.Tx.{Tx as Transaction};
+ghost use Rattle.sx_tx.specs.Transactions.{list_bytes, IsTxList};
+ghost use Rattle.sx_tx.specs.TransactionDecoding.{AreDecoded, candidates_at};
+
+use crate::reading::{read_candidates, tx};
+use crate::tx::Tx;
+use crate::tx_list::{MOST_TRANSACTIONS, TxList};
+use std::alloc::Global;
+use std::thread::{Threads, join_mut};
+use sx_bytes::{Form, FormFault, ReadError, Reader, Short};
+
+// How many bytes are worth a thread of their own: some 8,000 transactions. Decoding them takes a third of a millisecond,
+// and to start a thread a part of that.
+const WORTH_A_THREAD: usize = 262_144;
+
+// A fault at a place. Which one it is makes no difference here.
+fn fault_at(place: usize, fault: Form) -> FormFault {
+    let at = place as u64;
+    FormFault { at, fault }
+}
+
+// A reader at a place of the payload.
+fn reader_at(payload: &[u8], place: usize) -> Result<Reader<'_>, Short>
+    ensures { IfOk result (λ from. from ≡ record { bytes = payload.now; place = place }) }
+{
+    let mut from = Reader::new(payload);
+    from.raw(place)?;
+    Ok(from)
+}
+
+// Where so many transactions from a place on seem to end. No field but the byte of each one's kind is looked at.
+fn end_of(payload: &[u8], place: usize, count: usize) -> Result<usize, Short> {
+    let mut from = reader_at(payload, place)?;
+    for _ in 0..count {
+        let head = from.raw(17)?;
+        let fields = match head[16] {
+            1 => 17,
+            2 => 8,
+            _ => 18,
+        };
+        from.raw(fields)?;
+    }
+    Ok(from.place())
+}
+
+// Decodes the transactions from a place on, one into each slot, and answers where they end.
+fn fill(payload: &[u8], place: usize, txs: &mut [Tx]) -> Result<usize, FormFault>
+    ensures { IfOk result (λ end. AreDecoded payload.now place (length txs.old) txs.new end) }
+{
+    let mut from = reader_at(payload, place)?;
+    for slot in 0..txs.len() {
+        // Taken apart, since the check knows how to move a kind only where one is named.
+        let Tx { account, seq, kind } = tx(&mut from)?;
+        txs[slot] = Tx { account, seq, kind };
+    }
+    Ok(from.place())
+}
+
+// The same by so many threads.
+fn fill_by<R: Threads + Sync>(
+    rt: &R,
+    payload: &[u8],
+    place: usize,
+    threads: usize,
+    txs: &mut [Tx],
+) -> Result<usize, FormFault>
+    requires some { 1 ≤ threads }
+    ensures { IfOk result (λ end. AreDecoded payload.now place (length txs.old) txs.new end) }
+{
+    if threads < 2 {
+        return fill(payload, place, txs);
+    }
+    let few = threads / 2;
+    let half = txs.len() / 2;
+    let middle = end_of(payload, place, half)?;
+    let (front, back) = txs.split_at_mut(half);
+    let (one, other) = join_mut(
+        rt,
+        &mut || -> Result<usize, FormFault>
+            requires { IsSync R.row × (1 ≤ few) }
+            ensures { IfOk result (λ end. AreDecoded payload.entry.now place (length front.entry.now) front.exit.now end) }
+        { fill_by(rt, payload, place, few, front) },
+        &mut || -> Result<usize, FormFault>
+            requires { IsSync R.row × (1 ≤ few) × (few * 2 ≤ threads) }
+            ensures { IfOk result (λ end. AreDecoded payload.entry.now middle (length back.entry.now) back.exit.now end) }
+        { fill_by(rt, payload, middle, threads - few, back) },
+    );
+    if one? != middle {
+        return Err(fault_at(middle, Form::Short));
+    }
+    other
+}
+
+// The transactions of a payload, decoded by so many threads. An error says nothing of the payload.
+fn whole<R: Threads + Sync>(
+    rt: &R,
+    alloc: Global,
+    payload: &[u8],
+    threads: usize,
+) -> Result<TxList, ReadError>
+    requires { 1 ≤ threads }
+    ensures { IfOk result (λ txs. candidates_at payload.now ≡ Ok txs) }
+{
+    let mut from = Reader::new(payload);
+    let count = from.field_u32(0, MOST_TRANSACTIONS, Form::TooMany)?;
+    let place = from.place();
+    // Memory grows with what the bytes left can hold, and not with what the count claims.
+    if from.left() / Tx::LEAST_BYTES < count as usize {
+        return Err(ReadError::Form(fault_at(place, Form::Short)));
+    }
+    // A slot has some transaction before its own is decoded: the first one serves.
+    let first = tx(&mut from)?;
+    let mut txs = vec![in alloc; first; count as usize]?;
+    let end = fill_by(rt, payload, place, threads, &mut txs)?;
+    if end != payload.len() {
+        return Err(ReadError::Form(fault_at(end, Form::Rest)));
+    }
+    Ok(TxList::of(txs))
+}
+
+/// The transactions of a payload of candidates, as [`read_candidates`] answers them, with the same errors. As many as
+/// `workers` threads decode a long one, where threads can be started. It may answer `NoMemory` in place of any other
+/// answer.
+pub fn par_read_candidates<R: Threads + Sync>(
+    rt: &R,
+    alloc: Global,
+    payload: &[u8],
+    workers: u32,
+) -> Result<TxList, ReadError>
+    requires some_worker { 1 ≤ workers }
+    // It answers transactions only where the payload is their encoding.
+    ensures found { IfOk result (λ txs. IsTxList txs × (payload.now ≡ list_bytes txs)) }
+    // It does so for every encoding, unless memory runs out.
+    ensures only { (txs : List Transaction) → IsTxList txs → payload.now ≡ list_bytes txs →
+        Gives (λ found. found) result (Ok txs) }
+    // Which fault it is.
+    ensures exact { Gives (λ txs. txs) result (candidates_at payload.now) }
+{
+    let threads = (payload.len() / WORTH_A_THREAD).min(workers as usize);
+    if threads < 2 {
+        return read_candidates(alloc, payload);
+    }
+    match whole(rt, alloc, payload, threads) {
+        Ok(txs) => Ok(txs),
+        Err(_) => read_candidates(alloc, payload),
+    }
+}
