@@ -1,5 +1,5 @@
 -- Small cases that are worked out by hand.
-use Rattle.std.proofs.Common.{◌≡◌, ℕ, List, [], ◌∷◌, true, Some, refl, arith}
+use Rattle.std.proofs.Common.{◌≡◌, ℕ, List, [], ◌∷◌, Some, refl, arith}
 use Rattle.sx_event.specs.declared.event.Event.{Event}
 use Rattle.sx_event.specs.declared.event.Event.TheVariants.{Look, Take, Claim, Split, Join}
 use Rattle.sx_event.specs.declared.event.Step.TheVariants.{Lost}

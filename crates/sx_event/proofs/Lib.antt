@@ -4,10 +4,8 @@ pub mod Words
 pub mod Keeping
 pub mod Runs
 pub mod Read
-pub mod Made
 pub mod Chaining
 pub mod Linking
-pub mod Seating
 pub mod Agreeing
 pub mod Stepping
 mod Cases

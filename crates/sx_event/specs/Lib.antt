@@ -3,11 +3,9 @@ pub mod State
 pub mod Step
 pub mod Rule
 pub mod Laws
-pub mod Shelf
-pub mod Ropes
 pub mod Tables
 pub mod Chains
-pub mod Seats
+pub mod History
 pub mod Seated
 pub mod Agree
 pub mod Machine

@@ -49,9 +49,10 @@
 //! # Memory and cost
 //!
 //! [`Core::start`] and [`Core::reserve`] take all memory: a step takes none, and `spare` counts how
-//! many there is memory for. Claims and notes are lists that share their parts, so a Join costs the
-//! same however long they are. What a view saw last of a purse is looked up in as many tables as views
-//! were joined into it, and one more.
+//! many there is memory for. The lists of claims and notes stand in proofs alone: a program keeps of
+//! a view whether it is live, its range, and what it saw last of each purse. So a claim takes no
+//! memory, and a Join costs the same however much the views have taken and seen. What a view saw last
+//! of a purse is looked up in as many tables as views were joined into it, and one more.
 //!
 //! Not here: threads and atomic words, which a crate above runs by the same step function; what
 //! purses and bits stand for; who is an actor and whose turn it is.
@@ -59,11 +60,12 @@
 
 mod bit;
 mod event;
+mod history;
 mod laws;
 mod lows;
 mod machine;
 mod marks;
-mod ropes;
+mod seat;
 mod seats;
 mod tables;
 mod views;

@@ -4,44 +4,25 @@ ghost use Rattle.sx_event.specs.View.{opened, spent, with_claim, with_note};
 ghost use Rattle.sx_event.specs.Step.{left_part, joined};
 
 use crate::marks::{Claim, Note};
-use crate::ropes::Ropes;
+use crate::seat::Seat;
 use std::alloc::Global;
 use std::marker::Model;
+use std::mem;
 use sx_bytes::NoMemory;
 
-// The claims and notes of a view are lists of two ropes, so to join two views costs the same however
-// long their lists are.
+// The seats of all views, named by their places.
 #[derive(Debug, Drop)]
 pub struct Seats {
     seats: Vec<Seat>,
-    claims: Ropes<Claim>,
-    notes: Ropes<Note>,
-}
-
-#[derive(Clone, Copy, Debug)]
-struct Seat {
-    live: bool,
-    from: u32,
-    end: u32,
-    // The names of the view's lists.
-    claims: usize,
-    notes: usize,
 }
 
 impl Model for Seats {
-    ghost use Rattle.std.specs.Prelude.{◌-◌, min, map, vec_len, vec_capacity};
+    ghost use Rattle.std.specs.Prelude.{◌-◌, vec_len, vec_capacity};
     ghost use Rattle.sx_event.specs.Seated.{Seated};
 
     ghost Value = { Seated };
 
-    ghost use Rattle.sx_event.specs.Seats.{shown, AreSeats};
-
-    ghost view = { λ s. record {
-      views = map (shown s.claims.lists s.notes.lists) s.seats.items;
-      room = min (min s.claims.room s.notes.room) (vec_capacity s.seats - vec_len s.seats);
-    } };
-
-    ghost invariant = { λ s. AreSeats s.claims.lists s.notes.lists s.seats.items };
+    ghost view = { λ s. record { views = s.seats.items; room = vec_capacity s.seats - vec_len s.seats } };
 }
 
 impl Seats {
@@ -51,19 +32,15 @@ impl Seats {
     {
         Seats {
             seats: Vec::new(alloc),
-            claims: Ropes::new(alloc),
-            notes: Ropes::new(alloc),
         }
     }
 
-    // Makes room for `more` more steps.
+    // Makes room for `more` more views.
     pub fn reserve(&mut self, more: usize) -> Result<(), NoMemory>
         ensures views { self.new.views ≡ self.old.views }
         ensures falls_never { self.old.room ≤ self.new.room }
         ensures ok { OnOk result (more ≤ self.new.room) }
     {
-        self.claims.reserve(more)?;
-        self.notes.reserve(more)?;
         self.seats.reserve(more)?;
         Ok(())
     }
@@ -80,7 +57,7 @@ impl Seats {
         ensures { result ≡ (slice_index_or self.now.views view spent).live }
     {
         match self.seats.get(view as usize) {
-            Some(seat) => seat.live,
+            Some(seat) => seat.is_live(),
             None => false,
         }
     }
@@ -90,7 +67,7 @@ impl Seats {
         requires { view < length self.now.views }
         ensures { result ≡ (slice_index_or self.now.views view spent).from }
     {
-        self.seats[view as usize].from
+        self.seats[view as usize].from()
     }
 
     // Where the range of the view ends.
@@ -98,7 +75,7 @@ impl Seats {
         requires { view < length self.now.views }
         ensures { result ≡ (slice_index_or self.now.views view spent).end }
     {
-        self.seats[view as usize].end
+        self.seats[view as usize].end()
     }
 
     // One more view. It takes no memory.
@@ -107,39 +84,27 @@ impl Seats {
         ensures views { self.new.views ≡ self.old.views ++ opened from end ∷ [] }
         ensures room { self.old.room ≤ self.new.room + 1 }
     {
-        self.seats.push_reserved(Seat {
-            live: true,
-            from,
-            end,
-            claims: 0,
-            notes: 0,
-        });
+        self.seats.push_reserved(Seat::open(from, end));
     }
 
     // The view has one more claim. It takes no memory.
     pub fn claim(&mut self, view: u32, claim: Claim)
-        requires known { view < length self.old.views }
-        requires room { 1 ≤ self.old.room }
+        requires { view < length self.old.views }
         ensures views { self.new.views ≡ slice_set self.old.views view
             (with_claim (slice_index_or self.old.views view spent) claim) }
-        ensures room { self.old.room ≤ self.new.room + 1 }
+        ensures room { self.new.room ≡ self.old.room }
     {
-        let seat = self.seats[view as usize];
-        let claims = self.claims.push(seat.claims, claim);
-        self.seats[view as usize] = Seat { claims, ..seat };
+        self.seats[view as usize].claim(claim);
     }
 
     // The view has one more note. It takes no memory.
     pub fn note(&mut self, view: u32, note: Note)
-        requires known { view < length self.old.views }
-        requires room { 1 ≤ self.old.room }
+        requires { view < length self.old.views }
         ensures views { self.new.views ≡ slice_set self.old.views view
             (with_note (slice_index_or self.old.views view spent) note) }
-        ensures room { self.old.room ≤ self.new.room + 1 }
+        ensures room { self.new.room ≡ self.old.room }
     {
-        let seat = self.seats[view as usize];
-        let notes = self.notes.push(seat.notes, note);
-        self.seats[view as usize] = Seat { notes, ..seat };
+        self.seats[view as usize].note(note);
     }
 
     // The range of the view ends here. It takes no memory.
@@ -149,35 +114,19 @@ impl Seats {
             (left_part (slice_index_or self.old.views view spent) at) }
         ensures room { self.new.room ≡ self.old.room }
     {
-        let seat = self.seats[view as usize];
-        self.seats[view as usize] = Seat { end: at, ..seat };
+        self.seats[view as usize].cut(at);
     }
 
     // The view takes in the other one. It takes no memory.
     pub fn join(&mut self, view: u32, other: u32)
         requires known { view < length self.old.views }
         requires other_known { other < length self.old.views }
-        requires room { 1 ≤ self.old.room }
+        requires apart { other ≢ view }
         ensures views { self.new.views ≡ slice_set (slice_set self.old.views view (joined
             (slice_index_or self.old.views view spent) (slice_index_or self.old.views other spent))) other spent }
-        ensures room { self.old.room ≤ self.new.room + 1 }
+        ensures room { self.new.room ≡ self.old.room }
     {
-        let seat = self.seats[view as usize];
-        let next = self.seats[other as usize];
-        let claims = self.claims.join(seat.claims, next.claims);
-        let notes = self.notes.join(seat.notes, next.notes);
-        self.seats[view as usize] = Seat {
-            end: next.end,
-            claims,
-            notes,
-            ..seat
-        };
-        self.seats[other as usize] = Seat {
-            live: false,
-            from: 0,
-            end: 0,
-            claims: 0,
-            notes: 0,
-        };
+        let next = mem::replace(&mut self.seats[other as usize], Seat::spent());
+        self.seats[view as usize].join(next);
     }
 }

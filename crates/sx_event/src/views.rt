@@ -117,11 +117,10 @@ impl Views {
 
     // The view has one more claim. It takes no memory.
     pub fn claim(&mut self, view: u32, claim: Claim)
-        requires live { (slice_index_or self.old.views view spent).live ≡ true }
-        requires room { 1 ≤ self.old.room }
+        requires { (slice_index_or self.old.views view spent).live ≡ true }
         ensures views { self.new.views ≡ slice_set self.old.views view
             (with_claim (slice_index_or self.old.views view spent) claim) }
-        ensures room { self.old.room ≤ self.new.room + 1 }
+        ensures room { self.new.room ≡ self.old.room }
     {
         self.seats.claim(view, claim);
     }
@@ -140,11 +139,10 @@ impl Views {
 
     // The view notes that the bit is set. It takes no memory.
     pub fn note_set(&mut self, view: u32, word: u32, bit: u32)
-        requires live { (slice_index_or self.old.views view spent).live ≡ true }
-        requires room { 1 ≤ self.old.room }
+        requires { (slice_index_or self.old.views view spent).live ≡ true }
         ensures views { self.new.views ≡ slice_set self.old.views view
             (with_note (slice_index_or self.old.views view spent) (Set word bit)) }
-        ensures room { self.old.room ≤ self.new.room + 1 }
+        ensures room { self.new.room ≡ self.old.room }
     {
         self.seats.note(view, Note::Set { word, bit });
     }
@@ -170,10 +168,9 @@ impl Views {
         requires live { (slice_index_or self.old.views view spent).live ≡ true }
         requires other_live { (slice_index_or self.old.views other spent).live ≡ true }
         requires apart { other ≢ view }
-        requires room { 1 ≤ self.old.room }
         ensures views { self.new.views ≡ slice_set (slice_set self.old.views view (joined
             (slice_index_or self.old.views view spent) (slice_index_or self.old.views other spent))) other spent }
-        ensures room { self.old.room ≤ self.new.room + 1 }
+        ensures room { self.new.room ≡ self.old.room }
     {
         self.seats.join(view, other);
         self.lows.join(view, other);

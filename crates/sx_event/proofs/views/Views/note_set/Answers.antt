@@ -8,6 +8,6 @@ pub invariant_of-self : goal.invariant_of-self
 invariant_of-self c =
     let views = c.self.inside.seats.views in
     let live : (get_or views c.args.view spent).live ≡ true =
-    ap (λ (s : Seated). (get_or s.views c.args.view spent).live) c.self.view_is ∙ c.requires.live in
+    ap (λ (s : Seated). (get_or s.views c.args.view spent).live) c.self.view_is ∙ c.requires in
     rw c.note.ensures.views (agree_note_set views c.args.view c.args.word c.args.bit c.self.inside.lows live
     c.self.invariant)
