@@ -20,14 +20,16 @@ use sx_input::{Head, Incoming, Stop, end, take_block, take_head};
 use sx_text::{Text, check_line};
 use sx_words::{Command, Setting};
 
-// The line of a valid block, or the first reason why the block is refused. As many workers apply it as a replay has
-// where its words name none.
+// The line of a valid block, or the first reason why the block is refused. So many workers apply it.
 fn verdict<R: Threads + Sync>(
     rt: &R,
     alloc: Global,
     head: Head,
     incoming: Incoming,
+    workers: u32,
 ) -> Result<Text, Stop>
+    requires some_worker { 1 ≤ workers }
+    requires few_workers { workers ≤ 64 }
     requires head { IsHead head }
     requires form { IsBlock incoming.block }
     requires body { incoming.body ≡ sha256 (list_bytes incoming.block.txs) }
@@ -35,7 +37,6 @@ fn verdict<R: Threads + Sync>(
     ensures concludes { ConcludesAs Command.Check (item.state head.ledger ∷ item.block incoming.block ∷ []) result }
     ensures calm { IsErrOf result Stop.ReadFault → ⊥ }
 {
-    let workers = Setting::Workers.default();
     match advance(rt, alloc, head, incoming, workers) {
         Ok(advanced) => Ok(check_line(alloc, &advanced.checked)?),
         Err(CheckFault::Invalid(why)) => Err(Stop::Refused { block: 0, why }),
@@ -43,7 +44,7 @@ fn verdict<R: Threads + Sync>(
     }
 }
 
-/// Checks the block of the input.
+/// Checks the block of the input, by as many workers as a replay has where its words name none.
 pub fn check<R: Threads + Sync, S: Source>(
     rt: &R,
     alloc: Global,
@@ -53,8 +54,16 @@ pub fn check<R: Threads + Sync, S: Source>(
     ensures steady { UnlessReadFault result (IsTrue (S.strict source.old) → S.faults source.new ≡ S.faults source.old) }
     ensures read_fault { IsErrOf result Stop.ReadFault → Rose (S.faults source.old) (S.faults source.new) }
 {
+    let workers = Setting::Workers.default();
     let opening = take_head(rt, alloc, source)?;
-    let incoming = take_block(rt, alloc, &opening.held.ledger, source, opening.end)?;
+    let incoming = take_block(
+        rt,
+        alloc,
+        &opening.held.ledger,
+        source,
+        opening.end,
+        workers,
+    )?;
     end(alloc, source, incoming.end)?;
-    verdict(rt, alloc, opening.held, incoming.held)
+    verdict(rt, alloc, opening.held, incoming.held, workers)
 }

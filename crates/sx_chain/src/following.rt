@@ -11,6 +11,7 @@ ghost use Rattle.sx_record.specs.Tags.{block_tag, outcomes_tag};
 
 use crate::replaying::tags;
 use std::alloc::Global;
+use std::thread::Threads;
 use sx_base::Source;
 use sx_block::Block;
 use sx_bytes::{Form, FormFault, NoMemory, Writer};
@@ -30,7 +31,12 @@ pub struct Taking {
 }
 
 // A block, which is taken and not judged.
-fn step_block(alloc: Global, place: Taking, found: &Record) -> Result<Taking, Stop>
+fn step_block<R: Threads + Sync>(
+    rt: &R,
+    alloc: Global,
+    place: Taking,
+    found: &Record,
+) -> Result<Taking, Stop>
     requires place { MayGoOn place }
     requires found { IsNext place found.now }
     requires tag { found.now.tag ≡ block_tag }
@@ -43,7 +49,7 @@ fn step_block(alloc: Global, place: Taking, found: &Record) -> Result<Taking, St
             fault: Form::TooMany,
         }));
     }
-    follower.offer(decoded::<Block>(alloc, found)?)?;
+    follower.offer(decoded::<Block, R>(rt, alloc, found)?)?;
     Ok(Taking {
         follower,
         at: end_of(found),
@@ -52,13 +58,18 @@ fn step_block(alloc: Global, place: Taking, found: &Record) -> Result<Taking, St
 }
 
 // Outcomes, read for their form alone.
-fn step_outcomes(alloc: Global, place: Taking, found: &Record) -> Result<Taking, Stop>
+fn step_outcomes<R: Threads + Sync>(
+    rt: &R,
+    alloc: Global,
+    place: Taking,
+    found: &Record,
+) -> Result<Taking, Stop>
     requires place { MayGoOn place }
     requires found { IsNext place found.now }
     requires tag { found.now.tag ≡ outcomes_tag }
     ensures { Steps place found.now result }
 {
-    let _ = decoded::<Outcomes>(alloc, found)?;
+    let _ = decoded::<Outcomes, R>(rt, alloc, found)?;
     Ok(Taking {
         follower: place.follower,
         at: end_of(found),
@@ -67,15 +78,20 @@ fn step_outcomes(alloc: Global, place: Taking, found: &Record) -> Result<Taking,
 }
 
 // One record after the state.
-fn step(alloc: Global, place: Taking, found: &Record) -> Result<Taking, Stop>
+fn step<R: Threads + Sync>(
+    rt: &R,
+    alloc: Global,
+    place: Taking,
+    found: &Record,
+) -> Result<Taking, Stop>
     requires place { MayGoOn place }
     requires found { IsNext place found.now }
     ensures { Steps place found.now result }
 {
     if found.tag == tag::OUTCOMES {
-        step_outcomes(alloc, place, found)
+        step_outcomes(rt, alloc, place, found)
     } else {
-        step_block(alloc, place, found)
+        step_block(rt, alloc, place, found)
     }
 }
 
@@ -89,19 +105,23 @@ fn followed(alloc: Global, mut follower: Follower) -> Result<Writer, NoMemory>
 
 /// The record of the ledger after the chain that the blocks of the input make, whatever their order and whatever else
 /// is among them.
-pub fn follow<S: Source>(alloc: Global, source: &mut S) -> Result<Writer, Stop>
+pub fn follow<R: Threads + Sync, S: Source>(
+    rt: &R,
+    alloc: Global,
+    source: &mut S,
+) -> Result<Writer, Stop>
     ensures found { Found Command.Follow (S.left source.old) (S.left source.new) result }
     ensures steady { UnlessReadFault result (IsTrue (S.strict source.old) → S.faults source.new ≡ S.faults source.old) }
     ensures read_fault { IsErrOf result Stop.ReadFault → Rose (S.faults source.old) (S.faults source.new) }
 {
-    let opening = take::<Ledger, S>(alloc, source, 0)?;
+    let opening = take::<Ledger, R, S>(rt, alloc, source, 0)?;
     let mut place = Taking {
         follower: Follower::start(alloc, opening.held)?,
         at: opening.end,
         after_block: false,
     };
     while let Some(found) = next(alloc, source, place.at, tags(place.after_block))? {
-        place = step(alloc, place, &found)?;
+        place = step(rt, alloc, place, &found)?;
     }
     Ok(followed(alloc, place.follower)?)
 }

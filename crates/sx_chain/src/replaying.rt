@@ -65,7 +65,7 @@ fn step_block<R: Threads + Sync>(
             fault: Form::TooMany,
         }));
     }
-    let incoming = decoded_block(rt, alloc, &place.head.ledger, found)?;
+    let incoming = decoded_block(rt, alloc, &place.head.ledger, found, workers)?;
     match advance(rt, alloc, place.head, incoming, workers) {
         Ok(advanced) => Ok(Place {
             head: advanced.head,
@@ -82,13 +82,18 @@ fn step_block<R: Threads + Sync>(
 }
 
 // Outcomes, read for their form alone.
-fn step_outcomes(alloc: Global, place: Place, found: &Record) -> Result<Place, Stop>
+fn step_outcomes<R: Threads + Sync>(
+    rt: &R,
+    alloc: Global,
+    place: Place,
+    found: &Record,
+) -> Result<Place, Stop>
     requires place { MayGoOn place }
     requires found { IsNext place found.now }
     requires tag { found.now.tag ≡ outcomes_tag }
     ensures { Steps place found.now result }
 {
-    let _ = decoded::<Outcomes>(alloc, found)?;
+    let _ = decoded::<Outcomes, R>(rt, alloc, found)?;
     Ok(Place {
         head: place.head,
         at: end_of(found),
@@ -112,7 +117,7 @@ fn step<R: Threads + Sync>(
     ensures { Steps place found.now result }
 {
     if found.tag == tag::OUTCOMES {
-        step_outcomes(alloc, place, found)
+        step_outcomes(rt, alloc, place, found)
     } else {
         step_block(rt, alloc, place, found, workers)
     }

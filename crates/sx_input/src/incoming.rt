@@ -24,7 +24,7 @@ use std::thread::{Threads, join};
 use sx_base::Source;
 use sx_block::{Block, Digest, digest_of, header_length};
 use sx_body::PrecheckFault;
-use sx_check::{Survey, survey_of};
+use sx_check::{Survey, par_survey_of};
 use sx_ledger::Ledger;
 use sx_record::{Record, tag};
 
@@ -89,8 +89,16 @@ fn transactions_begin(payload: &[u8]) -> usize
     begin.min(payload.len())
 }
 
-// The block that the payload of a record encodes, and the survey of its transactions on a ledger.
-fn with_survey(alloc: Global, ledger: &Ledger, found: &Record) -> Result<Surveyed, Stop>
+// The block that the payload of a record encodes, and the survey of its transactions on a ledger, by so many workers.
+fn with_survey<R: Threads + Sync>(
+    rt: &R,
+    alloc: Global,
+    ledger: &Ledger,
+    found: &Record,
+    workers: u32,
+) -> Result<Surveyed, Stop>
+    requires some_worker { 1 ≤ workers }
+    requires few_workers { workers ≤ 64 }
     requires place { found.now.at ≤ 2 ^ 63 + 5 }
     requires fits { length found.now.payload ≤ most_bytes }
     ensures exact { Holds (λ said. item.block said.block) found.now.at (payload_at block_tag found.now.payload) result }
@@ -98,20 +106,23 @@ fn with_survey(alloc: Global, ledger: &Ledger, found: &Record) -> Result<Surveye
     ensures encoded { IfOk result (λ said. found.now.payload ≡ block_bytes said.block) }
     ensures survey { IfOk result (λ said. IsSurveyed ledger.now said.block.txs said.found) }
 {
-    let block: Block = decoded(alloc, found)?;
-    let found = survey_of(alloc, ledger, block.txs.items());
+    let block: Block = decoded(rt, alloc, found)?;
+    let found = par_survey_of(rt, alloc, ledger, block.txs.items(), workers);
     Ok(Surveyed { block, found })
 }
 
 // The digest of the bytes of a payload from a place on, and the block that the payload encodes with its survey. Where
 // there are many such bytes, a thread of its own makes the digest.
-fn digest_and_block<R: Threads>(
+fn digest_and_block<R: Threads + Sync>(
     rt: &R,
     alloc: Global,
     ledger: &Ledger,
     found: &Record,
     from: usize,
+    workers: u32,
 ) -> (Digest, Result<Surveyed, Stop>)
+    requires some_worker { 1 ≤ workers }
+    requires few_workers { workers ≤ 64 }
     requires place { found.now.at ≤ 2 ^ 63 + 5 }
     requires fits { length found.now.payload ≤ most_bytes }
     requires within { from ≤ length found.now.payload }
@@ -123,7 +134,10 @@ fn digest_and_block<R: Threads>(
 {
     let transactions = &found.payload.items()[from..];
     if transactions.len() < WORTH_A_THREAD {
-        return (digest_of(transactions), with_survey(alloc, ledger, found));
+        return (
+            digest_of(transactions),
+            with_survey(rt, alloc, ledger, found, workers),
+        );
     }
     join(
         rt,
@@ -131,13 +145,15 @@ fn digest_and_block<R: Threads>(
             ensures { result ≡ sha256 transactions.entry.now }
         { digest_of(transactions) },
         || -> Result<Surveyed, Stop>
+            requires some_worker { 1 ≤ workers }
+            requires few_workers { workers ≤ 64 }
             requires place { found.now.at ≤ 2 ^ 63 + 5 }
             requires fits { length found.now.payload ≤ most_bytes }
             ensures exact { Holds (λ said. item.block said.block) found.entry.now.at (payload_at block_tag found.entry.now.payload) result }
             ensures form { IfOk result (λ said. IsBlock said.block) }
             ensures encoded { IfOk result (λ said. found.entry.now.payload ≡ block_bytes said.block) }
             ensures survey { IfOk result (λ said. IsSurveyed ledger.entry.now said.block.txs said.found) }
-        { with_survey(alloc, ledger, found) },
+        { with_survey(rt, alloc, ledger, found, workers) },
     )
 }
 
@@ -156,15 +172,19 @@ fn transactions_digest(payload: &[u8], block: &Block, from: usize, digest: Diges
 }
 
 /// The block that the payload of a record encodes, with the digest of its transactions, which is made of the payload's
-/// own bytes, and the survey of them on the ledger that the block comes to. Many transactions are hashed on a thread of
-/// their own while the block is decoded and surveyed, and the call returns where that thread returns. Where no thread
-/// can be started, the two are done in turn.
-pub fn decoded_block<R: Threads>(
+/// own bytes, and the survey of them on the ledger that the block comes to, for which 1 to 64 workers look accounts and
+/// offers up. Many transactions are hashed on a thread of their own while the block is decoded and surveyed, and the
+/// call returns where that thread returns. Where no thread can be started, the two are done in turn. The answer is the
+/// same for every number of workers.
+pub fn decoded_block<R: Threads + Sync>(
     rt: &R,
     alloc: Global,
     ledger: &Ledger,
     found: &Record,
+    workers: u32,
 ) -> Result<Incoming, Stop>
+    requires some_worker { 1 ≤ workers }
+    requires few_workers { workers ≤ 64 }
     requires place { found.now.at ≤ 2 ^ 63 + 5 }
     requires fits { length found.now.payload ≤ most_bytes }
     ensures exact { Holds item_of found.now.at (payload_at block_tag found.now.payload) result }
@@ -175,22 +195,25 @@ pub fn decoded_block<R: Threads>(
 {
     let payload = found.payload.items();
     let from = transactions_begin(payload);
-    let (digest, said) = digest_and_block(rt, alloc, ledger, found, from);
+    let (digest, said) = digest_and_block(rt, alloc, ledger, found, from, workers);
     let Surveyed { block, found } = said?;
     let body = transactions_digest(payload, &block, from, digest);
     Ok(Incoming { block, body, found })
 }
 
 /// The block that the next record holds, which has to be there and to have the tag of a block, with its survey on
-/// the ledger that it comes to.
-pub fn take_block<R: Threads, S: Source>(
+/// the ledger that it comes to, by 1 to 64 workers.
+pub fn take_block<R: Threads + Sync, S: Source>(
     rt: &R,
     alloc: Global,
     ledger: &Ledger,
     source: &mut S,
     at: u64,
+    workers: u32,
 ) -> Result<Taken<Incoming>, Stop>
-    requires { at ≤ 2 ^ 63 }
+    requires place { at ≤ 2 ^ 63 }
+    requires some_worker { 1 ≤ workers }
+    requires few_workers { workers ≤ 64 }
     ensures stops { IfErr result (Stops (item_at (needed block_tag) at) (S.left source.old) (S.left source.new)) }
     ensures took { IfOk result (λ taken. Took (S.left source.old) (S.left source.new) (item_record (item_of taken.held))) }
     ensures form { IfOk result (λ taken. IsItem (item_of taken.held)) }
@@ -204,7 +227,7 @@ pub fn take_block<R: Threads, S: Source>(
     ensures kept { S.strict source.new ≡ S.strict source.old }
 {
     let found = required(alloc, source, at, tag::BLOCK)?;
-    let held = decoded_block(rt, alloc, ledger, &found)?;
+    let held = decoded_block(rt, alloc, ledger, &found, workers)?;
     let end = end_of(&found);
     Ok(Taken { held, end })
 }

@@ -26,7 +26,7 @@ use sx_record::{Record, tag};
 
 // The ledger of a record, which is let go, and where a chain of blocks stands on it. A thread makes the digest of a
 // large record while it is decoded, and goes on after that.
-fn begun<R: Threads>(rt: &R, alloc: Global, found: Record) -> Result<Head, Stop>
+fn begun<R: Threads + Sync>(rt: &R, alloc: Global, found: Record) -> Result<Head, Stop>
     requires place { found.at ≤ 2 ^ 63 + 5 }
     requires fits { length found.payload ≤ most_bytes }
     ensures exact { Holds (λ head. item.state head.ledger) found.at (payload_at state_tag found.payload) result }
@@ -38,7 +38,7 @@ fn begun<R: Threads>(rt: &R, alloc: Global, found: Record) -> Result<Head, Stop>
         return Err(Stop::NoMemory);
     };
     let digest = StateDigest::start(rt, &found);
-    let ledger = decoded(alloc, &found)?;
+    let ledger = decoded(rt, alloc, &found)?;
     Ok(Head {
         ledger,
         state: None,
@@ -47,7 +47,7 @@ fn begun<R: Threads>(rt: &R, alloc: Global, found: Record) -> Result<Head, Stop>
 }
 
 /// The state, which has to be the first record, and where a chain of blocks stands on it.
-pub fn take_head<R: Threads, S: Source>(
+pub fn take_head<R: Threads + Sync, S: Source>(
     rt: &R,
     alloc: Global,
     source: &mut S,

@@ -11,13 +11,18 @@ ghost use Rattle.sx_record.specs.Tags.{state_tag};
 
 use crate::stop::Stop;
 use std::alloc::Global;
+use std::thread::Threads;
 use sx_block::{Block, Digest, block_laws, read_block};
 use sx_bytes::{FormFault, ReadError};
 use sx_commit::{Proof, proof_laws, read_proof};
 use sx_layout::{Outcomes, Script, outcome_list_laws, read_outcomes, read_script, script_laws};
-use sx_ledger::{Ledger, read_state, state_laws};
+use sx_ledger::{Ledger, par_read_state, state_laws};
 use sx_record::{Record, tag};
-use sx_tx::{TxList, list_laws, read_candidates};
+use sx_tx::{TxList, list_laws, par_read_candidates};
+
+// How many threads share the reading of a long payload. They wait for memory more than they calculate, so more of them
+// win little.
+const WORKERS: u32 = 4;
 
 /// What the payload of a record may hold.
 pub trait Payload {
@@ -32,8 +37,9 @@ pub trait Payload {
 
     const TAG: u8;
 
-    /// The value that a payload encodes.
-    fn read(alloc: Global, payload: &[u8]) -> Result<Self, ReadError>
+    /// The value that a payload encodes. A state or candidates, where there are many, are read by several threads, and
+    /// the call returns where these return.
+    fn read<R: Threads + Sync>(rt: &R, alloc: Global, payload: &[u8]) -> Result<Self, ReadError>
         ensures exact { Gives item result (payload_at TAG payload.now) }
         ensures form { IfOk result (λ x. IsItem (item x)) }
         ensures tag { IfOk result (λ x. tag_of (item x) ≡ TAG) }
@@ -51,9 +57,9 @@ impl Payload for Ledger {
 
     const TAG: u8 = tag::STATE;
 
-    fn read(alloc: Global, payload: &[u8]) -> Result<Ledger, ReadError> {
+    fn read<R: Threads + Sync>(rt: &R, alloc: Global, payload: &[u8]) -> Result<Ledger, ReadError> {
         state_laws();
-        read_state(alloc, payload)
+        par_read_state(rt, alloc, payload, WORKERS)
     }
 }
 
@@ -66,9 +72,9 @@ impl Payload for TxList {
 
     const TAG: u8 = tag::CANDIDATES;
 
-    fn read(alloc: Global, payload: &[u8]) -> Result<TxList, ReadError> {
+    fn read<R: Threads + Sync>(rt: &R, alloc: Global, payload: &[u8]) -> Result<TxList, ReadError> {
         list_laws();
-        read_candidates(alloc, payload)
+        par_read_candidates(rt, alloc, payload, WORKERS)
     }
 }
 
@@ -81,7 +87,7 @@ impl Payload for Block {
 
     const TAG: u8 = tag::BLOCK;
 
-    fn read(alloc: Global, payload: &[u8]) -> Result<Block, ReadError> {
+    fn read<R: Threads + Sync>(_rt: &R, alloc: Global, payload: &[u8]) -> Result<Block, ReadError> {
         block_laws();
         read_block(alloc, payload)
     }
@@ -96,7 +102,7 @@ impl Payload for Outcomes {
 
     const TAG: u8 = tag::OUTCOMES;
 
-    fn read(alloc: Global, payload: &[u8]) -> Result<Outcomes, ReadError> {
+    fn read<R: Threads + Sync>(_rt: &R, alloc: Global, payload: &[u8]) -> Result<Outcomes, ReadError> {
         outcome_list_laws();
         read_outcomes(alloc, payload)
     }
@@ -111,7 +117,7 @@ impl Payload for Script {
 
     const TAG: u8 = tag::SCRIPT;
 
-    fn read(alloc: Global, payload: &[u8]) -> Result<Script, ReadError> {
+    fn read<R: Threads + Sync>(_rt: &R, alloc: Global, payload: &[u8]) -> Result<Script, ReadError> {
         script_laws();
         read_script(alloc, payload)
     }
@@ -126,7 +132,7 @@ impl Payload for (Digest, Proof) {
 
     const TAG: u8 = tag::PROOF;
 
-    fn read(alloc: Global, payload: &[u8]) -> Result<(Digest, Proof), ReadError> {
+    fn read<R: Threads + Sync>(_rt: &R, alloc: Global, payload: &[u8]) -> Result<(Digest, Proof), ReadError> {
         proof_laws();
         read_proof(alloc, payload)
     }
@@ -146,8 +152,12 @@ fn stop_in(at: u64, error: ReadError) -> Stop
     }
 }
 
-/// What the payload of a record holds.
-pub fn decoded<P: Payload>(alloc: Global, found: &Record) -> Result<P, Stop>
+/// What the payload of a record holds. Several threads may read it, and the call returns where these return.
+pub fn decoded<P: Payload, R: Threads + Sync>(
+    rt: &R,
+    alloc: Global,
+    found: &Record,
+) -> Result<P, Stop>
     requires place { found.now.at ≤ 2 ^ 63 + 5 }
     requires fits { length found.now.payload ≤ most_bytes }
     ensures exact { Holds P.item found.now.at (payload_at P.TAG found.now.payload) result }
@@ -156,7 +166,7 @@ pub fn decoded<P: Payload>(alloc: Global, found: &Record) -> Result<P, Stop>
     ensures encoded { IfOk result (λ x. found.now.payload ≡ payload_of (P.item x)) }
     ensures known { IfOk result P.goes_with }
 {
-    match P::read(alloc, found.payload.items()) {
+    match P::read(rt, alloc, found.payload.items()) {
         Ok(x) => Ok(x),
         Err(error) => Err(stop_in(found.at, error)),
     }

@@ -12,6 +12,7 @@ ghost use Rattle.sx_record.specs.Stream.{Took};
 use crate::payloads::{Payload, decoded};
 use crate::stop::Stop;
 use std::alloc::Global;
+use std::thread::Threads;
 use sx_base::Source;
 use sx_bytes::{Form, FormFault};
 use sx_record::{Record, RecordFault, next_record};
@@ -93,7 +94,12 @@ pub struct Taken<P> {
 }
 
 /// What the next record holds, which has to be there and to have the tag of such.
-pub fn take<P: Payload, S: Source>(alloc: Global, source: &mut S, at: u64) -> Result<Taken<P>, Stop>
+pub fn take<P: Payload, R: Threads + Sync, S: Source>(
+    rt: &R,
+    alloc: Global,
+    source: &mut S,
+    at: u64,
+) -> Result<Taken<P>, Stop>
     requires { at ≤ 2 ^ 63 }
     ensures stops { IfErr result (Stops (item_at (needed P.TAG) at) (S.left source.old) (S.left source.new)) }
     ensures took { IfOk result (λ taken. Took (S.left source.old) (S.left source.new) (item_record (P.item taken.held))) }
@@ -108,7 +114,7 @@ pub fn take<P: Payload, S: Source>(alloc: Global, source: &mut S, at: u64) -> Re
     ensures kept { S.strict source.new ≡ S.strict source.old }
 {
     let found = required(alloc, source, at, P::TAG)?;
-    let held = decoded(alloc, &found)?;
+    let held = decoded(rt, alloc, &found)?;
     let end = end_of(&found);
     Ok(Taken { held, end })
 }

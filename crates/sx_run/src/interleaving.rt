@@ -13,6 +13,7 @@ ghost use Rattle.sx_meaning.specs.Items as item;
 ghost use Rattle.sx_tx.specs.Transactions.{IsTxList};
 
 use std::alloc::Global;
+use std::thread::Threads;
 use sx_base::Source;
 use sx_bytes::{NoMemory, Writer};
 use sx_check::Invalid;
@@ -78,14 +79,18 @@ fn outcomes(
 }
 
 // The record of what becomes of the candidates of the input.
-pub fn interleave<S: Source>(alloc: Global, source: &mut S) -> Result<Writer, Stop>
+pub fn interleave<R: Threads + Sync, S: Source>(
+    rt: &R,
+    alloc: Global,
+    source: &mut S,
+) -> Result<Writer, Stop>
     ensures found { Found Command.Interleave (S.left source.old) (S.left source.new) result }
     ensures steady { UnlessReadFault result (IsTrue (S.strict source.old) → S.faults source.new ≡ S.faults source.old) }
     ensures read_fault { IsErrOf result Stop.ReadFault → Rose (S.faults source.old) (S.faults source.new) }
 {
-    let opening = take::<Ledger, S>(alloc, source, 0)?;
-    let candidates = take::<TxList, S>(alloc, source, opening.end)?;
-    let script = take::<Script, S>(alloc, source, candidates.end)?;
+    let opening = take::<Ledger, R, S>(rt, alloc, source, 0)?;
+    let candidates = take::<TxList, R, S>(rt, alloc, source, opening.end)?;
+    let script = take::<Script, R, S>(rt, alloc, source, candidates.end)?;
     end(alloc, source, script.end)?;
     outcomes(alloc, &opening.held, &candidates.held, &script.held)
 }

@@ -7,6 +7,7 @@ ghost use Rattle.sx_input.specs.Stream.{UnlessReadFault};
 ghost use Rattle.sx_meaning.specs.Items as item;
 
 use std::alloc::Global;
+use std::thread::Threads;
 use sx_base::Source;
 use sx_bytes::Writer;
 use sx_input::{Stop, end, take, written};
@@ -23,12 +24,16 @@ fn newest(alloc: Global, ledger: Ledger) -> Result<Writer, Stop>
 }
 
 // The record of the state of the input in version 2.
-pub fn migrate<S: Source>(alloc: Global, source: &mut S) -> Result<Writer, Stop>
+pub fn migrate<R: Threads + Sync, S: Source>(
+    rt: &R,
+    alloc: Global,
+    source: &mut S,
+) -> Result<Writer, Stop>
     ensures found { Found Command.Migrate (S.left source.old) (S.left source.new) result }
     ensures steady { UnlessReadFault result (IsTrue (S.strict source.old) → S.faults source.new ≡ S.faults source.old) }
     ensures read_fault { IsErrOf result Stop.ReadFault → Rose (S.faults source.old) (S.faults source.new) }
 {
-    let opening = take::<Ledger, S>(alloc, source, 0)?;
+    let opening = take::<Ledger, R, S>(rt, alloc, source, 0)?;
     end(alloc, source, opening.end)?;
     newest(alloc, opening.held)
 }

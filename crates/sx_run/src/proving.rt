@@ -75,7 +75,7 @@ pub fn prove<R: Threads + Sync, S: Source>(
     ensures steady { UnlessReadFault result (IsTrue (S.strict source.old) → S.faults source.new ≡ S.faults source.old) }
     ensures read_fault { IsErrOf result Stop.ReadFault → Rose (S.faults source.old) (S.faults source.new) }
 {
-    let opening = take::<Ledger, S>(alloc, source, 0)?;
+    let opening = take::<Ledger, R, S>(rt, alloc, source, 0)?;
     end(alloc, source, opening.end)?;
     proved(rt, alloc, &opening.held, id)
 }

@@ -74,13 +74,13 @@ fn output_of<R: Threads + Sync, S: Source, G: Gate + Sync, L: Ledger>(
     match command {
         Command::Check => told(check(rt, alloc, source)),
         Command::Replay { workers } => recorded(replay(rt, alloc, workers, source)),
-        Command::Interleave => recorded(interleave(alloc, source)),
-        Command::Migrate => recorded(migrate(alloc, source)),
-        Command::Show => told(show(alloc, source)),
+        Command::Interleave => recorded(interleave(rt, alloc, source)),
+        Command::Migrate => recorded(migrate(rt, alloc, source)),
+        Command::Show => told(show(rt, alloc, source)),
         Command::Filter { workers } => recorded(filter(rt, alloc, workers, source)),
         Command::Prove { id } => recorded(prove(rt, alloc, id, source)),
-        Command::Verify => told(verify(alloc, source)),
-        Command::Follow => recorded(follow(alloc, source)),
+        Command::Verify => told(verify(rt, alloc, source)),
+        Command::Follow => recorded(follow(rt, alloc, source)),
         Command::Demo { number, workers } => {
             told(demonstrate(rt, alloc, number, workers, gate, steps))
         }
@@ -153,12 +153,14 @@ fn conclude<K: Sink>(sink: &mut K, found: Result<Output, Stop>) -> Status
 /// The gate is called before each candidate of a seal or a demonstration, and no clause depends on it.
 /// `steps` counts the searches of circulations, which these two alone make.
 ///
-/// `seal`, `filter`, `prove` and `demo` return where their worker threads return. For `check`, `replay` and `seal` a
-/// thread makes the digest of a state whose payload has 1 MiB or more while what follows is read, and the call waits for
+/// `seal`, `filter`, `prove` and `demo` return where their worker threads return. At most four threads share the reading
+/// of a state with many offers and of many candidates, and a call returns where these return. For `check`, `replay` and
+/// `seal` a thread makes the digest of a state whose payload has 1 MiB or more while what follows is read, and the call waits for
 /// it where it needs the digest; a call that stops before leaves the thread to end by itself. A block whose transactions
 /// take 256 KiB or more is decoded while a thread of its own makes their digest, and the call returns where that thread
-/// returns. Where no thread can be started, the two are done in turn. A block that meets many accounts or fills is
-/// applied by threads of its own, at most four for `check`, and the call returns where these return.
+/// returns. Where no thread can be started, the two are done in turn. What a block with many transactions names is looked
+/// up by threads, and a block that meets many accounts or fills is applied by threads, at most four for `check`; the
+/// call returns where these return.
 pub fn run<R: Threads + Sync, S: Source, K: Sink, G: Gate + Sync, L: Ledger>(
     rt: &R,
     alloc: Global,

@@ -13,6 +13,7 @@ ghost use Rattle.sx_record.specs.Decoding.{record_at};
 ghost use Rattle.sx_run.specs.Showing.{item_of};
 
 use std::alloc::Global;
+use std::thread::Threads;
 use sx_base::Source;
 use sx_bytes::Form;
 use sx_input::{Stop, decoded, end, end_of, next, stop_at};
@@ -47,7 +48,7 @@ fn first<S: Source>(alloc: Global, source: &mut S) -> Result<Record, Stop>
 }
 
 // What a record holds.
-fn shown(alloc: Global, found: &Record) -> Result<Shown, Stop>
+fn shown<R: Threads + Sync>(rt: &R, alloc: Global, found: &Record) -> Result<Shown, Stop>
     requires place { found.now.at ≤ 2 ^ 63 + 5 }
     requires fits { length found.now.payload ≤ most_bytes }
     requires listed { Contains shown_tags found.now.tag }
@@ -57,11 +58,11 @@ fn shown(alloc: Global, found: &Record) -> Result<Shown, Stop>
     ensures encoded { IfOk result (λ shown. found.now.payload ≡ payload_of (item_of shown)) }
 {
     match found.tag {
-        tag::STATE => Ok(Shown::State(decoded(alloc, found)?)),
-        tag::CANDIDATES => Ok(Shown::Candidates(decoded(alloc, found)?)),
-        tag::BLOCK => Ok(Shown::Block(decoded(alloc, found)?)),
-        tag::OUTCOMES => Ok(Shown::Outcomes(decoded(alloc, found)?)),
-        _ => Ok(Shown::Script(decoded(alloc, found)?)),
+        tag::STATE => Ok(Shown::State(decoded(rt, alloc, found)?)),
+        tag::CANDIDATES => Ok(Shown::Candidates(decoded(rt, alloc, found)?)),
+        tag::BLOCK => Ok(Shown::Block(decoded(rt, alloc, found)?)),
+        tag::OUTCOMES => Ok(Shown::Outcomes(decoded(rt, alloc, found)?)),
+        _ => Ok(Shown::Script(decoded(rt, alloc, found)?)),
     }
 }
 
@@ -75,13 +76,17 @@ fn text_of(alloc: Global, shown: &Shown) -> Result<Text, Stop>
 }
 
 // The text of what the record of the input holds.
-pub fn show<S: Source>(alloc: Global, source: &mut S) -> Result<Text, Stop>
+pub fn show<R: Threads + Sync, S: Source>(
+    rt: &R,
+    alloc: Global,
+    source: &mut S,
+) -> Result<Text, Stop>
     ensures found { Found Command.Show (S.left source.old) (S.left source.new) result }
     ensures steady { UnlessReadFault result (IsTrue (S.strict source.old) → S.faults source.new ≡ S.faults source.old) }
     ensures read_fault { IsErrOf result Stop.ReadFault → Rose (S.faults source.old) (S.faults source.new) }
 {
     let found = first(alloc, source)?;
-    let shown = shown(alloc, &found)?;
+    let shown = shown(rt, alloc, &found)?;
     end(alloc, source, end_of(&found))?;
     text_of(alloc, &shown)
 }

@@ -8,6 +8,7 @@ ghost use Rattle.sx_input.specs.Stream.{UnlessReadFault};
 ghost use Rattle.sx_meaning.specs.Items as item;
 
 use std::alloc::Global;
+use std::thread::Threads;
 use sx_base::Source;
 use sx_block::Digest;
 use sx_commit::Proof;
@@ -26,12 +27,16 @@ fn verdict(alloc: Global, root: &Digest, proof: &Proof) -> Result<Text, Stop>
 }
 
 // The line that tells whether the proof of the input is good for its root.
-pub fn verify<S: Source>(alloc: Global, source: &mut S) -> Result<Text, Stop>
+pub fn verify<R: Threads + Sync, S: Source>(
+    rt: &R,
+    alloc: Global,
+    source: &mut S,
+) -> Result<Text, Stop>
     ensures found { Found Command.Verify (S.left source.old) (S.left source.new) result }
     ensures steady { UnlessReadFault result (IsTrue (S.strict source.old) → S.faults source.new ≡ S.faults source.old) }
     ensures read_fault { IsErrOf result Stop.ReadFault → Rose (S.faults source.old) (S.faults source.new) }
 {
-    let claim = take::<(Digest, Proof), S>(alloc, source, 0)?;
+    let claim = take::<(Digest, Proof), R, S>(rt, alloc, source, 0)?;
     end(alloc, source, claim.end)?;
     let (root, proof) = &claim.held;
     verdict(alloc, root, proof)

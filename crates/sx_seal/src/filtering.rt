@@ -83,8 +83,8 @@ pub fn filter<R: Threads + Sync, S: Source>(
     ensures steady { UnlessReadFault result (IsTrue (S.strict source.old) → S.faults source.new ≡ S.faults source.old) }
     ensures read_fault { IsErrOf result Stop.ReadFault → Rose (S.faults source.old) (S.faults source.new) }
 {
-    let opening = take::<Ledger, S>(alloc, source, 0)?;
-    let candidates = take::<TxList, S>(alloc, source, opening.end)?;
+    let opening = take::<Ledger, R, S>(rt, alloc, source, 0)?;
+    let candidates = take::<TxList, R, S>(rt, alloc, source, opening.end)?;
     end(alloc, source, candidates.end)?;
     kept(rt, alloc, &opening.held, candidates.held, workers)
 }

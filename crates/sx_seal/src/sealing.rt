@@ -145,7 +145,7 @@ pub fn seal<R: Threads + Sync, S: Source, G: Gate + Sync, L: ledger::Ledger>(
     ensures rising { steps.old ≤ steps.new }
 {
     let opening = take_head(rt, alloc, source)?;
-    let candidates = take::<TxList, S>(alloc, source, opening.end)?;
+    let candidates = take::<TxList, R, S>(rt, alloc, source, opening.end)?;
     end(alloc, source, candidates.end)?;
     sealed(
         rt,

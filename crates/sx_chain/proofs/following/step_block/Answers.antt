@@ -3,7 +3,7 @@ use Rattle.sx_chain.proofs.Taking.{block_steps}
 use Rattle.sx_chain.proofs.following.step_block.Goals as goal
 
 pub returns : goal.returns
-returns c =
+returns g c =
     block_steps c.args.place c.args.found.now c.requires.place c.requires.found c.offer.new.self c.end_of.result
     c.in_ok-decoded.field-0 c.requires.tag
     (omega (arith, c.taken.ensures.number, c.if-taken-ge-MOST_BLOCKS.false)) c.in_ok-decoded.ensures.encoded
