@@ -11,10 +11,12 @@ use Rattle.sx_base.specs.declared.account_id.AccountId.{AccountId}
 use Rattle.sx_block.specs.declared.header.Block.{Block}
 use Rattle.sx_block.specs.Block.{IsBlock}
 use Rattle.sx_block.specs.Rule as rule
-use Rattle.sx_block.specs.Validity.{CutHolds, Holds, HoldsBefore, IsSound, IsValid, Rounds, digest_of_ledger}
-use Rattle.sx_block.specs.Validity.{flow_of_block, high_in, ledger_after, low_in, offers_of, undropped_low_in}
+use Rattle.sx_block.specs.Validity.{CutHolds, Holds, HoldsBefore, HoldsButParent, IsApplicable, IsValid, Rounds}
+use Rattle.sx_block.specs.Validity.{digest_of_ledger, flow_of_block, high_in, ledger_after, low_in, offers_of}
+use Rattle.sx_block.specs.Validity.{undropped_low_in}
 use Rattle.sx_block.proofs.FillLaws.{rounding_never_negative}
-use Rattle.sx_block.proofs.Rules.{body_is_admissible, one_more, rules_trade, sound_is_valid}
+use Rattle.sx_block.proofs.Rules.{applicable_is_sound, body_is_admissible, one_more_but, past_parent, rules_trade}
+use Rattle.sx_block.proofs.Rules.{sound_is_valid, with_parent}
 use Rattle.sx_body.specs.Overdraft.{IsFirstOverdrawn}
 use Rattle.sx_body.specs.Refusal.{IsFirstRefused}
 use Rattle.sx_body.specs.Repeats.{IsFirstRepeat, Repeats, cancels, creates, done_at}
@@ -22,13 +24,13 @@ use Rattle.sx_check.specs.declared.invalid.Invalid.{Invalid}
 use Rattle.sx_check.specs.declared.invalid.Invalid.TheVariants.{NoCut, Overdrawn, Overspent, Rounding}
 use Rattle.sx_check.specs.declared.invalid.Invalid.TheVariants.{WrongAfter}
 use Rattle.sx_check.specs.Laws.{EveryBlockIsJudged, IsRefused}
-use Rattle.sx_check.specs.Refusals.{RefusesEarly}
+use Rattle.sx_check.specs.Refusals.{RefusesButParent, RefusesEarly, rule_of}
 use Rattle.sx_check.proofs.MarketLaws.{fit_holds, misfit_refuses}
 use Rattle.sx_check.proofs.RepeatLaws.{cancels_distinct, creates_distinct}
 use Rattle.sx_check.proofs.Searches.{Decided, first_failing, first_of, first_pair, le_or_not, same_list_or_not}
 use Rattle.sx_check.proofs.Searches.{same_or_not}
-use Rattle.sx_check.proofs.Steps.{assets_hold, body_holds, cancels_hold, creates_hold, crowded, debits_hold, each_passes}
-use Rattle.sx_check.proofs.Steps.{ended, height_holds, parent_holds, two_cancels, two_names, tx_refused, wrong_assets}
+use Rattle.sx_check.proofs.Steps.{assets_hold, body_holds, cancels_hold, creates_hold, crowded, debits_hold}
+use Rattle.sx_check.proofs.Steps.{each_passes, ended, height_holds, two_cancels, two_names, tx_refused, wrong_assets}
 use Rattle.sx_check.proofs.Steps.{wrong_body, wrong_height, wrong_parent}
 use Rattle.sx_dual.specs.declared.cut.Cut.{Cut}
 use Rattle.sx_dual.specs.declared.misfit.Misfit.TheVariants as misfit
@@ -275,18 +277,24 @@ tight_or low high y potential sell buy =
 
 -- ---- one rule after the other
 
-module _ (parts : Parts) (block : Block) (is : IsLedger parts) (form : IsBlock block) where
+abbrev Judged : Parts → Block → Type 0
+Judged parts block = IsValid parts block ⊎ IsRefused parts block
+
+-- where the block names the ledger
+module _ (parts : Parts) (block : Block) (is : IsLedger parts) (form : IsBlock block)
+    (parent : Holds rule.Parent parts block) where
   abbrev n : ℕ
   n = assets_of parts
 
-  abbrev Judged : Type 0
-  Judged = IsValid parts block ⊎ IsRefused parts block
+  refused : (why : Invalid) → RefusesButParent parts block why → Judged parts block
+  refused why r = inr (record {
+    why = why;
+    refuses = record { before = with_parent parts block (rule_of why) parent r.before; breaks = r.breaks };
+  })
 
-  refused : (why : Invalid) → RefusesEarly parts block why → Judged
-  refused why early = inr (record { why = why; refuses = early.refuses })
-
-  with_rounding : IsSound parts block → Judged
-  with_rounding sound =
+  with_rounding : IsApplicable parts block → Judged parts block
+  with_rounding applicable =
+      let sound = applicable_is_sound parts block applicable parent in
       elim (same_list_or_not block.header.after (digest_of_ledger (ledger_after parts block))) [
         | inl same ↦ inl (sound_is_valid parts block sound same)
         | inr differ ↦ inr (record {
@@ -298,7 +306,7 @@ module _ (parts : Parts) (block : Block) (is : IsLedger parts) (form : IsBlock b
   rounds_or : (asset : ℕ) → Decided (Rounds parts block asset (slice_index block.header.rounding asset))
   rounds_or asset = same_or_not _ _
 
-  with_cut : HoldsBefore rule.Rounded parts block → Judged
+  with_cut : HoldsButParent rule.Rounded parts block → Judged parts block
   with_cut rules =
       elim (first_failing (λ asset. Rounds parts block asset (slice_index block.header.rounding asset)) rounds_or n) [
         | inl found ↦
@@ -316,7 +324,7 @@ module _ (parts : Parts) (block : Block) (is : IsLedger parts) (form : IsBlock b
             inr (record {
               why = Rounding asset said (out - into);
               refuses = record {
-                before = rules;
+                before = with_parent parts block rule.Rounded parent rules;
                 breaks = record {
                   there = found.is.below;
                   is_said = refl;
@@ -328,29 +336,32 @@ module _ (parts : Parts) (block : Block) (is : IsLedger parts) (form : IsBlock b
             })
         | inr all ↦ with_rounding (record {
           form = form;
-          rules = one_more rule.Rounded rule.After parts block refl rules all;
+          rules = one_more_but parts block rule.Rounded rule.After refl rules all;
         })
       ]
 
-  with_fit : HoldsBefore rule.Cut parts block → Judged
+  with_fit : HoldsButParent rule.Cut parts block → Judged parts block
   with_fit rules = at_cut block.header.dropped refl
     where
-      at_cut : (dropped : Option Cut) → block.header.dropped ≡ dropped → Judged
+      at_cut : (dropped : Option Cut) → block.header.dropped ≡ dropped → Judged parts block
       at_cut None none =
-          with_cut (one_more rule.Cut rule.Rounded parts block refl rules
+          with_cut (one_more_but parts block rule.Cut rule.Rounded refl rules
           (subst (CutHolds n (undropped_low_in parts block) (high_in parts block)) (sym none) tt))
       at_cut (Some cut) some =
           elim (cases_lt (sum_out n (high_in parts block) cut.0) (sum_in n (undropped_low_in parts block) cut.0)) [
             | inl lt ↦
-                with_cut (one_more rule.Cut rule.Rounded parts block refl rules
+                with_cut (one_more_but parts block rule.Cut rule.Rounded refl rules
                 (subst (CutHolds n (undropped_low_in parts block) (high_in parts block)) (sym some) lt))
             | inr le ↦ inr (record {
               why = NoCut cut;
-              refuses = record { before = rules; breaks = (some, λ lt. omega arith) };
+              refuses = record {
+                before = with_parent parts block rule.Cut parent rules;
+                breaks = (some, λ lt. omega arith);
+              };
             })
           ]
 
-  with_body : HoldsBefore rule.Within parts block → Judged
+  with_body : HoldsButParent rule.Within parts block → Judged parts block
   with_body rules =
       elim (first_pair n (IsWithin (low_in parts block) (high_in parts block) (flow_of_block block))
       (within_or (low_in parts block) (high_in parts block) (flow_of_block block))) [
@@ -378,7 +389,7 @@ module _ (parts : Parts) (block : Block) (is : IsLedger parts) (form : IsBlock b
         ]
       ]
 
-  with_room : PassAll parts block.txs → HoldsBefore rule.Covered parts block → Judged
+  with_room : PassAll parts block.txs → HoldsButParent rule.Covered parts block → Judged parts block
   with_room all rules =
       elim (overdraws parts block form all) [
         | inl found ↦
@@ -391,25 +402,31 @@ module _ (parts : Parts) (block : Block) (is : IsLedger parts) (form : IsBlock b
             elim (same_or_not block.header.version 1) [
               | inl one ↦ inr (record {
                 why = Overdrawn account asset opening taken;
-                refuses = record { before = rules; breaks = (one, first) };
+                refuses = record {
+                  before = with_parent parts block rule.Covered parent rules;
+                  breaks = (one, first);
+                };
               })
               | inr other ↦
                   let two : block.header.version ≡ 2 =
                   omega (arith, form.header.some_version, form.header.few_versions, other) in
                   inr (record {
                     why = Overspent account asset opening given taken;
-                    refuses = record { before = rules; breaks = (two, first) };
+                    refuses = record {
+                      before = with_parent parts block rule.Covered parent rules;
+                      breaks = (two, first);
+                    };
                   })
             ]
         | inr covered ↦ with_body (debits_hold parts block rules covered)
       ]
 
-  with_creations : PassAll parts block.txs → HoldsBefore rule.Room parts block → Judged
+  with_creations : PassAll parts block.txs → HoldsButParent rule.Room parts block → Judged parts block
   with_creations all rules =
       elim (le_or_not (length parts.accounts + length (created block.txs)) most_accounts) [
         | inl accounts ↦ elim (le_or_not (length parts.offers + length (made block.txs)) most_offers) [
           | inl offers ↦
-              with_room all (one_more rule.Room rule.Covered parts block refl rules (accounts, offers))
+              with_room all (one_more_but parts block rule.Room rule.Covered refl rules (accounts, offers))
           | inr not ↦ refused _ (crowded parts block (length parts.offers) (length (made block.txs)) most_offers rules
               (inr (accounts, record { is_there = refl; is_coming = refl; is_most = refl; above = above _ _ not })))
         ]
@@ -420,7 +437,7 @@ module _ (parts : Parts) (block : Block) (is : IsLedger parts) (form : IsBlock b
       above : (sum most : ℕ) → (sum ≤ most → ⊥) → most < sum
       above sum most not = elim (cases_lt most sum) [ inl lt ↦ lt | inr le ↦ absurd (not le) ]
 
-  with_each : PassAll parts block.txs → HoldsBefore rule.CancelsOnce parts block → Judged
+  with_each : PassAll parts block.txs → HoldsButParent rule.CancelsOnce parts block → Judged parts block
   with_each all rules =
       elim (first_repeat cancels same_key_or_not block.txs) [
         | inl found ↦ refused _ (two_cancels parts block found.place rules found.first)
@@ -432,7 +449,7 @@ module _ (parts : Parts) (block : Block) (is : IsLedger parts) (form : IsBlock b
             ]
       ]
 
-  with_header : HoldsBefore rule.Passes parts block → Judged
+  with_header : HoldsButParent rule.Passes parts block → Judged parts block
   with_header rules =
       elim (first_refused parts block.txs) [
         | inl found ↦ refused _ (tx_refused parts block found.index found.why rules found.first)
@@ -440,34 +457,42 @@ module _ (parts : Parts) (block : Block) (is : IsLedger parts) (form : IsBlock b
             (All-from_recursion (λ tx. static_of parts tx ≡ Ok tt) block.txs all))
       ]
 
-  with_height : HoldsBefore rule.Parent parts block → Judged
-  with_height rules =
-      elim (same_list_or_not block.header.parent (digest_of_ledger parts)) [
-        | inl parent ↦
-            let named = parent_holds parts block rules parent in
-            elim (same_list_or_not block.header.body (sha256 (list_bytes block.txs))) [
-              | inl body ↦
-                  let commits = body_holds parts block named body in
-                  elim (same_or_not (length block.header.prices) (assets_of parts)) [
-                    | inl same ↦ with_header (assets_hold parts block commits same)
-                    | inr differ ↦ refused _ (wrong_assets parts block (assets_of parts) (length block.header.prices)
-                        commits refl refl differ)
-                  ]
-              | inr differ ↦ refused _ (wrong_body parts block block.header.body (sha256 (list_bytes block.txs)) named
-                  refl refl differ)
+  with_parent_named : HoldsButParent rule.Body parts block → Judged parts block
+  with_parent_named rules =
+      elim (same_list_or_not block.header.body (sha256 (list_bytes block.txs))) [
+        | inl body ↦
+            let commits = body_holds parts block rules body in
+            elim (same_or_not (length block.header.prices) (assets_of parts)) [
+              | inl same ↦ with_header (assets_hold parts block commits same)
+              | inr differ ↦ refused _ (wrong_assets parts block (assets_of parts) (length block.header.prices)
+                  commits refl refl differ)
             ]
-        | inr differ ↦ refused _ (wrong_parent parts block block.header.parent (digest_of_ledger parts) rules refl refl
-            differ)
+        | inr differ ↦ refused _ (wrong_body parts block block.header.body (sha256 (list_bytes block.txs)) rules
+            refl refl differ)
       ]
 
-  judged : Judged
+-- before the ledger that it names is looked at
+module _ (parts : Parts) (block : Block) (is : IsLedger parts) (form : IsBlock block) where
+  refused_early : (why : Invalid) → RefusesEarly parts block why → Judged parts block
+  refused_early why early = inr (record { why = why; refuses = early.refuses })
+
+  with_height : HoldsBefore rule.Parent parts block → Judged parts block
+  with_height rules =
+      elim (same_list_or_not block.header.parent (digest_of_ledger parts)) [
+        | inl parent ↦ with_parent_named parts block is form parent (past_parent parts block rules)
+        | inr differ ↦ refused_early _ (wrong_parent parts block block.header.parent (digest_of_ledger parts) rules
+            refl refl differ)
+      ]
+
+  judged : Judged parts block
   judged =
       elim (cases_lt parts.height most_height) [
         | inl below ↦ elim (same_or_not block.header.height (parts.height + 1)) [
           | inl next ↦ with_height (height_holds parts block below next)
-          | inr differ ↦ refused _ (wrong_height parts block parts.height block.header.height below refl refl differ)
+          | inr differ ↦ refused_early _ (wrong_height parts block parts.height block.header.height below refl refl
+              differ)
         ]
-        | inr last ↦ refused _ (ended parts block (omega (arith, is.height)))
+        | inr last ↦ refused_early _ (ended parts block (omega (arith, is.height)))
       ]
 
 pub every_block_is_judged : EveryBlockIsJudged

@@ -4,11 +4,11 @@ use Rattle.std.specs.Prelude.{is_some}
 use Rattle.sx_apply.specs.Bounds.{HasBounds}
 use Rattle.sx_block.specs.declared.header.Block.{Block}
 use Rattle.sx_block.specs.Rule as rule
-use Rattle.sx_block.specs.Validity.{CutHolds, HoldsBefore, high_in, low_in, offers_of, undropped_low_in}
+use Rattle.sx_block.specs.Validity.{CutHolds, HoldsButParent, high_in, low_in, offers_of, undropped_low_in}
 use Rattle.sx_block.specs.ValidityLaws.{BlockFits}
-use Rattle.sx_block.proofs.Rules.{one_more}
+use Rattle.sx_block.proofs.Rules.{one_more_but}
 use Rattle.sx_check.specs.Invalid.{reason_of}
-use Rattle.sx_check.specs.Refusals.{IsBlockMisfit, RefusesEarly}
+use Rattle.sx_check.specs.Refusals.{IsBlockMisfit, RefusesButParent}
 use Rattle.sx_dual.specs.declared.cut.Cut.{Cut}
 use Rattle.sx_dual.specs.declared.misfit.Misfit.{Misfit}
 use Rattle.sx_dual.specs.declared.misfit.Misfit.TheVariants.{Outside, Unbalanced, Slack}
@@ -20,32 +20,35 @@ use Rattle.sx_ledger.specs.Ledger.{assets_of}
 
 -- ---- the reasons
 
-pub misfit_refuses : (parts : Parts) (block : Block) (misfit : Misfit) → HoldsBefore rule.Within parts block
-    → IsBlockMisfit parts block misfit → RefusesEarly parts block (reason_of misfit)
+pub misfit_refuses : (parts : Parts) (block : Block) (misfit : Misfit) → HoldsButParent rule.Within parts block
+    → IsBlockMisfit parts block misfit → RefusesButParent parts block (reason_of misfit)
 misfit_refuses parts block (Outside sell buy low high y) body m = record {
-  refuses = record { before = body; breaks = m };
+  before = body;
+  breaks = m;
   early = λ said real e. absurd cc;
+  other = λ said real e. absurd cc;
 }
 misfit_refuses parts block (Unbalanced asset out into) body m = record {
-  refuses = record { before = one_more rule.Within rule.Balanced parts block refl body m.0; breaks = m };
+  before = one_more_but parts block rule.Within rule.Balanced refl body m.0;
+  breaks = m;
   early = λ said real e. absurd cc;
+  other = λ said real e. absurd cc;
 }
 misfit_refuses parts block (Slack sell buy gain y) body m = record {
-  refuses = record {
-    before = one_more rule.Balanced rule.Tight parts block refl
-        (one_more rule.Within rule.Balanced parts block refl body m.0.within) m.0.balanced;
-    breaks = m;
-  };
+  before = one_more_but parts block rule.Balanced rule.Tight refl
+      (one_more_but parts block rule.Within rule.Balanced refl body m.0.within) m.0.balanced;
+  breaks = m;
   early = λ said real e. absurd cc;
+  other = λ said real e. absurd cc;
 }
 
 -- where the flow and the potentials fit, the three rules on them hold
-pub fit_holds : (parts : Parts) (block : Block) → HoldsBefore rule.Within parts block → BlockFits parts block
-    → HoldsBefore rule.Cut parts block
+pub fit_holds : (parts : Parts) (block : Block) → HoldsButParent rule.Within parts block → BlockFits parts block
+    → HoldsButParent rule.Cut parts block
 fit_holds parts block body fits =
-    one_more rule.Tight rule.Cut parts block refl
-    (one_more rule.Balanced rule.Tight parts block refl
-    (one_more rule.Within rule.Balanced parts block refl body fits.circulation.within) fits.circulation.balanced)
+    one_more_but parts block rule.Tight rule.Cut refl
+    (one_more_but parts block rule.Balanced rule.Tight refl
+    (one_more_but parts block rule.Within rule.Balanced refl body fits.circulation.within) fits.circulation.balanced)
     fits.tight
 
 -- where lower bounds are dropped they are all 0

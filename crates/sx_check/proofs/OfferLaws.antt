@@ -6,7 +6,7 @@ use Rattle.sx_apply.specs.Trading.{AreFills, CanTrade}
 use Rattle.sx_block.specs.declared.header.Block.{Block}
 use Rattle.sx_block.specs.Block.{IsBlock}
 use Rattle.sx_block.specs.Rule as rule
-use Rattle.sx_block.specs.Validity.{HoldsBefore, Rounds, flow_of_block, high_in, offers_of, undropped_low_in}
+use Rattle.sx_block.specs.Validity.{HoldsButParent, Rounds, flow_of_block, high_in, offers_of, undropped_low_in}
 use Rattle.sx_block.proofs.Rules.{body_is_admissible, rules_trade}
 use Rattle.sx_apply.specs.Bounds.{AreOffers, HasBounds}
 use Rattle.sx_apply.proofs.BoundLaws.{ledger_offers}
@@ -23,19 +23,19 @@ use Rattle.sx_ledger.proofs.BodyKeepsLedger.{body_keeps_ledger}
 use Rattle.sx_ledger.proofs.LaterBodies.{later_admits_more}
 
 -- the flow, the potentials and the rounding are of as many assets as the ledger has
-module _ (parts : Parts) (block : Block) (form : IsBlock block) (rules : HoldsBefore rule.Passes parts block) where
+module _ (parts : Parts) (block : Block) (form : IsBlock block) (rules : HoldsButParent rule.Passes parts block) where
   pub flow_assets : block.header.trades.assets ≡ assets_of parts
-  flow_assets = form.header.same_assets ∙ rules rule.Assets (omega arith)
+  flow_assets = form.header.same_assets ∙ rules rule.Assets (omega arith) (λ e. absurd cc)
 
   pub one_potential : length block.header.potentials ≡ assets_of parts
-  one_potential = form.header.one_potential ∙ rules rule.Assets (omega arith)
+  one_potential = form.header.one_potential ∙ rules rule.Assets (omega arith) (λ e. absurd cc)
 
   pub one_rounding : length block.header.rounding ≡ assets_of parts
-  one_rounding = form.header.one_rounding ∙ rules rule.Assets (omega arith)
+  one_rounding = form.header.one_rounding ∙ rules rule.Assets (omega arith) (λ e. absurd cc)
 
 -- the bounds of these offers, which are those after the transactions, are the block's
 pub bounds_are : (parts : Parts) (block : Block) (offers : List Offer) (bounds : BoundsTable)
-    → HoldsBefore rule.Within parts block → offers ≡ offers_of parts block
+    → HoldsButParent rule.Within parts block → offers ≡ offers_of parts block
     → HasBounds (length block.header.prices) (low_of block.header.prices block.header.mu false offers)
     (high_of block.header.prices offers) bounds
     → HasBounds (assets_of parts) (undropped_low_in parts block) (high_in parts block) bounds
@@ -43,15 +43,15 @@ bounds_are parts block offers bounds rules same has =
     subst (λ (os : List Offer). HasBounds (assets_of parts) (low_of block.header.prices block.header.mu false os)
     (high_of block.header.prices os) bounds) same
     (subst (λ (n : ℕ). HasBounds n (low_of block.header.prices block.header.mu false offers)
-    (high_of block.header.prices offers) bounds) (rules rule.Assets (omega arith)) has)
+    (high_of block.header.prices offers) bounds) (rules rule.Assets (omega arith) (λ e. absurd cc)) has)
 
 module _ (parts : Parts) (block : Block) (is : IsLedger parts) (form : IsBlock block) where
-  middle : HoldsBefore rule.Within parts block → IsLedger (body_after parts block.txs)
+  middle : HoldsButParent rule.Within parts block → IsLedger (body_after parts block.txs)
   middle rules =
       body_keeps_ledger block.header.version parts block.txs is form.each (body_is_admissible parts block form rules)
 
   -- the transactions are a body by the rule of version 2, whatever the version
-  pub is_body : HoldsBefore rule.Within parts block → IsAdmissibleIn 2 parts block.txs
+  pub is_body : HoldsButParent rule.Within parts block → IsAdmissibleIn 2 parts block.txs
   is_body rules =
       let body = body_is_admissible parts block form rules in
       elim (cases_order block.header.version 1) [
@@ -63,16 +63,17 @@ module _ (parts : Parts) (block : Block) (is : IsLedger parts) (form : IsBlock b
             subst (λ (v : ℕ). IsAdmissibleIn v parts block.txs) two body
       ]
 
-  are_offers : HoldsBefore rule.Within parts block → AreOffers (assets_of parts) (offers_of parts block)
+  are_offers : HoldsButParent rule.Within parts block → AreOffers (assets_of parts) (offers_of parts block)
   are_offers rules = ledger_offers (body_after parts block.txs) (middle rules)
 
   -- the same for the number of assets of the header
-  pub offers_of_header : HoldsBefore rule.Within parts block
+  pub offers_of_header : HoldsButParent rule.Within parts block
       → AreOffers (length block.header.prices) (offers_of parts block)
   offers_of_header rules =
-      subst (λ (n : ℕ). AreOffers n (offers_of parts block)) (sym (rules rule.Assets (omega arith))) (are_offers rules)
+      subst (λ (n : ℕ). AreOffers n (offers_of parts block)) (sym (rules rule.Assets (omega arith) (λ e. absurd cc)))
+      (are_offers rules)
 
-  pub can_trade : (offers : List Offer) → HoldsBefore rule.Cut parts block → offers ≡ offers_of parts block
+  pub can_trade : (offers : List Offer) → HoldsButParent rule.Cut parts block → offers ≡ offers_of parts block
       → CanTrade offers block.header.prices (flow_of_block block)
   can_trade offers rules same = record {
     parts = body_after parts block.txs;
@@ -81,13 +82,13 @@ module _ (parts : Parts) (block : Block) (is : IsLedger parts) (form : IsBlock b
     tradable = rules_trade parts block form rules;
   }
 
-  pub are_fills : (offers : List Offer) (fills : List Fill) → HoldsBefore rule.Cut parts block
+  pub are_fills : (offers : List Offer) (fills : List Fill) → HoldsButParent rule.Cut parts block
       → offers ≡ offers_of parts block
       → fills ≡ all_fills block.header.prices (flow_of_block block) offers → AreFills (assets_of parts) offers fills
   are_fills offers fills rules same are = record {
     prices = block.header.prices;
     flow = flow_of_block block;
-    same_assets = rules rule.Assets (omega arith);
+    same_assets = rules rule.Assets (omega arith) (λ e. absurd cc);
     can_trade = can_trade offers rules same;
     are = are;
   }

@@ -5,13 +5,14 @@ use Rattle.sx_block.specs.declared.header.Block.{Block}
 use Rattle.sx_block.specs.Rule.{rank}
 use Rattle.sx_block.specs.Rule as rule
 use Rattle.sx_block.specs.Validity.{CutHolds, Holds, high_in, undropped_low_in}
+use Rattle.sx_block.proofs.Rules.{up_to_parent}
 use Rattle.sx_body.proofs.Refusals.{none_refused}
 use Rattle.sx_check.specs.declared.invalid.Invalid.{Invalid}
 use Rattle.sx_check.specs.declared.invalid.Invalid.TheVariants.{Ended, WrongHeight, WrongParent, WrongBody}
 use Rattle.sx_check.specs.declared.invalid.Invalid.TheVariants.{WrongAssets, Tx, TwoCancels, TwoNames, Crowded}
 use Rattle.sx_check.specs.declared.invalid.Invalid.TheVariants.{Overdrawn, Overspent, Outside, Unbalanced, Slack, NoCut}
 use Rattle.sx_check.specs.declared.invalid.Invalid.TheVariants.{Rounding, WrongAfter}
-use Rattle.sx_check.specs.Laws.{OneReason, ValidIsNotRefused, WrongAfterRefuses}
+use Rattle.sx_check.specs.Laws.{OneReason, ValidIsNotRefused, WrongAfterRefuses, WrongParentRefuses}
 use Rattle.sx_check.specs.Refusals.{Breaks, IsCrowded, Refuses, rule_of}
 use Rattle.sx_check.proofs.RepeatLaws.{cancels_refuted, creates_refuted}
 use Rattle.sx_check.proofs.SameReason.{same_rule}
@@ -71,9 +72,17 @@ one_reason parts block one other r s =
       | inr (inr gt) ↦ absurd (apart parts block other one s r gt)
     ]
 
--- ---- the last reason
+-- ---- the reasons on the two digests of ledgers
 
 pub wrong_after_refuses : WrongAfterRefuses
 wrong_after_refuses parts block after why sound is wrong =
     subst (Refuses parts block) (sym wrong.is)
     (record { before = sound.rules; breaks = (refl, is, wrong.differ) })
+
+pub wrong_parent_refuses : WrongParentRefuses
+wrong_parent_refuses parts block parent why applicable is wrong =
+    subst (Refuses parts block) (sym wrong.is)
+    (record {
+      before = up_to_parent parts block rule.After (omega arith) applicable.rules;
+      breaks = (refl, is, wrong.differ);
+    })

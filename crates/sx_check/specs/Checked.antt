@@ -3,11 +3,11 @@ use Rattle.std.specs.Prelude.{◌≡◌, ◌≢◌, ℕ, List, length, is_some}
 use Rattle.sx_apply.specs.Effects.{AreEffects}
 use Rattle.sx_block.specs.declared.header.Block.{Block}
 use Rattle.sx_block.specs.declared.header.Header.{Header}
-use Rattle.sx_block.specs.Validity.{IsSound, flow_of_block}
+use Rattle.sx_block.specs.Validity.{IsApplicable, IsSound, flow_of_block}
 use Rattle.sx_check.specs.declared.checked.Checked.{Checked}
 use Rattle.sx_check.specs.declared.checked.Judged.{Judged}
 use Rattle.sx_check.specs.declared.invalid.Invalid.{Invalid}
-use Rattle.sx_check.specs.declared.invalid.Invalid.TheVariants.{WrongAfter}
+use Rattle.sx_check.specs.declared.invalid.Invalid.TheVariants.{WrongAfter, WrongParent}
 use Rattle.sx_dual.specs.Circulation.{traded_value}
 use Rattle.sx_ledger.specs.declared.parts.Parts.{Parts}
 
@@ -24,6 +24,17 @@ pub record IsJudged (parts : Parts) (block : Block) (judged : Judged) : Type 0 w
   pub sound : IsSound parts block
   pub checked : judged.checked ≡ checked_of block
   pub effects : AreEffects parts block judged.effects
+
+-- the block can be applied, and this is what it says and does
+pub record CanBeApplied (parts : Parts) (block : Block) (judged : Judged) : Type 0 where
+  pub applicable : IsApplicable parts block
+  pub checked : judged.checked ≡ checked_of block
+  pub effects : AreEffects parts block judged.effects
+
+-- the header names a ledger of another digest than this one as its parent, and the reason tells both
+pub record IsWrongParent (header : Header) (parent : List ℕ) (why : Invalid) : Type 0 where
+  pub is : why ≡ WrongParent header.parent parent
+  pub differ : header.parent ≢ parent
 
 -- the header says that the block leaves a ledger of another digest than this one, and the reason tells both
 pub record IsWrongAfter (header : Header) (after : List ℕ) (why : Invalid) : Type 0 where

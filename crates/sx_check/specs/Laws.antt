@@ -2,9 +2,9 @@
 use Rattle.std.specs.Prelude.{◌≡◌, ◌⊎◌, ℕ, List}
 use Rattle.sx_block.specs.declared.header.Block.{Block}
 use Rattle.sx_block.specs.Block.{IsBlock}
-use Rattle.sx_block.specs.Validity.{IsSound, IsValid, digest_of_ledger, ledger_after}
+use Rattle.sx_block.specs.Validity.{IsApplicable, IsSound, IsValid, digest_of_ledger, ledger_after}
 use Rattle.sx_check.specs.declared.invalid.Invalid.{Invalid}
-use Rattle.sx_check.specs.Checked.{IsWrongAfter}
+use Rattle.sx_check.specs.Checked.{IsWrongAfter, IsWrongParent}
 use Rattle.sx_check.specs.Refusals.{Refuses}
 use Rattle.sx_ledger.specs.declared.parts.Parts.{Parts}
 use Rattle.sx_ledger.specs.Ledger.{IsLedger}
@@ -25,6 +25,12 @@ WrongAfterRefuses =
     (parts : Parts) (block : Block) (after : List ℕ) (why : Invalid) → IsSound parts block →
     after ≡ digest_of_ledger (ledger_after parts block) → IsWrongAfter block.header after why →
     Refuses parts block why
+
+-- a block that can be applied is refused where it names another ledger as its parent
+abbrev pub WrongParentRefuses : Type 0
+WrongParentRefuses =
+    (parts : Parts) (block : Block) (parent : List ℕ) (why : Invalid) → IsApplicable parts block →
+    parent ≡ digest_of_ledger parts → IsWrongParent block.header parent why → Refuses parts block why
 
 -- each block is valid, or refused for some first reason
 pub record IsRefused (parts : Parts) (block : Block) : Type 0 where

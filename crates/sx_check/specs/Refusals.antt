@@ -5,8 +5,8 @@ use Rattle.sx_base.specs.declared.account_id.AccountId.{AccountId}
 use Rattle.sx_block.specs.declared.header.Block.{Block}
 use Rattle.sx_block.specs.Rule.{Rule}
 use Rattle.sx_block.specs.Rule as rule
-use Rattle.sx_block.specs.Validity.{HoldsBefore, Rounds, digest_of_ledger, flow_of_block, high_in, ledger_after, low_in}
-use Rattle.sx_block.specs.Validity.{undropped_low_in}
+use Rattle.sx_block.specs.Validity.{HoldsBefore, HoldsButParent, Rounds, digest_of_ledger, flow_of_block, high_in}
+use Rattle.sx_block.specs.Validity.{ledger_after, low_in, undropped_low_in}
 use Rattle.sx_body.specs.Overdraft.{IsFirstOverdrawn}
 use Rattle.sx_body.specs.Refusal.{IsFirstRefused}
 use Rattle.sx_body.specs.Repeats.{IsFirstRepeat, cancels, creates}
@@ -139,3 +139,16 @@ pub record RefusesEarly (parts : Parts) (block : Block) (why : Invalid) : Type 0
 abbrev pub ExplainsEarly : Parts → Block → CheckFault → Type 0
 ExplainsEarly parts block check_fault.NoMemory = Unit {0}
 ExplainsEarly parts block (check_fault.Invalid why) = RefusesEarly parts block why
+
+-- ---- what a check answers that does not know the digest of the ledger
+
+-- the first reason but for the one on that digest, and not the one for which the ledger after the block is needed
+pub record RefusesButParent (parts : Parts) (block : Block) (why : Invalid) : Type 0 where
+  pub before : HoldsButParent (rule_of why) parts block
+  pub breaks : Breaks parts block why
+  pub early : (said real : List ℕ) → why ≢ WrongAfter said real
+  pub other : (said real : List ℕ) → why ≢ WrongParent said real
+
+abbrev pub ExplainsButParent : Parts → Block → CheckFault → Type 0
+ExplainsButParent parts block check_fault.NoMemory = Unit {0}
+ExplainsButParent parts block (check_fault.Invalid why) = RefusesButParent parts block why

@@ -3,9 +3,9 @@
 ghost use Rattle.std.specs.Prelude.{IfErr, IfOk, OnOk};
 ghost use Rattle.sx_block.specs.Block.{IsBlock};
 ghost use Rattle.sx_block.specs.Rule as rule;
-ghost use Rattle.sx_block.specs.Validity.{HoldsBefore};
+ghost use Rattle.sx_block.specs.Validity.{HoldsButParent};
 ghost use Rattle.sx_body.specs.Tally.{IsTally};
-ghost use Rattle.sx_check.specs.Refusals.{ExplainsEarly, RefusesEarly};
+ghost use Rattle.sx_check.specs.Refusals.{ExplainsButParent, RefusesButParent};
 ghost use Rattle.sx_check.specs.Surveys.{IsSurvey, IsSurveyed};
 
 use crate::fault::CheckFault;
@@ -22,11 +22,11 @@ fn check_each(
     found: Result<Survey, PrecheckFault>,
 ) -> Result<Survey, CheckFault>
     requires form { IsBlock block.now }
-    requires header { HoldsBefore rule.Passes ledger.now block.now }
+    requires header { HoldsButParent rule.Passes ledger.now block.now }
     requires found { IsSurveyed ledger.now block.now.txs found }
-    ensures passes { OnOk result (HoldsBefore rule.CancelsOnce ledger.now block.now) }
+    ensures passes { OnOk result (HoldsButParent rule.CancelsOnce ledger.now block.now) }
     ensures survey { IfOk result (IsSurvey ledger.now block.now.txs) }
-    ensures refused { IfErr result (ExplainsEarly ledger.now block.now) }
+    ensures refused { IfErr result (ExplainsButParent ledger.now block.now) }
 {
     match found {
         Ok(survey) => Ok(survey),
@@ -42,9 +42,9 @@ fn check_each(
 fn check_cancellations(ledger: &Ledger, block: &Block, tally: &Tally) -> Result<(), Invalid>
     requires form { IsBlock block.now }
     requires tally { IsTally ledger.now block.now.txs tally.now }
-    requires passes { HoldsBefore rule.CancelsOnce ledger.now block.now }
-    ensures once { OnOk result (HoldsBefore rule.CreatesOnce ledger.now block.now) }
-    ensures refused { IfErr result (RefusesEarly ledger.now block.now) }
+    requires passes { HoldsButParent rule.CancelsOnce ledger.now block.now }
+    ensures once { OnOk result (HoldsButParent rule.CreatesOnce ledger.now block.now) }
+    ensures refused { IfErr result (RefusesButParent ledger.now block.now) }
 {
     match tally.cancelled_again() {
         Some(place) => Err(Invalid::TwoCancels {
@@ -58,9 +58,9 @@ fn check_cancellations(ledger: &Ledger, block: &Block, tally: &Tally) -> Result<
 fn check_creations(ledger: &Ledger, block: &Block, tally: &Tally) -> Result<(), Invalid>
     requires form { IsBlock block.now }
     requires tally { IsTally ledger.now block.now.txs tally.now }
-    requires cancels { HoldsBefore rule.CreatesOnce ledger.now block.now }
-    ensures once { OnOk result (HoldsBefore rule.Room ledger.now block.now) }
-    ensures refused { IfErr result (RefusesEarly ledger.now block.now) }
+    requires cancels { HoldsButParent rule.CreatesOnce ledger.now block.now }
+    ensures once { OnOk result (HoldsButParent rule.Room ledger.now block.now) }
+    ensures refused { IfErr result (RefusesButParent ledger.now block.now) }
 {
     match tally.created_again() {
         Some(place) => Err(Invalid::TwoNames {
@@ -74,9 +74,9 @@ fn check_creations(ledger: &Ledger, block: &Block, tally: &Tally) -> Result<(), 
 fn check_room(ledger: &Ledger, block: &Block, tally: &Tally) -> Result<(), Invalid>
     requires form { IsBlock block.now }
     requires tally { IsTally ledger.now block.now.txs tally.now }
-    requires creates { HoldsBefore rule.Room ledger.now block.now }
-    ensures room { OnOk result (HoldsBefore rule.Covered ledger.now block.now) }
-    ensures refused { IfErr result (RefusesEarly ledger.now block.now) }
+    requires creates { HoldsButParent rule.Room ledger.now block.now }
+    ensures room { OnOk result (HoldsButParent rule.Covered ledger.now block.now) }
+    ensures refused { IfErr result (RefusesButParent ledger.now block.now) }
 {
     let (have, more, limit) = (
         ledger.accounts(),
@@ -97,9 +97,9 @@ fn check_room(ledger: &Ledger, block: &Block, tally: &Tally) -> Result<(), Inval
 fn check_debits(ledger: &Ledger, block: &Block, tally: &Tally) -> Result<(), Invalid>
     requires form { IsBlock block.now }
     requires tally { IsTally ledger.now block.now.txs tally.now }
-    requires room { HoldsBefore rule.Covered ledger.now block.now }
-    ensures body { OnOk result (HoldsBefore rule.Within ledger.now block.now) }
-    ensures refused { IfErr result (RefusesEarly ledger.now block.now) }
+    requires room { HoldsButParent rule.Covered ledger.now block.now }
+    ensures body { OnOk result (HoldsButParent rule.Within ledger.now block.now) }
+    ensures refused { IfErr result (RefusesButParent ledger.now block.now) }
 {
     let version = block.header.version;
     let Some(overdraft) = tally.first_overdraft(ledger, version) else {
@@ -137,11 +137,11 @@ pub fn check_body(
     found: Result<Survey, PrecheckFault>,
 ) -> Result<Survey, CheckFault>
     requires form { IsBlock block.now }
-    requires header { HoldsBefore rule.Passes ledger.now block.now }
+    requires header { HoldsButParent rule.Passes ledger.now block.now }
     requires found { IsSurveyed ledger.now block.now.txs found }
-    ensures body { OnOk result (HoldsBefore rule.Within ledger.now block.now) }
+    ensures body { OnOk result (HoldsButParent rule.Within ledger.now block.now) }
     ensures survey { IfOk result (IsSurvey ledger.now block.now.txs) }
-    ensures refused { IfErr result (ExplainsEarly ledger.now block.now) }
+    ensures refused { IfErr result (ExplainsButParent ledger.now block.now) }
 {
     let survey = check_each(ledger, block, found)?;
     let tally = &survey.tally;

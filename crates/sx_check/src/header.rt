@@ -4,20 +4,22 @@ ghost use Rattle.std.specs.Prelude.{◌≡◌, IfErr, OnOk};
 ghost use Rattle.sha2.specs.Sha256.{sha256};
 ghost use Rattle.sx_block.specs.Block.{IsBlock};
 ghost use Rattle.sx_block.specs.Rule as rule;
-ghost use Rattle.sx_block.specs.Validity.{HoldsBefore, digest_of_ledger};
-ghost use Rattle.sx_check.specs.Refusals.{RefusesEarly};
+ghost use Rattle.sx_block.specs.Validity.{HoldsBefore, HoldsButParent, digest_of_ledger};
+ghost use Rattle.sx_check.specs.Checked.{IsWrongParent};
+ghost use Rattle.sx_check.specs.Refusals.{RefusesButParent, RefusesEarly};
 ghost use Rattle.sx_ledger.specs.Ledger.{IsLedger};
 ghost use Rattle.sx_tx.specs.Transactions.{list_bytes};
 
 use crate::invalid::Invalid;
-use sx_block::{Block, Digest};
+use sx_block::{Block, Digest, Header};
 use sx_ledger::Ledger;
 
-// The block has the next height.
-#[tactic(auto, using(crate::proofs::Steps::ended, crate::proofs::Steps::wrong_height, crate::proofs::Steps::height_holds))]
-fn check_height(ledger: &Ledger, block: &Block) -> Result<(), Invalid>
+// The block has the next height. The reasons here come before the one on the digest of the ledger.
+#[tactic(auto, using(crate::proofs::Steps::ended, crate::proofs::Steps::wrong_height, crate::proofs::Steps::ended_but, crate::proofs::Steps::wrong_height_but, crate::proofs::Steps::height_holds))]
+pub fn check_height(ledger: &Ledger, block: &Block) -> Result<(), Invalid>
     ensures next { OnOk result (HoldsBefore rule.Parent ledger.now block.now) }
     ensures refused { IfErr result (RefusesEarly ledger.now block.now) }
+    ensures whatever_parent { IfErr result (RefusesButParent ledger.now block.now) }
 {
     let have = ledger.height();
     let said = block.header.height;
@@ -30,15 +32,13 @@ fn check_height(ledger: &Ledger, block: &Block) -> Result<(), Invalid>
     Ok(())
 }
 
-// And it names the ledger, whose digest is `parent`.
-#[tactic(auto, using(crate::proofs::Steps::wrong_parent, crate::proofs::Steps::parent_holds))]
-fn check_parent(ledger: &Ledger, block: &Block, parent: &Digest) -> Result<(), Invalid>
-    requires parent { parent.now ≡ digest_of_ledger ledger.now }
-    ensures named { OnOk result (HoldsBefore rule.Body ledger.now block.now) }
-    ensures refused { IfErr result (RefusesEarly ledger.now block.now) }
+/// Whether the block follows the ledger that its header says: Ok exactly where `parent`, the digest of the ledger, is
+/// the one of the header, and else `WrongParent` with both.
+pub fn named(header: &Header, parent: &Digest) -> Result<(), Invalid>
+    ensures same { OnOk result (header.now.parent ≡ parent.now) }
+    ensures differ { IfErr result (IsWrongParent header.now parent.now) }
 {
-    check_height(ledger, block)?;
-    let said = block.header.parent;
+    let said = header.parent;
     let real = *parent;
     if said != real {
         return Err(Invalid::WrongParent { said, real });
@@ -46,20 +46,25 @@ fn check_parent(ledger: &Ledger, block: &Block, parent: &Digest) -> Result<(), I
     Ok(())
 }
 
-// And it names its transactions, whose digest is `body`.
-#[tactic(auto, using(crate::proofs::Steps::wrong_body, crate::proofs::Steps::body_holds))]
-fn check_commitments(
-    ledger: &Ledger,
-    block: &Block,
-    parent: &Digest,
-    body: &Digest,
-) -> Result<(), Invalid>
+// And it names the ledger, whose digest is `parent`.
+#[tactic(auto, using(crate::proofs::Steps::wrong_parent, crate::proofs::Steps::parent_holds))]
+pub fn check_parent(ledger: &Ledger, block: &Block, parent: &Digest) -> Result<(), Invalid>
     requires parent { parent.now ≡ digest_of_ledger ledger.now }
-    requires body { body.now ≡ sha256 (list_bytes block.now.txs) }
-    ensures named { OnOk result (HoldsBefore rule.Assets ledger.now block.now) }
+    ensures named { OnOk result (HoldsBefore rule.Body ledger.now block.now) }
     ensures refused { IfErr result (RefusesEarly ledger.now block.now) }
 {
-    check_parent(ledger, block, parent)?;
+    check_height(ledger, block)?;
+    named(&block.header, parent)
+}
+
+// The block of the next height names its transactions, whose digest is `body`.
+#[tactic(auto, using(crate::proofs::Steps::wrong_body, crate::proofs::Steps::body_holds))]
+fn check_commitment(ledger: &Ledger, block: &Block, body: &Digest) -> Result<(), Invalid>
+    requires height { HoldsButParent rule.Body ledger.now block.now }
+    requires body { body.now ≡ sha256 (list_bytes block.now.txs) }
+    ensures named { OnOk result (HoldsButParent rule.Assets ledger.now block.now) }
+    ensures refused { IfErr result (RefusesButParent ledger.now block.now) }
+{
     let said = block.header.body;
     let real = *body;
     if said != real {
@@ -68,23 +73,18 @@ fn check_commitments(
     Ok(())
 }
 
-// The header is one for the ledger: it has the next height, the ledger and the transactions have the
-// digests that it says, and it speaks of as many assets.
+// The header of a block of the next height is one for the ledger, whatever ledger it names: the transactions have the
+// digest that it says, and it speaks of as many assets.
 #[tactic(auto, using(crate::proofs::Steps::wrong_assets, crate::proofs::Steps::assets_hold))]
-pub fn check_header(
-    ledger: &Ledger,
-    block: &Block,
-    parent: &Digest,
-    body: &Digest,
-) -> Result<(), Invalid>
+pub fn check_header(ledger: &Ledger, block: &Block, body: &Digest) -> Result<(), Invalid>
     requires form { IsBlock block.now }
-    requires parent { parent.now ≡ digest_of_ledger ledger.now }
+    requires height { HoldsButParent rule.Body ledger.now block.now }
     requires body { body.now ≡ sha256 (list_bytes block.now.txs) }
     ensures kept { OnOk result (IsLedger ledger.now) }
-    ensures for_ledger { OnOk result (HoldsBefore rule.Passes ledger.now block.now) }
-    ensures refused { IfErr result (RefusesEarly ledger.now block.now) }
+    ensures for_ledger { OnOk result (HoldsButParent rule.Passes ledger.now block.now) }
+    ensures refused { IfErr result (RefusesButParent ledger.now block.now) }
 {
-    check_commitments(ledger, block, parent, body)?;
+    check_commitment(ledger, block, body)?;
     let have = ledger.assets();
     let said = block.header.prices.items().len() as u32;
     if said != have {

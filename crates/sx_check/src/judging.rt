@@ -4,9 +4,10 @@ ghost use Rattle.std.specs.Prelude.{◌≡◌, ◌≢◌, IfErr, IfOk, OnOk};
 ghost use Rattle.sha2.specs.Sha256.{sha256};
 ghost use Rattle.sx_block.specs.Block.{IsBlock};
 ghost use Rattle.sx_block.specs.Rule as rule;
-ghost use Rattle.sx_block.specs.Validity.{HoldsBefore, IsSound, IsValid, digest_of_ledger, ledger_after};
-ghost use Rattle.sx_check.specs.Checked.{IsJudged, IsWrongAfter, checked_of};
-ghost use Rattle.sx_check.specs.Refusals.{Explains, ExplainsEarly, Refuses};
+ghost use Rattle.sx_block.specs.Validity.{HoldsButParent, IsSound, IsValid, digest_of_ledger, ledger_after};
+ghost use Rattle.sx_check.specs.Checked.{CanBeApplied, IsJudged, IsWrongAfter, checked_of};
+ghost use Rattle.sx_check.specs.Refusals.{Explains, ExplainsButParent, ExplainsEarly, Refuses};
+ghost use Rattle.sx_check.specs.Refusals.{RefusesButParent, RefusesEarly};
 ghost use Rattle.sx_check.specs.Surveys.{IsSurveyed};
 ghost use Rattle.sx_ledger.specs.Ledger.{IsLedger};
 ghost use Rattle.sx_tx.specs.Transactions.{list_bytes};
@@ -14,7 +15,7 @@ ghost use Rattle.sx_tx.specs.Transactions.{list_bytes};
 use crate::body::check_body;
 use crate::checked::{Checked, Judged};
 use crate::fault::CheckFault;
-use crate::header::check_header;
+use crate::header::{check_header, check_height, check_parent, named};
 use crate::invalid::Invalid;
 use crate::market::check_market;
 use crate::rounding::check_rounding;
@@ -37,7 +38,8 @@ fn checked(block: &Block) -> Checked
     }
 }
 
-// The rest of a judgement, once the header is one for the ledger and this was found of the transactions.
+// The rest of a judgement, once the header is one for the ledger, whatever ledger it names, and this was found of the
+// transactions.
 fn judge_body(
     alloc: Global,
     ledger: &Ledger,
@@ -46,10 +48,10 @@ fn judge_body(
 ) -> Result<Judged, CheckFault>
     requires form { IsBlock block.now }
     requires kept { IsLedger ledger.now }
-    requires header { HoldsBefore rule.Passes ledger.now block.now }
+    requires header { HoldsButParent rule.Passes ledger.now block.now }
     requires found { IsSurveyed ledger.now block.now.txs found }
-    ensures judged { IfOk result (IsJudged ledger.now block.now) }
-    ensures refused { IfErr result (ExplainsEarly ledger.now block.now) }
+    ensures judged { IfOk result (CanBeApplied ledger.now block.now) }
+    ensures refused { IfErr result (ExplainsButParent ledger.now block.now) }
 {
     let Survey { tally, offers } = check_body(ledger, block, found)?;
     check_market(alloc, ledger, block, offers.items())?;
@@ -62,6 +64,24 @@ fn judge_body(
             fills,
         },
     })
+}
+
+// The rest of a judgement, once the height is the next one and, where that is asked for, the ledger is named.
+fn judge_rest(
+    alloc: Global,
+    ledger: &Ledger,
+    block: &Block,
+    body: &Digest,
+) -> Result<Judged, CheckFault>
+    requires form { IsBlock block.now }
+    requires height { HoldsButParent rule.Body ledger.now block.now }
+    requires body { body.now ≡ sha256 (list_bytes block.now.txs) }
+    ensures judged { IfOk result (CanBeApplied ledger.now block.now) }
+    ensures refused { IfErr result (ExplainsButParent ledger.now block.now) }
+{
+    check_header(ledger, block, body)?;
+    let found = survey_of(alloc, ledger, block.txs.items());
+    judge_body(alloc, ledger, block, found)
 }
 
 /// Judges a block on a ledger by all but the digest of the ledger that it leaves: Ok exactly where the
@@ -83,30 +103,68 @@ pub fn judge(
     ensures judged { IfOk result (IsJudged ledger.now block.now) }
     ensures refused { IfErr result (ExplainsEarly ledger.now block.now) }
 {
-    check_header(ledger, block, parent, body)?;
-    let found = survey_of(alloc, ledger, block.txs.items());
-    judge_body(alloc, ledger, block, found)
+    check_parent(ledger, block, parent)?;
+    judge_rest(alloc, ledger, block, body)
 }
 
-/// The same for a caller that has the survey of the transactions already, by [`survey_of`], as one does that has
-/// another thread make their digest meanwhile. `found` is what that call answered.
-pub fn judge_surveyed(
+/// Judges a block on a ledger whose digest is not known yet: Ok exactly where the block is valid but for the digests of
+/// the ledgers before and after it, so that it can be applied, with what it does to the ledger. Else it answers the
+/// first reason but for `WrongParent`, which is any but that and `WrongAfter`: once the digest of the ledger is known,
+/// [`first_reason`] tells the first of all. A block that can be applied follows the ledger where [`named`] says so.
+///
+/// `body` is the digest of the block's transactions and `found` what [`survey_of`] answered for them. The block has the
+/// form of one, as those have that are read.
+pub fn judge_applicable(
     alloc: Global,
     ledger: &Ledger,
     block: &Block,
-    parent: &Digest,
     body: &Digest,
     found: Result<Survey, PrecheckFault>,
 ) -> Result<Judged, CheckFault>
     requires form { IsBlock block.now }
-    requires parent { parent.now ≡ digest_of_ledger ledger.now }
     requires body { body.now ≡ sha256 (list_bytes block.now.txs) }
     requires found { IsSurveyed ledger.now block.now.txs found }
-    ensures judged { IfOk result (IsJudged ledger.now block.now) }
-    ensures refused { IfErr result (ExplainsEarly ledger.now block.now) }
+    ensures judged { IfOk result (CanBeApplied ledger.now block.now) }
+    ensures refused { IfErr result (ExplainsButParent ledger.now block.now) }
 {
-    check_header(ledger, block, parent, body)?;
+    check_height(ledger, block)?;
+    check_header(ledger, block, body)?;
     judge_body(alloc, ledger, block, found)
+}
+
+// The first reason, where this is the first but for the one on the digest of the ledger, which is `parent`.
+fn first_invalid(ledger: &Ledger, block: &Block, parent: &Digest, why: Invalid) -> Invalid
+    requires parent { parent.now ≡ digest_of_ledger ledger.now }
+    requires why { RefusesButParent ledger.now block.now why }
+    ensures { RefusesEarly ledger.now block.now result }
+{
+    // The two reasons on the height come before.
+    if why.number() < 3 {
+        return why;
+    }
+    match named(&block.header, parent) {
+        Ok(()) => why,
+        Err(earlier) => earlier,
+    }
+}
+
+/// The first reason, once the digest of the ledger is known, why a block is refused that [`judge_applicable`] refused
+/// for `fault`: the reasons on the height come before `WrongParent`, and all others after it. `NoMemory` stays.
+/// `parent` is the digest of the ledger.
+pub fn first_reason(
+    ledger: &Ledger,
+    block: &Block,
+    parent: &Digest,
+    fault: CheckFault,
+) -> CheckFault
+    requires parent { parent.now ≡ digest_of_ledger ledger.now }
+    requires fault { ExplainsButParent ledger.now block.now fault }
+    ensures { ExplainsEarly ledger.now block.now result }
+{
+    let CheckFault::Invalid(why) = fault else {
+        return fault;
+    };
+    CheckFault::Invalid(first_invalid(ledger, block, parent, why))
 }
 
 /// Whether the block leaves the ledger that its header says: Ok exactly where `after`, the digest of

@@ -2,11 +2,14 @@
 //!
 //! [`check`] answers Ok exactly where a block is valid for a ledger, and else the first of seventeen
 //! reasons, [`Invalid`], in the order of their numbers, but that the last stands in the place
-//! of the tenth where the block is of version 2. [`judge`] is the same up to `WrongAfter`,
-//! with the effects that an execution need not compute again, and [`close`] is that one, once the
-//! ledger after the block is known. [`survey_of`] is the part of it that needs no header, and [`judge_surveyed`]
-//! the rest. [`check_laws`] says that each block is valid or has one first
+//! of the tenth where the block is of version 2. [`check_laws`] says that each block is valid or has one first
 //! reason, and never both.
+//!
+//! A caller that applies blocks does the same in steps. [`judge`] is all of it but `WrongAfter`, with the effects that
+//! an execution need not compute again, and [`close`] is that reason, once the ledger after the block is known.
+//! [`judge_applicable`] needs no digest of the ledger: a block of which it says Ok can be applied, and then [`named`] and
+//! [`close`] are what is left. Where it refuses a block, [`first_reason`] tells the first reason once that digest is
+//! known. [`survey_of`] is the part of it that needs no header.
 //!
 //! A header needs not be trusted: that no circulation trades more value follows from its potentials,
 //! and that lower bounds could not be kept from its cut. No solver, book or curve is used.
@@ -30,7 +33,8 @@ mod survey;
 
 pub use checked::{Checked, Judged};
 pub use fault::CheckFault;
+pub use header::named;
 pub use invalid::Invalid;
-pub use judging::{check, close, judge, judge_surveyed};
+pub use judging::{check, close, first_reason, judge, judge_applicable};
 pub use laws::check_laws;
 pub use survey::{Survey, survey_of};

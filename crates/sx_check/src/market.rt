@@ -3,9 +3,9 @@
 ghost use Rattle.std.specs.Prelude.{◌≡◌, Some, None, IfErr, OnOk};
 ghost use Rattle.sx_block.specs.Block.{IsBlock};
 ghost use Rattle.sx_block.specs.Rule as rule;
-ghost use Rattle.sx_block.specs.Validity.{HoldsBefore, high_in, low_in, offers_of, undropped_low_in};
+ghost use Rattle.sx_block.specs.Validity.{HoldsButParent, high_in, low_in, offers_of, undropped_low_in};
 ghost use Rattle.sx_apply.specs.Bounds.{HasBounds};
-ghost use Rattle.sx_check.specs.Refusals.{ExplainsEarly, RefusesEarly};
+ghost use Rattle.sx_check.specs.Refusals.{ExplainsButParent, RefusesButParent};
 ghost use Rattle.sx_ledger.specs.Ledger.{IsLedger, assets_of};
 
 use crate::fault::CheckFault;
@@ -19,10 +19,10 @@ use sx_ledger::{Ledger, Offer};
 // The flow and the potentials fit the bounds.
 fn check_fit(ledger: &Ledger, block: &Block, bounds: &Bounds) -> Result<(), Invalid>
     requires form { IsBlock block.now }
-    requires body { HoldsBefore rule.Within ledger.now block.now }
+    requires body { HoldsButParent rule.Within ledger.now block.now }
     requires bounds { HasBounds (assets_of ledger.now) (low_in ledger.now block.now) (high_in ledger.now block.now) bounds.now }
-    ensures fits { OnOk result (HoldsBefore rule.Cut ledger.now block.now) }
-    ensures refused { IfErr result (RefusesEarly ledger.now block.now) }
+    ensures fits { OnOk result (HoldsButParent rule.Cut ledger.now block.now) }
+    ensures refused { IfErr result (RefusesButParent ledger.now block.now) }
 {
     match fits(bounds, &block.header.trades, &block.header.potentials) {
         Ok(()) => Ok(()),
@@ -33,11 +33,11 @@ fn check_fit(ledger: &Ledger, block: &Block, bounds: &Bounds) -> Result<(), Inva
 // The same where the header says that lower bounds were dropped, and its cut shows why.
 fn check_dropped(ledger: &Ledger, block: &Block, bounds: Bounds, cut: Cut) -> Result<(), Invalid>
     requires form { IsBlock block.now }
-    requires body { HoldsBefore rule.Within ledger.now block.now }
+    requires body { HoldsButParent rule.Within ledger.now block.now }
     requires dropped { block.now.header.dropped ≡ Some cut }
     requires bounds { HasBounds (assets_of ledger.now) (undropped_low_in ledger.now block.now) (high_in ledger.now block.now) bounds }
-    ensures cut { OnOk result (HoldsBefore rule.Rounded ledger.now block.now) }
-    ensures refused { IfErr result (RefusesEarly ledger.now block.now) }
+    ensures cut { OnOk result (HoldsButParent rule.Rounded ledger.now block.now) }
+    ensures refused { IfErr result (RefusesButParent ledger.now block.now) }
 {
     let is_cut = cuts(&bounds, cut);
     check_fit(ledger, block, &without_low(bounds))?;
@@ -50,11 +50,11 @@ fn check_dropped(ledger: &Ledger, block: &Block, bounds: Bounds, cut: Cut) -> Re
 // The same where lower bounds were kept.
 fn check_kept(ledger: &Ledger, block: &Block, bounds: &Bounds) -> Result<(), Invalid>
     requires form { IsBlock block.now }
-    requires body { HoldsBefore rule.Within ledger.now block.now }
+    requires body { HoldsButParent rule.Within ledger.now block.now }
     requires kept { block.now.header.dropped ≡ None }
     requires bounds { HasBounds (assets_of ledger.now) (undropped_low_in ledger.now block.now) (high_in ledger.now block.now) bounds.now }
-    ensures cut { OnOk result (HoldsBefore rule.Rounded ledger.now block.now) }
-    ensures refused { IfErr result (RefusesEarly ledger.now block.now) }
+    ensures cut { OnOk result (HoldsButParent rule.Rounded ledger.now block.now) }
+    ensures refused { IfErr result (RefusesButParent ledger.now block.now) }
 {
     check_fit(ledger, block, bounds)
 }
@@ -69,10 +69,10 @@ pub fn check_market(
 ) -> Result<(), CheckFault>
     requires kept { IsLedger ledger.now }
     requires form { IsBlock block.now }
-    requires body { HoldsBefore rule.Within ledger.now block.now }
+    requires body { HoldsButParent rule.Within ledger.now block.now }
     requires offers { offers.now ≡ offers_of ledger.now block.now }
-    ensures cut { OnOk result (HoldsBefore rule.Rounded ledger.now block.now) }
-    ensures refused { IfErr result (ExplainsEarly ledger.now block.now) }
+    ensures cut { OnOk result (HoldsButParent rule.Rounded ledger.now block.now) }
+    ensures refused { IfErr result (ExplainsButParent ledger.now block.now) }
 {
     let bounds = bounds_of(alloc, offers, &block.header.prices, block.header.mu)?;
     match block.header.dropped {

@@ -3,8 +3,8 @@
 ghost use Rattle.std.specs.Prelude.{◌≡◌, ◌≢◌, ℕ, ◌<◌, length, slice_index, IfErr, IfNone, IfOk, IfSome, OnOk};
 ghost use Rattle.sx_block.specs.Block.{IsBlock};
 ghost use Rattle.sx_block.specs.Rule as rule;
-ghost use Rattle.sx_block.specs.Validity.{HoldsBefore, IsSound, Rounds, flow_of_block, offers_of};
-ghost use Rattle.sx_check.specs.Refusals.{ExplainsEarly, RefusesEarly};
+ghost use Rattle.sx_block.specs.Validity.{HoldsButParent, IsApplicable, Rounds, flow_of_block, offers_of};
+ghost use Rattle.sx_check.specs.Refusals.{ExplainsButParent, RefusesButParent};
 ghost use Rattle.sx_fill.specs.AllFills.{all_fills};
 ghost use Rattle.sx_ledger.specs.Ledger.{assets_of};
 
@@ -35,11 +35,11 @@ fn first_difference(one: &[u64], other: &[u64]) -> Option<usize>
 // The block says of each asset what rounding keeps of it, `kept`.
 fn check_kept(ledger: &Ledger, block: &Block, kept: &[u64]) -> Result<(), Invalid>
     requires form { IsBlock block.now }
-    requires cut { HoldsBefore rule.Rounded ledger.now block.now }
+    requires cut { HoldsButParent rule.Rounded ledger.now block.now }
     requires one_each { length kept.now ≡ assets_of ledger.now }
     requires kept { (asset : ℕ) → asset < assets_of ledger.now → Rounds ledger.now block.now asset (slice_index kept.now asset) }
-    ensures sound { OnOk result (IsSound ledger.now block.now) }
-    ensures refused { IfErr result (RefusesEarly ledger.now block.now) }
+    ensures applicable { OnOk result (IsApplicable ledger.now block.now) }
+    ensures refused { IfErr result (RefusesButParent ledger.now block.now) }
 {
     let said = block.header.rounding.items();
     if let Some(place) = first_difference(said, kept) {
@@ -61,11 +61,11 @@ pub fn check_rounding(
     offers: &[Offer],
 ) -> Result<Fills, CheckFault>
     requires form { IsBlock block.now }
-    requires cut { HoldsBefore rule.Rounded ledger.now block.now }
+    requires cut { HoldsButParent rule.Rounded ledger.now block.now }
     requires offers { offers.now ≡ offers_of ledger.now block.now }
-    ensures sound { OnOk result (IsSound ledger.now block.now) }
+    ensures applicable { OnOk result (IsApplicable ledger.now block.now) }
     ensures fills { IfOk result (λ fills. fills ≡ all_fills block.now.header.prices (flow_of_block block.now) (offers_of ledger.now block.now)) }
-    ensures refused { IfErr result (ExplainsEarly ledger.now block.now) }
+    ensures refused { IfErr result (ExplainsButParent ledger.now block.now) }
 {
     let assets = ledger.assets();
     let header = &block.header;

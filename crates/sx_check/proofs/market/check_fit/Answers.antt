@@ -1,6 +1,6 @@
 use Rattle.std.proofs.Common.{refl, sym, subst, ◌∙◌, arith}
 use Rattle.sx_block.specs.Validity.{flow_of_block, high_in, low_in}
-use Rattle.sx_check.specs.Refusals.{RefusesEarly}
+use Rattle.sx_check.specs.Refusals.{RefusesButParent}
 use Rattle.sx_apply.proofs.SameBounds.{fits_from, misfit_from}
 use Rattle.sx_check.proofs.MarketLaws.{fit_holds, misfit_refuses}
 use Rattle.sx_check.proofs.OfferLaws.{flow_assets, one_potential}
@@ -23,7 +23,7 @@ returns-in-Err-clause-refused c =
     let parts = c.args.ledger.now in
     let block = c.args.block.now in
     let misfit = c.in-Err.misfit in
-    subst (RefusesEarly parts block) (sym c.from.ensures)
+    subst (RefusesButParent parts block) (sym c.from.ensures)
     (misfit_refuses parts block misfit c.requires.body
     (misfit_from (assets_of parts) (low_in parts block) (high_in parts block) c.args.bounds.now c.requires.bounds
     (flow_of_block block) (potential_of block.header.potentials) misfit c.in-Err.ensures.misfit))

@@ -27,12 +27,11 @@ returns-in-Some-clause-refused c =
       one_rounding parts block c.requires.form (λ r lt. c.requires.cut r (omega arith)),
     ) in
     record {
-      refuses = record {
-        before = c.requires.cut;
-        breaks = misrounded parts block c.items-said.result.now c.args.kept.now c.unwrap.result place at
-            c.items-said.ensures lt c.requires.kept found.differ found.earlier;
-      };
+      before = c.requires.cut;
+      breaks = misrounded parts block c.items-said.result.now c.args.kept.now c.unwrap.result place at
+          c.items-said.ensures lt c.requires.kept found.differ found.earlier;
       early = λ said real e. absurd cc;
+      other = λ said real e. absurd cc;
     }
 
 pub bounds-kept-place : goal.bounds-kept-place
