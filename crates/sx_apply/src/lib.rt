@@ -1,4 +1,4 @@
-//! What a block does to a ledger, on one thread.
+//! What a block does to a ledger, on one thread but for [`par_tally_of`].
 //!
 //! [`apply_body`] answers the ledger after the transactions of a block, before anything trades, and
 //! [`trade`] what trading leaves of that: offers lose what they give, sellers are credited with what
@@ -11,7 +11,9 @@
 //!
 //! [`bounds_of`] answers what each pair of assets must and may trade at some prices, and [`without_low`]
 //! the same once lower bounds are dropped. [`tally_of`] answers what a body does, [`fills_of`] what each
-//! offer trades, and [`rounding_of`] what rounding keeps of each asset. They go over sorted lists once. By [`apply_laws`] a valid block has what the calls ask for.
+//! offer trades, and [`rounding_of`] what rounding keeps of each asset. They go over sorted lists once.
+//! [`par_tally_of`] answers the same as [`tally_of`], with threads that look accounts and offers up. By
+//! [`apply_laws`] a valid block has what the calls ask for.
 //!
 //! Not here: whether a block is valid, and how its prices and its flow are found.
 #![tactic(auto)]
@@ -34,5 +36,5 @@ pub use fills::fills_of;
 pub use laws::apply_laws;
 pub use proceeds::pay_sellers;
 pub use rounding::rounding_of;
-pub use tallying::tally_of;
+pub use tallying::{par_tally_of, tally_of};
 pub use trading::{execute, settle, trade};
