@@ -1,4 +1,5 @@
-//! A block on a ledger: it is judged, and then applied.
+//! A block on a ledger: it is judged, then applied, and last the digests of the ledgers before and after it are
+//! compared.
 
 ghost use Rattle.std.specs.Prelude.{◌≡◌, ◌≤◌, IfErr, IfOk};
 ghost use Rattle.sha2.specs.Sha256.{sha256};
@@ -13,7 +14,9 @@ ghost use Rattle.sx_tx.specs.Transactions.{list_bytes};
 use std::alloc::Global;
 use std::thread::Threads;
 use sx_block::{digest_of, validity_laws};
-use sx_check::{CheckFault, Checked, Judged, check_laws, close, judge_surveyed};
+use sx_check::{
+    CheckFault, Checked, Judged, check_laws, close, first_reason, judge_applicable, named,
+};
 use sx_input::{Head, Incoming, StateDigest, written};
 use sx_spread::apply_spread;
 
@@ -24,7 +27,8 @@ pub struct Advanced {
     pub checked: Checked,
 }
 
-// Judges the next block, and applies it by so many workers.
+// Judges the next block, and applies it by so many workers. A thread may still be making the digest of the ledger,
+// which neither needs. So it is waited for last, or where the block is refused.
 pub fn advance<R: Threads + Sync>(
     rt: &R,
     alloc: Global,
@@ -52,18 +56,24 @@ pub fn advance<R: Threads + Sync>(
         digest,
     } = head;
     let Incoming { block, body, found } = incoming;
-    let parent = digest.wait(rt);
-    let Judged { checked, effects } = judge_surveyed(
-        alloc, &ledger, &block, &parent, &body, found,
-    )?;
+    let judged = match judge_applicable(alloc, &ledger, &block, &body, found) {
+        Ok(judged) => judged,
+        Err(fault) => {
+            let parent = digest.wait(rt);
+            return Err(first_reason(&ledger, &block, &parent, fault));
+        }
+    };
+    let Judged { checked, effects } = judged;
     let ledger = apply_spread(rt, alloc, ledger, &block, effects, workers)?;
     let state = written(alloc, &ledger, state)?;
-    let digest = digest_of(state.bytes());
-    close(&block.header, &digest)?;
+    let after = digest_of(state.bytes());
+    let parent = digest.wait(rt);
+    named(&block.header, &parent)?;
+    close(&block.header, &after)?;
     let head = Head {
         ledger,
         state: Some(state),
-        digest: StateDigest::Known(digest),
+        digest: StateDigest::Known(after),
     };
     Ok(Advanced { head, checked })
 }

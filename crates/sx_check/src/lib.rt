@@ -9,7 +9,8 @@
 //! an execution need not compute again, and [`close`] is that reason, once the ledger after the block is known.
 //! [`judge_applicable`] needs no digest of the ledger: a block of which it says Ok can be applied, and then [`named`] and
 //! [`close`] are what is left. Where it refuses a block, [`first_reason`] tells the first reason once that digest is
-//! known. [`survey_of`] is the part of it that needs no header.
+//! known. [`survey_of`] is the part of it that needs no header, and [`par_survey_of`] the same by threads that look
+//! accounts and offers up. No other call starts a thread.
 //!
 //! A header needs not be trusted: that no circulation trades more value follows from its potentials,
 //! and that lower bounds could not be kept from its cut. No solver, book or curve is used.
@@ -37,4 +38,4 @@ pub use header::named;
 pub use invalid::Invalid;
 pub use judging::{check, close, first_reason, judge, judge_applicable};
 pub use laws::check_laws;
-pub use survey::{Survey, survey_of};
+pub use survey::{Survey, par_survey_of, survey_of};

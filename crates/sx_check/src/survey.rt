@@ -1,11 +1,12 @@
 //! What the transactions of a block do to a ledger, whatever its header says.
 
-ghost use Rattle.std.specs.Prelude.{IfErr, IfOk};
+ghost use Rattle.std.specs.Prelude.{◌≤◌, IfErr, IfOk};
 ghost use Rattle.sx_body.specs.Refusal.{IsPrecheckFault};
 ghost use Rattle.sx_check.specs.Surveys.{IsSurvey};
 
 use std::alloc::Global;
-use sx_body::{PrecheckFault, Tally, offers_after, precheck};
+use std::thread::Threads;
+use sx_body::{PrecheckFault, Tally, offers_after, par_precheck, precheck};
 use sx_ledger::{Ledger, Offers};
 use sx_tx::Tx;
 
@@ -27,6 +28,24 @@ pub fn survey_of(alloc: Global, ledger: &Ledger, txs: &[Tx]) -> Result<Survey, P
     ensures refused { IfErr result (IsPrecheckFault ledger.now txs.now) }
 {
     let tally = precheck(alloc, ledger, txs)?;
+    let offers = offers_after(alloc, ledger, &tally)?;
+    Ok(Survey { tally, offers })
+}
+
+/// The same as [`survey_of`], with at most so many threads that look up where what the transactions name stands.
+/// The answer is the same for every number of workers, and with one, or for few transactions, no thread is started.
+pub fn par_survey_of<R: Threads + Sync>(
+    rt: &R,
+    alloc: Global,
+    ledger: &Ledger,
+    txs: &[Tx],
+    workers: u32,
+) -> Result<Survey, PrecheckFault>
+    requires some_worker { 1 ≤ workers }
+    ensures survey { IfOk result (IsSurvey ledger.now txs.now) }
+    ensures refused { IfErr result (IsPrecheckFault ledger.now txs.now) }
+{
+    let tally = par_precheck(rt, alloc, ledger, txs, workers)?;
     let offers = offers_after(alloc, ledger, &tally)?;
     Ok(Survey { tally, offers })
 }

@@ -1,8 +1,8 @@
 //! Blocks from bodies on a ledger that is needed no more.
 
 ghost use Rattle.std.specs.Prelude.{◌≡◌, ◌+◌, ◌<◌, ◌≤◌, IfOk, length};
-ghost use Rattle.sx_block.specs.Validity.{IsValid, flow_of_block, high_in, low_in};
-ghost use Rattle.sx_clear.specs.Digests.{IsParentDigest};
+ghost use Rattle.sx_block.specs.StateDigest.{IsWhole, digest_in};
+ghost use Rattle.sx_block.specs.Validity.{IsValid, digest_of_ledger, flow_of_block, high_in, low_in};
 ghost use Rattle.sx_clear.specs.Dropping.{DropsExactly};
 ghost use Rattle.sx_clear.specs.Quotes.{imbalance_at, posted_at};
 ghost use Rattle.sx_clear.specs.Searches.{IsCounted, most_clearing_searches};
@@ -21,7 +21,7 @@ use std::alloc::Global;
 use std::snapshot::Snapshot;
 use std::sync::ledger;
 use std::thread::Threads;
-use sx_block::{Block, Digest};
+use sx_block::{Block, StateDigest};
 use sx_bytes::NoMemory;
 use sx_ledger::Ledger;
 use sx_net::Steps;
@@ -29,19 +29,21 @@ use sx_price::Mu;
 use sx_tx::TxList;
 
 /// The block that [`clear_many`](crate::clear_many) answers, of a ledger that the caller needs no more and whose digest
-/// it knows. The ledger changes in place to what the block leaves, and so no copy of it is made.
+/// it knows or has a thread make. The ledger changes in place to what the block leaves, and so no copy of it is made.
+/// The call waits for that thread last of all. Where it fails before that, the thread is let go.
 pub fn clear_in_place<R: Threads + Sync, L: ledger::Ledger>(
     rt: &R,
     alloc: Global,
     ledger: Ledger,
-    parent: Digest,
+    parent: StateDigest,
     txs: TxList,
     mu: Mu,
     rounds: u32,
     searches: u32,
     steps: &mut Steps<L>,
 ) -> Result<Block, NoMemory>
-    requires parent { IsParentDigest ledger parent }
+    requires parent { digest_in parent ≡ digest_of_ledger ledger }
+    requires whole { IsWhole parent }
     requires admissible { IsAdmissible ledger txs }
     requires few { length txs ≤ most_transactions }
     requires below_last { ledger.height < most_height }
@@ -73,13 +75,16 @@ pub fn clear_in_place<R: Threads + Sync, L: ledger::Ledger>(
     let height = ledger.height() + 1;
     let snapshot = Snapshot::of(&ledger);
     let after = digest_after(alloc, ledger, body, &prices, &rounding, fills.items())?;
-    let digests = Digests { parent, body: hash };
     let terms = Terms {
         mu,
         prices,
         trade,
         rounding,
         after,
+    };
+    let digests = Digests {
+        parent: parent.wait(rt),
+        body: hash,
     };
     Ok(block_of(snapshot, height, txs, digests, terms))
 }

@@ -14,6 +14,7 @@
 //! the number of its searches has a bound. The value is shared out among the offers of each pair in their
 //! order, rounded to whole units. What the block leaves of the ledger, or of a copy, is hashed for its header. A thread
 //! makes the digest of a large body beside the search for prices, and that of a large ledger beside a copy and its digest.
+//! Threads also look up the accounts and offers that a large body names, but in [`clear_at`] and [`curves_of`].
 //!
 //! ```text
 //!                  .-> curves -> prices -.                .-> fills, rounding -.

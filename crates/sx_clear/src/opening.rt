@@ -11,7 +11,7 @@ ghost use Rattle.sx_ledger.specs.Ledger.{assets_of};
 ghost use Rattle.sx_multi.specs.Posted.{posted as posted_of};
 ghost use Rattle.sx_tx.specs.Transactions.{most_transactions};
 
-use crate::body::{Body, body_of};
+use crate::body::{Body, par_body_of};
 use crate::curves::offer_curves;
 use crate::digests::digest_of_body;
 use std::alloc::Global;
@@ -26,6 +26,9 @@ use sx_tx::Tx;
 // From how many transactions on the digest is made on a thread of its own. Hashing takes a millisecond there, and to
 // start a thread a small part of one.
 const MANY_TRANSACTIONS: usize = 1 << 13;
+
+// How many threads look up the accounts and offers that a body names. The answer is the same for every number.
+const LOOKING_UP: u32 = 4;
 
 // The same prices once more.
 pub fn copy_of(alloc: Global, prices: &Prices) -> Result<Prices, NoMemory>
@@ -89,7 +92,7 @@ fn open<R: Threads + Sync>(
     ensures prices { IfOk result (λ opened. opened.prices ≡ posted_at ledger.now txs.now by.mu by.rounds by.searches) }
 {
     let assets = ledger.assets();
-    let body = body_of(alloc, ledger, txs)?;
+    let body = par_body_of(rt, alloc, ledger, txs, LOOKING_UP)?;
     let prices = posted(rt, alloc, ledger, assets, body.offers.items(), by)?;
     Ok(Opened { body, prices })
 }

@@ -1,7 +1,8 @@
 //! A block of candidates: worker threads gather them, and the body that they make is cleared.
 
 ghost use Rattle.std.specs.Prelude.{◌≡◌, ◌+◌, ◌≤◌, ◌<◌, Ok, IfErr, IfOk, length};
-ghost use Rattle.sx_clear.specs.Digests.{IsParentDigest};
+ghost use Rattle.sx_block.specs.StateDigest.{IsWhole, digest_in};
+ghost use Rattle.sx_block.specs.Validity.{digest_of_ledger};
 ghost use Rattle.sx_clear.specs.Searches.{most_clearing_searches};
 ghost use Rattle.sx_gather.specs.Start.{IsFaultOf};
 ghost use Rattle.sx_input.specs.Head.{IsHead};
@@ -16,7 +17,7 @@ ghost use Rattle.sx_tx.specs.Transactions.{most_transactions};
 use std::alloc::Global;
 use std::sync::ledger;
 use std::thread::Threads;
-use sx_block::{Block, Digest};
+use sx_block::{Block, StateDigest};
 use sx_bytes::NoMemory;
 use sx_clear::{clear_in_place, clear_many};
 use sx_gather::{GatherFault, Sealed};
@@ -105,17 +106,18 @@ fn cleared<R: Threads + Sync, L: ledger::Ledger>(
     Ok(Made { block, outcomes })
 }
 
-// The same on a ledger that is needed no more, and of which this is the digest.
+// The same on a ledger that is needed no more, and of which this is the digest, for which it waits last of all.
 fn cleared_in_place<R: Threads + Sync, L: ledger::Ledger>(
     rt: &R,
     alloc: Global,
     ledger: Ledger,
-    parent: Digest,
+    parent: StateDigest,
     sealed: Sealed,
     numbers: Numbers,
     steps: &mut Steps<L>,
 ) -> Result<Made, NoMemory>
-    requires parent { IsParentDigest ledger parent }
+    requires parent { digest_in parent ≡ digest_of_ledger ledger }
+    requires whole { IsWhole parent }
     requires admissible { IsAdmissible ledger sealed.txs }
     requires few { length sealed.txs ≤ most_transactions }
     requires below_last { ledger.height < most_height }
@@ -166,7 +168,8 @@ pub fn make<R: Threads + Sync, G: Gate + Sync, L: ledger::Ledger>(
     Ok(cleared(rt, alloc, ledger, sealed, numbers, steps)?)
 }
 
-// The same on a ledger that is needed no more, whose digest a thread may still be making.
+// The same on a ledger that is needed no more, whose digest a thread may still be making. It waits for that thread last
+// of all. Where it fails before that, the thread is let go.
 pub fn make_in_place<R: Threads + Sync, G: Gate + Sync, L: ledger::Ledger>(
     rt: &R,
     alloc: Global,
@@ -188,8 +191,6 @@ pub fn make_in_place<R: Threads + Sync, G: Gate + Sync, L: ledger::Ledger>(
 {
     gathering_laws();
     let Head { ledger, digest, .. } = head;
-    let sealed = gathered(rt, alloc, &ledger, candidates, numbers, gate);
-    let parent = digest.wait(rt);
-    let sealed = sealed?;
-    Ok(cleared_in_place(rt, alloc, ledger, parent, sealed, numbers, steps)?)
+    let sealed = gathered(rt, alloc, &ledger, candidates, numbers, gate)?;
+    Ok(cleared_in_place(rt, alloc, ledger, digest, sealed, numbers, steps)?)
 }

@@ -1,2 +1,2 @@
 mod Halves
-mod SoundBlocks
+mod ApplicableBlocks

@@ -4,7 +4,7 @@ ghost use Rattle.std.specs.Prelude.{◌≡◌, ℕ, ◌+◌, ◌<◌, ◌≤◌,
 ghost use Rattle.sx_apply.specs.Effects.{AreEffects};
 ghost use Rattle.sx_apply.specs.Trading.{GetsItsValue, GivesItsValue, TradesInFull, TradesWithinLimits};
 ghost use Rattle.sx_block.specs.EffectLaws.{circulating};
-ghost use Rattle.sx_block.specs.Validity.{IsSound, ledger_after};
+ghost use Rattle.sx_block.specs.Validity.{IsApplicable, ledger_after};
 ghost use Rattle.sx_ledger.specs.Body.{body_after};
 ghost use Rattle.sx_ledger.specs.Ledger.{IsLedger, assets_of};
 
@@ -27,7 +27,7 @@ fn apply_in_parts<R: Threads + Sync>(
     effects: Effects,
     workers: u32,
 ) -> Result<Ledger, NoMemory>
-    requires sound { IsSound ledger block.now }
+    requires applicable { IsApplicable ledger block.now }
     requires effects { AreEffects ledger block.now effects }
     requires some { 1 ≤ workers }
     ensures after { IfOk result (λ after. after ≡ ledger_after ledger block.now) }
@@ -45,7 +45,7 @@ fn apply_in_parts<R: Threads + Sync>(
 
 /// The ledger after a block, whose effects on the ledger are known: the ledger after the transactions,
 /// after trading, by 1 to 64 workers, each of which changes a part of the accounts. The block is valid but for
-/// the digest of the ledger that it leaves. The ledger changes in place.
+/// the digests of the ledgers before and after it. The ledger changes in place.
 ///
 /// How many workers there are does not change the answer: it is that of [`apply`](sx_apply::apply). Where no
 /// thread can be started, the parts are changed in turn. At `NoMemory`, which is the only error, the ledger is gone.
@@ -62,7 +62,7 @@ pub fn apply_spread<R: Threads + Sync>(
     effects: Effects,
     workers: u32,
 ) -> Result<Ledger, NoMemory>
-    requires sound { IsSound ledger block.now }
+    requires applicable { IsApplicable ledger block.now }
     requires effects { AreEffects ledger block.now effects }
     requires some_worker { 1 ≤ workers }
     requires few_workers { workers ≤ 64 }

@@ -2,7 +2,7 @@ use Rattle.std.proofs.Common.{◌≡◌, IfOk, sym, ap, subst, ◌∙◌, arith}
 use Rattle.sx_apply.specs.Trading.{CanExecute}
 use Rattle.sx_block.specs.Rule as rule
 use Rattle.sx_block.specs.Validity.{flow_of_block}
-use Rattle.sx_block.proofs.Rules.{sound_is_tradable, widely_admissible}
+use Rattle.sx_block.proofs.Rules.{applicable_is_body, applicable_is_tradable}
 use Rattle.sx_fill.specs.AllFills.{all_fills}
 use Rattle.sx_ledger.specs.declared.parts.Parts.{Parts}
 use Rattle.sx_ledger.specs.Body.{body_after}
@@ -12,14 +12,14 @@ use Rattle.sx_spread.proofs.spreading.apply_in_parts.Goals as goal
 pub known_after-known-requires-clause-body : goal.known_after-known-requires-clause-body
 known_after-known-requires-clause-body g c = λ κs out. record {
   txs = c.args.block.now.txs;
-  body = widely_admissible c.args.ledger c.args.block.now c.requires.sound;
+  body = applicable_is_body c.args.ledger c.args.block.now c.requires.applicable;
   is = c.requires.effects.tally;
 }
 
 pub complete_accounts-requires : goal.complete_accounts-requires
 complete_accounts-requires g c =
     let txs = c.args.block.now.txs in
-    let body = widely_admissible c.args.ledger c.args.block.now c.requires.sound in
+    let body = applicable_is_body c.args.ledger c.args.block.now c.requires.applicable in
     let is = c.requires.effects.tally in
     record {
       before = c.args.ledger;
@@ -36,7 +36,7 @@ execute-requires-clause-below_last g c = λ κs out.
     let parts = c.args.ledger in
     let block = c.args.block.now in
     let txs = block.txs in
-    let body = widely_admissible parts block c.requires.sound in
+    let body = applicable_is_body parts block c.requires.applicable in
     let is = c.requires.effects.tally in
     let after : c.in_ok-after_body.after_body ≡ body_after parts txs =
     c.in_ok-after_body.ensures parts txs c.known_after-known.ensures.kept body is
@@ -44,7 +44,7 @@ execute-requires-clause-below_last g c = λ κs out.
     omega (
       arith,
       ap (λ (p : Parts). p.height) after,
-      c.requires.sound.rules rule.BelowLast (omega arith),
+      c.requires.applicable.rules rule.BelowLast (omega arith) (λ e. absurd cc),
     )
 
 pub execute-requires-clause-fills : goal.execute-requires-clause-fills
@@ -52,12 +52,12 @@ execute-requires-clause-fills g c = λ κs out.
     let parts = c.args.ledger in
     let block = c.args.block.now in
     let txs = block.txs in
-    let body = widely_admissible parts block c.requires.sound in
+    let body = applicable_is_body parts block c.requires.applicable in
     let is = c.requires.effects.tally in
     let after : c.in_ok-after_body.after_body ≡ body_after parts txs =
     c.in_ok-after_body.ensures parts txs c.known_after-known.ensures.kept body is
     (c.known_after-known.ensures.known txs body is) (c.requires.effects.offers txs body is) in
-    let trade = sound_is_tradable parts block c.requires.sound in
+    let trade = applicable_is_tradable parts block c.requires.applicable in
     subst (λ (p : Parts). CanExecute p block.header.prices block.header.rounding c.items.result.now) (sym after)
     (record {
       flow = flow_of_block block;
@@ -71,7 +71,7 @@ returns-clause-after g c =
     let parts = c.args.ledger in
     let block = c.args.block.now in
     let txs = block.txs in
-    let body = widely_admissible parts block c.requires.sound in
+    let body = applicable_is_body parts block c.requires.applicable in
     let is = c.requires.effects.tally in
     let flow = flow_of_block block in
     let prices = block.header.prices in
