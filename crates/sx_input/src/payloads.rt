@@ -102,7 +102,11 @@ impl Payload for Outcomes {
 
     const TAG: u8 = tag::OUTCOMES;
 
-    fn read<R: Threads + Sync>(_rt: &R, alloc: Global, payload: &[u8]) -> Result<Outcomes, ReadError> {
+    fn read<R: Threads + Sync>(
+        _rt: &R,
+        alloc: Global,
+        payload: &[u8],
+    ) -> Result<Outcomes, ReadError> {
         outcome_list_laws();
         read_outcomes(alloc, payload)
     }
@@ -117,7 +121,11 @@ impl Payload for Script {
 
     const TAG: u8 = tag::SCRIPT;
 
-    fn read<R: Threads + Sync>(_rt: &R, alloc: Global, payload: &[u8]) -> Result<Script, ReadError> {
+    fn read<R: Threads + Sync>(
+        _rt: &R,
+        alloc: Global,
+        payload: &[u8],
+    ) -> Result<Script, ReadError> {
         script_laws();
         read_script(alloc, payload)
     }
@@ -132,7 +140,11 @@ impl Payload for (Digest, Proof) {
 
     const TAG: u8 = tag::PROOF;
 
-    fn read<R: Threads + Sync>(_rt: &R, alloc: Global, payload: &[u8]) -> Result<(Digest, Proof), ReadError> {
+    fn read<R: Threads + Sync>(
+        _rt: &R,
+        alloc: Global,
+        payload: &[u8],
+    ) -> Result<(Digest, Proof), ReadError> {
         proof_laws();
         read_proof(alloc, payload)
     }
