@@ -123,8 +123,8 @@ pub fn clear_at<L: ledger::Ledger>(
 /// rounds. The sum over all assets of what is wanted or sold in excess is at most that at the ledger's
 /// prices. With 0 rounds the prices are the ledger's own, and no curves are built. All else is as in
 /// [`clear_at`]. The digest of a large body is made on a thread of its own meanwhile, and that of a large ledger while
-/// the ledger after the block is made. The call returns where these threads return. Where no thread can be started, all
-/// is done in turn.
+/// the ledger after the block is made. Four threads look up what a large body names. The call returns where these
+/// threads return. Where no thread can be started, all is done in turn.
 pub fn clear<R: Threads + Sync, L: ledger::Ledger>(
     rt: &R,
     alloc: Global,

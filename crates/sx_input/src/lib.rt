@@ -2,11 +2,14 @@
 //!
 //! [`take`] reads the next record, which has to be there and to have the tag of what is wanted, and answers
 //! what it holds: a ledger, candidates, a block, outcomes, a script, or a root and a proof for it, each of which is a
-//! [`Payload`]. [`end`] says that nothing comes after it. A command that takes records of several tags uses [`next`], which answers
-//! a record or the end, and [`decoded`], which answers what the record holds. [`take_head`] reads the state at
-//! the beginning of an input with its digest, and [`take_block`] and [`decoded_block`] a block with that of its
-//! transactions and the survey of them. A large payload is decoded, and a block's transactions are surveyed, while a
-//! thread of its own makes the digest.
+//! [`Payload`]. [`end`] says that nothing comes after it. A command that takes records of several tags uses [`next`],
+//! which answers a record or the end, and [`decoded`], which answers what the record holds. [`take_head`] reads the
+//! state at the beginning of an input with its digest, and [`take_block`] and [`decoded_block`] a block with that of its
+//! transactions and the survey of them.
+//!
+//! Threads share what takes long. Several read the payload of a large state or of many candidates. A thread makes the
+//! digest of a large state while the state is read, and goes on until the digest is needed ([`StateDigest`]). Another
+//! makes that of many transactions while these are decoded and surveyed.
 //!
 //! ```text
 //!     source -> next -> record -> decoded -> ledger, candidates, block, outcomes or script
