@@ -1,14 +1,14 @@
 -- The candidates of an account stand side by side, so that its debits are those of its run.
 use Rattle.std.proofs.Common.{◌≡◌, ℕ, zero, suc, ◌+◌, ◌-◌, ◌<◌, ◌≤◌, Bool, ◌&&◌, List, [], ◌∷◌, All, Ok}
 use Rattle.std.proofs.Common.{Some, drop, get_or, length, take, inl, inr, refl, sym, ap, subst, ◌∙◌, arith}
-use Rattle.std.specs.Prelude.{is_ok, nat_le, slice_get}
+use Rattle.std.specs.Prelude.{is_ok, min, nat_le, slice_get}
 use Rattle.std.specs.List.{slice_range}
 use Rattle.std.specs.List.Sorted.{IsSortedBy}
 use Rattle.std.proofs.lemmas.Bool.{cases_lt}
 use Rattle.std.proofs.lemmas.Option.{get_or_from_slice_get, slice_get_within}
 use Rattle.sx_filter.specs.Kept.{covers}
-use Rattle.sx_filter.specs.Runs.{EndsRun}
-use Rattle.sx_filter.specs.Verdicts.{AreVerdicts}
+use Rattle.sx_filter.specs.Runs.{Begins, EndsRun}
+use Rattle.sx_filter.specs.Verdicts.{IsVerdict}
 use Rattle.sx_filter.proofs.KeptLaws.{posted_at}
 use Rattle.sx_filter.proofs.Sorted.{accounts_rise}
 use Rattle.sx_layout.proofs.BodySums.{debits_total}
@@ -40,12 +40,6 @@ total_part f (x ∷ xs) (suc start) count low high =
     let rest = total_part f xs start count (λ k y at lt. low (suc k) y at (omega (arith, lt)))
     (λ k y at le. high (suc k) y at (omega (arith, le))) in
     omega (arith, low 0 x refl (omega arith), rest)
-
--- a run begins here: all that stand before are of lower accounts
-abbrev pub Begins : List Tx → ℕ → Type 0
-Begins txs start =
-    (k : ℕ) (x y : Tx) → slice_get txs k ≡ Some x → k < start → slice_get txs start ≡ Some y
-    → x.account.0 < y.account.0
 
 pub first_begins : (txs : List Tx) → Begins txs 0
 first_begins txs k x y at lt there = absurd (omega arith)
@@ -125,17 +119,31 @@ module _ (txs : List Tx) (sorted : IsSortedBy tx_before txs) (start end : ℕ) (
     run_covers (suc n) =
         λ i. run_covers n i && nat_le (sym (run_debits n) i) (holding_of parts.accounts first.account.0 n)
 
--- ---- verdicts of one run more
+-- where two neighbours are of different accounts, a run begins between them
+pub between_accounts : (txs : List Tx) → IsSortedBy tx_before txs → (start : ℕ) (x y : Tx) → 0 < start
+    → slice_get txs (start - 1) ≡ Some x → slice_get txs start ≡ Some y → x.account.0 < y.account.0 → Begins txs start
+between_accounts txs sorted start x y some before here less k one other at lt there =
+    let inside = slice_get_within txs start y here in
+    let up : (get_or txs k x).account.0 ≤ (get_or txs (start - 1) x).account.0 =
+    accounts_rise txs sorted k (start - 1) x (omega (arith, lt)) (omega (arith, inside)) in
+    let low = ap (λ (t : Tx). t.account.0) (get_or_from_slice_get txs k one x at) in
+    let last = ap (λ (t : Tx). t.account.0) (get_or_from_slice_get txs (start - 1) x x before) in
+    let next = ap (λ (t : Tx). t.account.0) (get_or_from_slice_get txs start y x here) in
+    let same = ap (λ (t : Tx). t.account.0) (get_or_from_slice_get txs start other x there) in
+    omega (arith, up, low, last, next, same, less)
 
-pub verdicts_more : {X : Type 0} (test : X → Bool) (xs : List X) (old new : List Bool) (start end : ℕ) (is : Bool)
-    → length old ≡ start → length new ≡ end
-    → ((k : ℕ) (d : Bool) → k < start → k < end → get_or new k d ≡ get_or old k d)
-    → ((k : ℕ) (d : Bool) → start ≤ k → k < end → get_or new k d ≡ is)
+-- ---- verdicts of one run more, of those from a place on
+
+pub verdicts_more : {X : Type 0} (test : X → Bool) (xs : List X) (old new : List Bool) (first start end : ℕ)
+    (is : Bool) → length new ≡ length old
+    → ((k : ℕ) (d : Bool) → k < start - first → get_or new k d ≡ get_or old k d)
+    → ((k : ℕ) (d : Bool) → start - first ≤ k → k < min end (first + length old) - first → get_or new k d ≡ is)
     → ((k : ℕ) (x : X) → slice_get xs k ≡ Some x → start ≤ k → k < end → is ≡ test x)
-    → AreVerdicts test xs old → AreVerdicts test xs new
-verdicts_more test xs old new start end is one_each more same filled alike before place d lt x at =
-    let inside : place < end = omega (arith, lt, more) in
-    elim (cases_lt place start) [
-      | inl low ↦ same place d low inside ∙ before place d (omega (arith, one_each, low)) x at
-      | inr high ↦ filled place d high inside ∙ alike place x at high inside
+    → ((k : ℕ) (d : Bool) → k < length old → first + k < start → IsVerdict test xs (first + k) (get_or old k d))
+    → (k : ℕ) (d : Bool) → k < length new → first + k < end → IsVerdict test xs (first + k) (get_or new k d)
+verdicts_more test xs old new first start end is one_each same filled alike before k d lt low x at =
+    elim (cases_lt (first + k) start) [
+      | inl less ↦ same k d (omega (arith, less)) ∙ before k d (omega (arith, one_each, lt)) less x at
+      | inr high ↦
+          filled k d (omega (arith, high)) (omega (arith, low, lt, one_each)) ∙ alike (first + k) x at high low
     ]

@@ -1,5 +1,5 @@
 -- Runs of candidates of one account, and the sums of their debits.
-use Rattle.std.specs.Prelude.{◌≡◌, ℕ, ◌<◌, ◌≤◌, List, length, slice_index_or}
+use Rattle.std.specs.Prelude.{◌≡◌, ℕ, ◌<◌, ◌≤◌, List, length, Some, slice_get, slice_index_or}
 use Rattle.sx_ledger.specs.declared.parts.Parts.{Parts}
 use Rattle.sx_ledger.specs.Body.{holding_of}
 use Rattle.sx_ledger.specs.Effects.{debits}
@@ -14,6 +14,12 @@ pub record EndsRun (txs : List Tx) (start end : ℕ) : Type 0 where
       → (slice_index_or txs k d).account.0 ≡ (slice_index_or txs start d).account.0
   pub next : (d : Tx) → end < length txs
       → (slice_index_or txs end d).account.0 ≡ (slice_index_or txs start d).account.0 → ⊥
+
+-- a run begins here: all that stand before are of lower accounts
+abbrev pub Begins : List Tx → ℕ → Type 0
+Begins txs start =
+    (k : ℕ) (x y : Tx) → slice_get txs k ≡ Some x → k < start → slice_get txs start ≡ Some y
+    → x.account.0 < y.account.0
 
 -- what an account holds, by asset
 abbrev pub AreHeld : Parts → ℕ → List ℕ → Type 0

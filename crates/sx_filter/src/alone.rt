@@ -106,7 +106,7 @@ pub(crate) fn verdicts_of<R: Threads + Sync>(
     ensures one_each { IfOk result (λ verdicts. length verdicts.items ≡ length txs.now) }
     ensures verdicts { IfOk result (λ verdicts. AreVerdicts (is_alone ledger.now txs.now) txs.now verdicts.items) }
 {
-    let covered = covered_places(alloc, ledger, txs)?;
+    let covered = covered_places(rt, alloc, ledger, txs, workers)?;
     let named = Named::of(alloc, txs)?;
     let mut verdicts = vec![in alloc; false; txs.len()]?;
     test_all(rt, txs, &named, &covered, workers, &mut verdicts);

@@ -1,14 +1,23 @@
 use Rattle.std.proofs.Common.{◌≡◌, ℕ, Some, length, refl, sym, ap, ◌∙◌, arith}
 use Rattle.std.specs.Prelude.{slice_get}
 use Rattle.std.specs.List.{slice_range}
-use Rattle.std.proofs.lemmas.List.{with_items_is}
 use Rattle.std.proofs.lemmas.Option.{slice_get_read}
 use Rattle.sx_filter.specs.Alone.{is_covered}
 use Rattle.sx_filter.specs.Kept.{covers}
 use Rattle.sx_filter.proofs.RunSums.{next_begins, one_account, run_covers, verdicts_more}
-use Rattle.sx_filter.proofs.runs.covered_places.Goals as goal
+use Rattle.sx_filter.proofs.runs.cover_part.Goals as goal
 use Rattle.sx_ledger.specs.Ledger.{assets_of}
 use Rattle.sx_tx.specs.declared.tx.Tx.{Tx}
+
+pub loop-start-init : goal.loop-start-init
+loop-start-init c =
+    let before = c.start_of_run-start.ensures.before in
+    record {
+      within = omega (arith, before, c.requires.within);
+      begins = c.start_of_run-start.ensures.begins;
+      one_each = refl;
+      covered = λ k d lt low. absurd (omega (arith, low, before));
+    }
 
 pub loop-start-preserved : goal.loop-start-preserved
 loop-start-preserved c =
@@ -20,21 +29,17 @@ loop-start-preserved c =
     let first = c.index-txs-start.result in
     let inv = c.loop-start.invariant in
     let at : slice_get txs start ≡ Some first =
-    slice_get_read txs (length txs) start first refl c.loop-start-test.true c.index-txs-start.is in
-    let same = c.is_covered-is.ensures.len ∙ ap length c.deref_mut.ensures.value in
-    let len = c.in_ok-resize.ensures.len in
+    slice_get_read txs (length txs) start first refl (omega (arith, c.loop-start-test.true, c.requires.within))
+    c.index-txs-start.is in
     record {
       within = ends.within;
       begins = next_begins txs c.requires.sorted start end ends;
-      sums = ap length (with_items_is c.loop-start.sums c.is_covered-is.new.sums
-          (omega (arith, c.is_covered-is.ensures.len, c.deref_mut.ensures.len)))
-          ∙ same ∙ inv.sums;
-      one_each = omega (arith, len, c.resize.new.self.ok);
-      len = len;
-      covered = verdicts_more (is_covered parts txs) txs c.loop-start.covered.items c.resize.new.self.items start end
-          c.is_covered-is.result inv.one_each (omega (arith, len, c.resize.new.self.ok))
-          (λ k d low lt. c.in_ok-resize.ensures.by_index.0 k d lt (omega (arith, low, inv.len)))
-          (λ k d le lt. c.in_ok-resize.ensures.by_index.1 k d refl (omega (arith, le, inv.len)) lt)
+      one_each = c.mark.ensures.one_each ∙ inv.one_each;
+      covered = verdicts_more (is_covered parts txs) txs c.loop-start.part c.mark.new.part c.args.first start end
+          c.is_covered-is.result c.mark.ensures.one_each
+          (λ k d lt. c.mark.ensures.others k d (omega (arith, lt, c.saturating_sub-from.ensures)))
+          (λ k d le lt. c.mark.ensures.marked k d (omega (arith, le, c.saturating_sub-from.ensures))
+          (omega (arith, lt, c.saturating_sub-until.ensures, c.min-reach.ensures, inv.one_each)))
           (λ k x there le lt.
           c.is_covered-is.ensures.covers
           ∙ ap (λ (t : Tx). covers parts (slice_range txs start end) t.account.0 (assets_of parts))
@@ -45,3 +50,7 @@ loop-start-preserved c =
           (sym (one_account txs c.requires.sorted start end ends first at k x there le lt)))
           inv.covered;
     }
+
+pub returns-clause-covered : goal.returns-clause-covered
+returns-clause-covered c = λ k d lt.
+    c.loop-start.invariant.covered k d lt (omega (arith, lt, c.loop-start-test.false, c.loop-start.invariant.one_each))
