@@ -1,6 +1,7 @@
 use Rattle.std.proofs.Common.{List, Ok, length, refl, ap, subst, ◌∙◌}
 use Rattle.sx_block.proofs.ValidBlocks.{block_trades_most}
 use Rattle.sx_bytes.specs.declared.memory.NoMemory.{NoMemory}
+use Rattle.sx_clear.specs.Digests.{IsBodyDigest}
 use Rattle.sx_clear.specs.Found.{IsBodyOf}
 use Rattle.sx_clear.specs.Quotes.{posted_at, quotes_of}
 use Rattle.sx_clear.specs.Trading.{IsCountedAt, IsTrading}
@@ -19,6 +20,17 @@ trade_body-requires-clause-assets g c =
     let prices = rw c.in_ok-opened.was at c.digest_and_prices-hash.ensures.prices in
     ap length prices
     ∙ posted_length quotes parts.prices c.args.mu c.args.rounds c.args.searches
+
+pub block_of-requires-clause-digests : goal.block_of-requires-clause-digests
+block_of-requires-clause-digests g c =
+    let hash = rw c.in_ok-hash.was at c.digest_and_prices-hash.ensures.hash in
+    rw c.of-snapshot.ensures (record {
+      parent = record {
+        hash = c.wait.ensures.hash ∙ c.requires.parent;
+        whole = c.wait.ensures.digest c.requires.whole;
+      };
+      body = subst (λ (xs : List Tx). IsBodyDigest xs c.in_ok-hash.hash) c.items.ensures hash;
+    })
 
 pub block_of-requires-clause-terms : goal.block_of-requires-clause-terms
 block_of-requires-clause-terms g c =
