@@ -1,6 +1,7 @@
 //! What the payloads of records hold, their faults told by the offset in the whole input.
 
 ghost use Rattle.std.specs.Prelude.{◌≡◌, ◌+◌, ◌^◌, ◌≤◌, ℕ, length, IfErr, IfOk};
+ghost use Rattle.std.specs.Thread.{IsSync};
 ghost use Rattle.sx_bytes.specs.Grammar.{Gives};
 ghost use Rattle.sx_input.specs.Stream.{Holds, IsInPayload, IsWithin, stop_of};
 ghost use Rattle.sx_meaning.specs.Items.{Item, IsItem, payload_at, payload_of, tag_of};
@@ -40,6 +41,7 @@ pub trait Payload {
     /// The value that a payload encodes. A state or candidates, where there are many, are read by several threads, and
     /// the call returns where these return.
     fn read<R: Threads + Sync>(rt: &R, alloc: Global, payload: &[u8]) -> Result<Self, ReadError>
+        requires shared { IsSync R.row }
         ensures exact { Gives item result (payload_at TAG payload.now) }
         ensures form { IfOk result (λ x. IsItem (item x)) }
         ensures tag { IfOk result (λ x. tag_of (item x) ≡ TAG) }
