@@ -1,7 +1,7 @@
 //! What a body debits and credits, account by account and asset by asset.
 
 ghost use Rattle.std.specs.Prelude.{◌≡◌, ℕ, ◌+◌, ◌<◌, ◌≤◌, ◌^◌, ◌==◌, ◌&&◌, if◌then◌else◌, length, slice_index};
-ghost use Rattle.std.specs.Prelude.{IfOk, OnOk};
+ghost use Rattle.std.specs.Prelude.{IfOk, OnOk, replicate};
 ghost use Rattle.std.specs.Bool.{OnFalse};
 ghost use Rattle.sx_body.specs.Postings.{HasRows, credit_at, debit_at, start_of, units_at};
 
@@ -36,19 +36,34 @@ pub struct Postings {
     credits: Vec<u128>,
 }
 
+// So many sums of zero, with room for this many in all.
+fn zeros(alloc: Global, count: usize, room: usize) -> Result<Vec<u128>, NoMemory>
+    ensures { IfOk result (λ sums. sums.items ≡ replicate count 0) }
+{
+    let mut sums = Vec::with_capacity(alloc, room)?;
+    sums.resize(count, 0)?;
+    Ok(sums)
+}
+
 impl Postings {
-    // No posting for any of these accounts.
-    pub fn zero(alloc: Global, places: usize, assets: usize) -> Result<Postings, NoMemory>
+    // No posting for any of these accounts, with room for the rows of so many of them.
+    pub fn zero(
+        alloc: Global,
+        places: usize,
+        assets: usize,
+        named: usize,
+    ) -> Result<Postings, NoMemory>
         requires some_asset { 1 ≤ assets }
         ensures rows { IfOk result (λ postings. HasRows postings places assets) }
         ensures debits { IfOk result (λ postings. (p x : ℕ) → x < assets → debit_at postings p x ≡ 0) }
         ensures credits { IfOk result (λ postings. (p x : ℕ) → x < assets → credit_at postings p x ≡ 0) }
     {
+        let room = named.saturating_add(1).saturating_mul(assets);
         Ok(Postings {
             assets,
             starts: vec![in alloc; 0; places]?,
-            debits: vec![in alloc; 0; assets]?,
-            credits: vec![in alloc; 0; assets]?,
+            debits: zeros(alloc, assets, room)?,
+            credits: zeros(alloc, assets, room)?,
         })
     }
 

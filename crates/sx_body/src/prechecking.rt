@@ -101,7 +101,7 @@ pub fn precheck(alloc: Global, ledger: &Ledger, txs: &[Tx]) -> Result<Tally, Pre
     ensures refused { IfErr result (IsPrecheckFault ledger.now txs.now) }
 {
     let index = ledger.index()?;
-    let mut tally = Tally::none(alloc, ledger)?;
+    let mut tally = Tally::none(alloc, ledger, txs.len())?;
     let mut near = 0;
     for at in 0..txs.len() {
         near = enter_at(ledger, &index, near, txs, at, None, &mut tally)?;
@@ -189,7 +189,7 @@ pub fn par_precheck<R: Threads + Sync>(
         return precheck(alloc, ledger, txs);
     }
     let index = ledger.index()?;
-    let mut tally = Tally::none(alloc, ledger)?;
+    let mut tally = Tally::none(alloc, ledger, txs.len())?;
     let mut slots = empty_slots(alloc, PIECE.min(txs.len()))?;
     enter_pieces(rt, ledger, &index, txs, workers, &mut slots, &mut tally)?;
     Ok(tally)

@@ -52,14 +52,15 @@ fn push_made(made: &mut Vec<Offer>, tx: &Tx) -> Result<(), NoMemory>
 }
 
 impl Tally {
-    // The tally of no transaction.
-    pub(crate) fn none(alloc: Global, ledger: &Ledger) -> Result<Tally, NoMemory>
+    // The tally of no transaction, with room for the sums of so many that come. Each names two accounts at most.
+    pub(crate) fn none(alloc: Global, ledger: &Ledger, many: usize) -> Result<Tally, NoMemory>
         ensures nothing { IfOk result (IsTally ledger.now []) }
         ensures kept { OnOk result (IsLedger ledger.now) }
     {
         let places = ledger.accounts() as usize;
+        let named = many.saturating_mul(2).min(places);
         Ok(Tally {
-            postings: Postings::zero(alloc, places, ledger.assets() as usize)?,
+            postings: Postings::zero(alloc, places, ledger.assets() as usize, named)?,
             used: vec![in alloc; 0; places]?,
             cancellations: Cancellations::none(alloc, ledger.offers() as usize)?,
             creations: Creations::none(alloc),
