@@ -2,6 +2,7 @@
 
 ghost use Rattle.std.specs.Prelude.{◌≡◌, ◌<◌, ◌≤◌, Bool, Ok, All, IfOk, Some, length, slice_get};
 ghost use Rattle.std.specs.List.Sorted.{IsSortedBy};
+ghost use Rattle.std.specs.Thread.{IsSync};
 ghost use Rattle.sx_filter.specs.Alone.{is_alone, is_covered, is_twice};
 ghost use Rattle.sx_filter.specs.Kept.{same_number};
 ghost use Rattle.sx_filter.specs.Named.{IsNamed};
@@ -14,7 +15,7 @@ ghost use Rattle.sx_tx.specs.declared.tx.Tx.{Tx as Transaction};
 use crate::named::Named;
 use crate::runs::covered_places;
 use std::alloc::Global;
-use std::thread::{Threads, for_each_mut};
+use std::thread::{Threads, for_each_mut, join};
 use sx_bytes::NoMemory;
 use sx_ledger::Ledger;
 use sx_tx::Tx;
@@ -92,6 +93,39 @@ fn test_all<R: Threads + Sync>(
     );
 }
 
+// Of each candidate whether its account is covered, and what all candidates name. With several workers a thread of its
+// own collects the names.
+fn covered_and_named<R: Threads + Sync>(
+    rt: &R,
+    alloc: Global,
+    ledger: &Ledger,
+    txs: &[Tx],
+    workers: u32,
+) -> (Result<Vec<bool>, NoMemory>, Result<Named, NoMemory>)
+    requires some { 1 ≤ workers }
+    requires passes { All (λ tx. static_of ledger.now tx ≡ Ok tt) txs.now }
+    requires sorted { IsSortedBy tx_before txs.now }
+    ensures one_each { IfOk result.0 (λ covered. length covered.items ≡ length txs.now) }
+    ensures covered { IfOk result.0 (λ covered. AreVerdicts (is_covered ledger.now txs.now) txs.now covered.items) }
+    ensures named { IfOk result.1 (IsNamed txs.now) }
+{
+    if workers == 1 {
+        let covered = covered_places(rt, alloc, ledger, txs, workers);
+        return (covered, Named::of(alloc, txs));
+    }
+    join(
+        rt,
+        || -> Result<Vec<bool>, NoMemory>
+            requires { IsSync R.row × (1 ≤ workers) × All (λ tx. static_of ledger.now tx ≡ Ok tt) txs.now × IsSortedBy tx_before txs.now }
+            ensures one_each { IfOk result (λ covered. length covered.items ≡ length txs.entry.now) }
+            ensures covered { IfOk result (λ covered. AreVerdicts (is_covered ledger.entry.now txs.entry.now) txs.entry.now covered.items) }
+        { covered_places(rt, alloc, ledger, txs, workers) },
+        || -> Result<Named, NoMemory>
+            ensures { IfOk result (IsNamed txs.entry.now) }
+        { Named::of(alloc, txs) },
+    )
+}
+
 // Of each candidate whether nothing stands in its way.
 pub(crate) fn verdicts_of<R: Threads + Sync>(
     rt: &R,
@@ -106,8 +140,9 @@ pub(crate) fn verdicts_of<R: Threads + Sync>(
     ensures one_each { IfOk result (λ verdicts. length verdicts.items ≡ length txs.now) }
     ensures verdicts { IfOk result (λ verdicts. AreVerdicts (is_alone ledger.now txs.now) txs.now verdicts.items) }
 {
-    let covered = covered_places(rt, alloc, ledger, txs, workers)?;
-    let named = Named::of(alloc, txs)?;
+    let (covered, named) = covered_and_named(rt, alloc, ledger, txs, workers);
+    let covered = covered?;
+    let named = named?;
     let mut verdicts = vec![in alloc; false; txs.len()]?;
     test_all(rt, txs, &named, &covered, workers, &mut verdicts);
     Ok(verdicts)

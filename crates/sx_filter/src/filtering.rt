@@ -22,7 +22,8 @@ use sx_layout::{par_sort_txs, room, sort_txs};
 use sx_ledger::Ledger;
 use sx_tx::{Tx, TxList};
 
-// Keeps the candidates at the places that a list of verdicts names, in their order.
+// Keeps the candidates at the places that a list of verdicts names, in their order. Those before the first that is not
+// kept stay where they are.
 fn keep(txs: &mut Vec<Tx>, verdicts: &[bool])
     requires { length verdicts.now ≡ vec_len txs.old }
     ensures { (passes : Transaction → Bool) → AreVerdicts passes txs.old.items verdicts.now
@@ -31,7 +32,10 @@ fn keep(txs: &mut Vec<Tx>, verdicts: &[bool])
     let mut kept = 0;
     for place in 0..verdicts.len() {
         if verdicts[place] {
-            txs[kept] = txs[place];
+            let tx = txs[place];
+            if kept < place {
+                txs[kept] = tx;
+            }
             kept += 1;
         }
     }
