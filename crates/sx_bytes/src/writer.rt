@@ -31,6 +31,14 @@ impl Writer {
         }
     }
 
+    /// Takes the memory for so many bytes more at once, where it is not there yet. What was written stays as it is.
+    pub fn reserve(&mut self, more: usize) -> Result<(), NoMemory>
+        ensures { self.new ≡ self.old }
+    {
+        self.written.reserve_exact(more)?;
+        Ok(())
+    }
+
     /// Appends bytes as they are.
     pub fn raw(&mut self, bytes: &[u8]) -> Result<(), NoMemory>
         ensures ok { OnOk result (self.new ≡ self.old ++ bytes.now) }
