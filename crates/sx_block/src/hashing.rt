@@ -49,6 +49,7 @@ pub fn ledger_digest(alloc: Global, ledger: &Ledger) -> Result<Digest, NoMemory>
 {
     let length = ledger.state_length();
     let mut payload = Writer::new(alloc);
+    payload.reserve(length as usize)?;
     ledger.write_state(&mut payload)?;
     prove!(payload.bytes().len() == length as usize);
     Ok(record_digest(tag::STATE, payload.bytes()))
