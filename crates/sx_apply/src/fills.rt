@@ -55,7 +55,7 @@ pub fn fills_of(
     requires tradable { CanTrade offers.now prices.now (value_of flow.now) }
     ensures { IfOk result (λ fills. fills ≡ all_fills prices.now (value_of flow.now) offers.now) }
 {
-    let mut fills = Vec::new(alloc);
+    let mut fills = Vec::with_capacity(alloc, offers.len())?;
     let mut left = offers;
     while let Some(first) = left.first() {
         let place = (offers.len() - left.len()) as u32;
