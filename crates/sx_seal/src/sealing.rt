@@ -30,9 +30,12 @@ use sx_gather::GatherFault;
 use sx_input::{Head, Stop, end, take, take_head};
 use sx_layout::{Outcomes, outcome_list_laws, write_outcomes};
 use sx_net::Steps;
-use sx_record::{tag, write_frame, write_record};
+use sx_record::{FRAME_BYTES, tag, write_frame, write_record};
 use sx_tx::TxList;
 use sx_workers::Gate;
+
+// How many bytes the frames of two records take.
+const FRAMES: usize = 2 * FRAME_BYTES as usize;
 
 // Why a seal stops that could not gather.
 fn stop_of(fault: GatherFault) -> Stop
@@ -51,28 +54,31 @@ fn stop_of(fault: GatherFault) -> Stop
     }
 }
 
-// The record of a block, which is let go.
-fn block_record(alloc: Global, block: Block) -> Result<Writer, NoMemory>
+// The record of a block, which is let go, with room for so many bytes beside its payload.
+fn block_record(alloc: Global, block: Block, room: usize) -> Result<Writer, NoMemory>
     requires { IsBlock block }
     ensures { IfOk result (λ told. told ≡ item_record (item.block block)) }
 {
     block_laws();
+    let size = block_length(&block);
     let mut told = Writer::new(alloc);
-    write_frame(&mut told, tag::BLOCK, block_length(&block))?;
+    told.reserve(room.saturating_add(size as usize))?;
+    write_frame(&mut told, tag::BLOCK, size)?;
     write_block(&mut told, &block)?;
     Ok(told)
 }
 
-// The record of a block, and then that of outcomes.
+// The record of a block, and then that of outcomes. The memory for both is taken at once.
 fn written(alloc: Global, block: Block, outcomes: &Outcomes) -> Result<Writer, NoMemory>
     requires block { IsBlock block }
     requires outcomes { AreOutcomes outcomes.now }
     ensures { IfOk result (λ told. told ≡ item_record (item.block block) ++ item_record (item.outcomes outcomes.now)) }
 {
     outcome_list_laws();
-    let mut told = block_record(alloc, block)?;
     let mut payload = Writer::new(alloc);
     write_outcomes(&mut payload, outcomes)?;
+    let room = payload.bytes().len().saturating_add(FRAMES);
+    let mut told = block_record(alloc, block, room)?;
     write_record(&mut told, tag::OUTCOMES, payload.bytes())?;
     Ok(told)
 }
