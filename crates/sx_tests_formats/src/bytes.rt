@@ -60,6 +60,7 @@ fn write_fields(alloc: Global) -> Result<Writer, NoMemory> {
 #[test]
 fn writes_each_width(rt: HostRuntime) -> Result<(), NoMemory> {
     let mut writer = write_fields(rt.alloc())?;
+    writer.reserve(64)?;
     assert!(rt; writer.bytes() == fields().as_slice());
     writer.cut(3);
     assert!(rt; writer.bytes() == [1, 0, 2].as_slice());
