@@ -24,13 +24,18 @@ fn push_kept(kept: &mut Vec<Offer>, flag: bool, offer: &Offer) -> Result<(), NoM
     Ok(())
 }
 
-// The offers whose flags, in the same order, are not set.
-fn unflagged(alloc: Global, offers: &[Offer], flags: &[bool]) -> Result<Vec<Offer>, NoMemory>
+// The offers whose flags, in the same order, are not set, with room for so many more.
+fn unflagged(
+    alloc: Global,
+    offers: &[Offer],
+    flags: &[bool],
+    more: usize,
+) -> Result<Vec<Offer>, NoMemory>
     requires { length flags.now ≡ length offers.now }
     ensures { (test : OneOffer → Bool) → AreFlags test offers.now flags.now
         → IfOk result (λ kept. kept.items ≡ filter (λ offer. not (test offer)) offers.now) }
 {
-    let mut kept = Vec::with_capacity(alloc, offers.len())?;
+    let mut kept = Vec::with_capacity(alloc, offers.len().saturating_add(more))?;
     for (place, offer) in offers.iter().enumerate() {
         push_kept(&mut kept, flags[place], offer)?;
     }
@@ -59,6 +64,7 @@ pub fn offers_after(alloc: Global, ledger: &Ledger, tally: &Tally) -> Result<Off
         alloc,
         ledger.parts().offers.items(),
         &tally.cancellations.flags,
+        tally.made.len(),
     )?;
     // the offers of a ledger are in order already
     if tally.made.is_empty() {

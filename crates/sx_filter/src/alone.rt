@@ -93,8 +93,8 @@ fn test_all<R: Threads + Sync>(
     );
 }
 
-// Of each candidate whether its account is covered, and what all candidates name. With several workers a thread of its
-// own collects the names.
+// Of each candidate whether its account is covered, and what all candidates name. With several workers threads of their
+// own collect the names.
 fn covered_and_named<R: Threads + Sync>(
     rt: &R,
     alloc: Global,
@@ -121,8 +121,9 @@ fn covered_and_named<R: Threads + Sync>(
             ensures covered { IfOk result (λ covered. AreVerdicts (is_covered ledger.entry.now txs.entry.now) txs.entry.now covered.items) }
         { covered_places(rt, alloc, ledger, txs, workers) },
         || -> Result<Named, NoMemory>
+            requires { IsSync R.row }
             ensures { IfOk result (IsNamed txs.entry.now) }
-        { Named::of(alloc, txs) },
+        { Named::par_of(rt, alloc, txs) },
     )
 }
 

@@ -12,6 +12,7 @@ ghost use Rattle.sx_tx.specs.declared.tx.Tx.{Tx as Transaction};
 use crate::kinds::{cancelled_key, created_id};
 use crate::seen::Seen;
 use std::alloc::Global;
+use std::thread::{Threads, join};
 use sx_bytes::NoMemory;
 use sx_ledger::Key;
 use sx_tx::Tx;
@@ -57,6 +58,25 @@ impl Named {
         Ok(Named {
             offers: Seen::of(cancelled_keys(alloc, txs)?),
             ids: Seen::of(created_ids(alloc, txs)?),
+        })
+    }
+
+    // The same by two threads, one for the offers and one for the ids.
+    pub(crate) fn par_of<R: Threads>(rt: &R, alloc: Global, txs: &[Tx]) -> Result<Named, NoMemory>
+        ensures { IfOk result (IsNamed txs.now) }
+    {
+        let (keys, ids) = join(
+            rt,
+            || -> Result<Vec<Key>, NoMemory>
+                ensures { IfOk result (λ keys. keys.items ≡ cancelled txs.entry.now) }
+            { cancelled_keys(alloc, txs) },
+            || -> Result<Vec<u64>, NoMemory>
+                ensures { IfOk result (λ ids. ids.items ≡ created txs.entry.now) }
+            { created_ids(alloc, txs) },
+        );
+        Ok(Named {
+            offers: Seen::of(keys?),
+            ids: Seen::of(ids?),
         })
     }
 
