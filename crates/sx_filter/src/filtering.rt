@@ -4,7 +4,8 @@ ghost use Rattle.std.specs.Prelude.{◌≡◌, ◌≤◌, Bool, List, length, ve
 ghost use Rattle.std.specs.List.{filter as those};
 ghost use Rattle.std.specs.List.Sorted.{IsPermutation, IsSortedBy};
 ghost use Rattle.sx_filter.specs.Fault.{fault_of as the_fault, IsFaultOf};
-ghost use Rattle.sx_filter.specs.Kept.{kept_of, passing as passing_of};
+ghost use Rattle.std.specs.Thread.{IsSync};
+ghost use Rattle.sx_filter.specs.Kept.{kept_of, passes, passing as passing_of};
 ghost use Rattle.sx_filter.specs.Verdicts.{ArePassed, AreVerdicts};
 ghost use Rattle.sx_layout.specs.declared.space.NoRoom.{NoRoom as WhyNoRoom};
 ghost use Rattle.sx_layout.specs.Room.{room_for};
@@ -16,11 +17,44 @@ use crate::alone::verdicts_of;
 use crate::fault::FilterFault;
 use crate::passing::passing;
 use std::alloc::Global;
-use std::thread::Threads;
+use std::thread::{Threads, join};
 use sx_bytes::NoMemory;
-use sx_layout::{par_sort_txs, room, sort_txs};
+use sx_layout::{NoRoom, par_sort_txs, room, sort_txs};
 use sx_ledger::Ledger;
 use sx_tx::{Tx, TxList};
+
+// Whether there is room for candidates, and which of them pass. Several workers test them while a thread counts what
+// they ask for.
+fn room_and_passing<R: Threads + Sync>(
+    rt: &R,
+    alloc: Global,
+    ledger: &Ledger,
+    candidates: &[Tx],
+    workers: u32,
+) -> (Result<(), NoRoom>, Result<Vec<bool>, NoMemory>)
+    requires few_candidates { length candidates.now ≤ most_transactions }
+    requires some_worker { 1 ≤ workers }
+    ensures room { result.0 ≡ room_for ledger.now candidates.now }
+    ensures one_each { IfOk result.1 (λ verdicts. length verdicts.items ≡ length candidates.now) }
+    ensures verdicts { IfOk result.1 (λ verdicts. AreVerdicts (passes ledger.now) candidates.now verdicts.items) }
+{
+    if workers == 1 {
+        let space = room(ledger, candidates);
+        return (space, passing(rt, alloc, ledger, candidates, workers));
+    }
+    join(
+        rt,
+        || -> Result<(), NoRoom>
+            requires { length candidates.now ≤ most_transactions }
+            ensures { result ≡ room_for ledger.entry.now candidates.entry.now }
+        { room(ledger, candidates) },
+        || -> Result<Vec<bool>, NoMemory>
+            requires { IsSync R.row × (1 ≤ workers) }
+            ensures one_each { IfOk result (λ verdicts. length verdicts.items ≡ length candidates.entry.now) }
+            ensures verdicts { IfOk result (λ verdicts. AreVerdicts (passes ledger.entry.now) candidates.entry.now verdicts.items) }
+        { passing(rt, alloc, ledger, candidates, workers) },
+    )
+}
 
 // Keeps the candidates at the places that a list of verdicts names, in their order. Those before the first that is not
 // kept stay where they are.
@@ -123,9 +157,10 @@ pub fn filter_list<R: Threads + Sync>(
     ensures no_room { (why : WhyNoRoom) → room_for ledger.now candidates ≡ Err why → result ≡ Err (the_fault why) }
     ensures fault { IfErr result (IsFaultOf (room_for ledger.now candidates)) }
 {
-    room(ledger, candidates.items())?;
+    let (space, verdicts) = room_and_passing(rt, alloc, ledger, candidates.items(), workers);
+    space?;
+    let verdicts = verdicts?;
     let mut txs = candidates.into_items();
-    let verdicts = passing(rt, alloc, ledger, &txs, workers)?;
     keep(&mut txs, &verdicts);
     Ok(alone(rt, alloc, ledger, txs, workers)?)
 }

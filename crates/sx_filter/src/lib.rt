@@ -26,11 +26,12 @@
 //! Cost: for n candidates the ledger's test of each, which is shared among the workers, and a sort of those that
 //! pass by several threads. Then two of one number are neighbours, and the candidates of an account are a run, of
 //! which the debits are summed up with one search for the account; the workers share the runs too, and a run that lies
-//! in the parts of several is summed up by each of them. Meanwhile a thread of its own collects the offers that are
-//! cancelled and the ids that are created, which are sorted too, and cost nothing where there are none. Those that
-//! pass, and later those that are kept, move to the front of the list, which is a copy for [`filter`] and the caller's
-//! own for [`filter_list`]. No memory is taken for each run or candidate beside these lists and two answers of yes or
-//! no for each candidate.
+//! in the parts of several is summed up by each of them. The offers that are cancelled and the ids that are created are
+//! sorted too, and cost nothing where there are none. Where there are several workers, threads of their own see whether
+//! there is room, beside the test, and collect those offers and ids, beside the sums. Those that pass, and later those
+//! that are kept, move to the front of the list, which is a copy for [`filter`] and the caller's own for
+//! [`filter_list`]. No memory is taken for each run or candidate beside these lists and two answers of yes or no for
+//! each candidate.
 //!
 //! Not here: what is kept is not the most that could be kept, since of two that exclude each other neither is.
 //! Nothing says that workers run at the same time.

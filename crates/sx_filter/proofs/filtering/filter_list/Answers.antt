@@ -1,4 +1,4 @@
-use Rattle.std.proofs.Common.{◌≡◌, ◌≤◌, Bool, List, Ok, length, sym, ap, subst, ◌∙◌}
+use Rattle.std.proofs.Common.{◌≡◌, ◌≤◌, Bool, List, Ok, length, sym, ap, subst, ◌∙◌, rules}
 use Rattle.std.specs.List.{filter}
 use Rattle.sx_filter.specs.Kept.{passes}
 use Rattle.sx_filter.specs.Verdicts.{AreVerdicts}
@@ -14,19 +14,21 @@ returns-clause-kept g c =
     let parts = c.args.ledger.now in
     let said = c.in_ok-verdicts.verdicts.items in
     let txs = c.into_items-txs.result.items in
+    let found : AreVerdicts (passes parts) c.items.result.now said = search rules in
     let told : AreVerdicts (passes parts) txs said =
-    subst (λ (list : List Tx). AreVerdicts (passes parts) list said) c.deref.ensures.value
-    c.in_ok-verdicts.ensures.verdicts in
-    let lent = subst (λ (list : List Bool). AreVerdicts (passes parts) txs list) (sym c.deref-2.ensures.value) told in
+    subst (λ (list : List Tx). AreVerdicts (passes parts) list said) (c.items.ensures ∙ sym c.into_items-txs.ensures)
+    found in
+    let lent = subst (λ (list : List Bool). AreVerdicts (passes parts) txs list) (sym c.deref.ensures.value) told in
     c.in_ok-alone.ensures c.args.candidates
     (c.keep.ensures (passes parts) lent ∙ ap (filter (passes parts)) c.into_items-txs.ensures)
 
 pub returns-clause-admissible : goal.returns-clause-admissible
 returns-clause-admissible g c =
     let parts = c.args.ledger.now in
+    let space : room_for parts c.items.result.now ≡ Ok tt = search rules in
     subst (IsAdmissible parts) (sym (returns-clause-kept g c))
     (kept_is_admissible parts c.args.candidates
-    (subst (λ (txs : List Tx). room_for parts txs ≡ Ok tt) c.items.ensures (sym c.in_ok-room.ensures)))
+    (subst (λ (txs : List Tx). room_for parts txs ≡ Ok tt) c.items.ensures space))
 
 pub returns-clause-few : goal.returns-clause-few
 returns-clause-few g c =
