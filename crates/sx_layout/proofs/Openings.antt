@@ -1,11 +1,11 @@
 -- Before the first turn the next event of each actor is allowed, and it stays so.
 use Rattle.std.proofs.Common.{◌≡◌, ◌≢◌, ℕ, zero, suc, ◌+◌, ◌-◌, ◌*◌, ◌/◌, ◌^◌, ◌<◌, ◌≤◌, true, List, [], ◌∷◌}
-use Rattle.std.proofs.Common.{◌++◌}
+use Rattle.std.proofs.Common.{◌++◌, Ok, Err}
 use Rattle.std.proofs.Common.{length, get_or, take, drop, max, refl, sym, ap, subst, ◌∙◌, inl, inr, arith}
 use Rattle.std.proofs.Common.{length-set}
 use Rattle.std.proofs.Common.{get_or-set_same, get_or-set_other, length-take, length-drop}
-use Rattle.std.specs.Prelude.{Contains, slice_set}
-use Rattle.std.specs.List.{All, flat_map, range_with_len, slice_range}
+use Rattle.std.specs.Prelude.{Contains, IfOk, Result, slice_set}
+use Rattle.std.specs.List.{All, range_with_len, slice_range}
 use Rattle.std.proofs.Math.Nat.{div-mul-le_self, mul-le-mul_left}
 use Rattle.std.proofs.lemmas.Bool.{cases_eq}
 use Rattle.std.proofs.lemmas.List.{get_or_append_left, get_or_at, get_or_default, get_or-take, get_or-drop}
@@ -20,11 +20,10 @@ use Rattle.sx_layout.specs.declared.outcome.Outcome.{Outcome}
 use Rattle.sx_layout.specs.Actors.{Actor, actor_of, after_splits, all_starting, beginning, part_begin, starting}
 use Rattle.sx_layout.specs.Actors.{working}
 use Rattle.sx_layout.specs.Plan.{Plan, plan_of, words_of}
-use Rattle.sx_layout.specs.Running.{Run, after_turns, all_to_end, opening_run, outcomes_of_run}
+use Rattle.sx_layout.specs.Running.{Run, after_turns, all_to_end, done_of_run, opening_run, outcomes_of_run}
 use Rattle.sx_layout.specs.RunKeeps.{ActorFits, RunFits, WordsStay}
 use Rattle.sx_layout.specs.Setting.{Setting}
 use Rattle.sx_layout.specs.RunOf.{Fit, run_of}
-use Rattle.sx_ledger.specs.declared.parts.Parts.{Parts}
 use Rattle.sx_tx.specs.declared.tx.Tx.{Tx}
 
 -- ---- where parts begin
@@ -237,41 +236,36 @@ next_splits purses bits count n k at state after state_is at_is after_is =
 
 -- ---- the outcomes of a whole run
 
+pub if_ok : {T E : Type 0} (r : Result T E) (P Q : T → Type 0) → ((x : T) → P x → Q x) → IfOk r P → IfOk r Q
+if_ok (Ok x) P Q f holds = f x holds
+if_ok (Err e) P Q f holds = tt
+
 done_by : Setting → ℕ → List ℕ → Run → List Outcome
-done_by s n turns run =
-    flat_map (λ actor. actor.done) (all_to_end s.parts s.plan n (after_turns s.parts s.plan turns run)).actors
+done_by s n turns run = done_of_run (all_to_end s.parts s.plan n (after_turns s.parts s.plan turns run))
 
-module _ (parts : Parts) (candidates : List Tx) (actors : ℕ) (turns : List ℕ) where
-  pub whole_run : (s : Setting) (n : ℕ) (state state' : State) (hands after : List Actor) (outcomes : List Outcome)
-      → s ≡ record { parts = parts; candidates = candidates; plan = plan_of parts candidates 1 }
-      → n ≡ working actors (length candidates) → state ≡ (opening_run s.parts s.plan s.candidates n).state
-      → hands ≡ all_starting candidates n
-      → run_of state' after
-      ≡ all_to_end s.parts s.plan (length hands) (after_turns s.parts s.plan turns (run_of state hands))
-      → outcomes ≡ flat_map (λ actor. actor.done) after → outcomes ≡ outcomes_of_run parts candidates actors turns
-  unfolding done_by
-  whole_run s n state state' hands after outcomes s_is n_is state_is hands_is run_is is =
-      let size : length hands ≡ working actors (length candidates) =
-      ap (λ (h : List Actor). length h) hands_is ∙ how_many candidates n ∙ n_is in
-      let states =
-      state_is ∙ ap (λ (x : Setting). (opening_run x.parts x.plan x.candidates n).state) s_is
-      ∙ ap (λ (m : ℕ). (opening_run parts (plan_of parts candidates 1) candidates m).state) n_is in
-      let all = hands_is ∙ ap (λ (m : ℕ). all_starting candidates m) n_is in
-      is ∙ ap (λ (r : Run). flat_map (λ actor. actor.done) r.actors) run_is
-      ∙ (λ i. done_by (s_is i) (size i) turns (run_of (states i) (all i)))
+-- those of actors that are made before the first turn
+pub opened_outcomes : (s : Setting) (n : ℕ) (turns : List ℕ) (state : State) (hands : List Actor)
+    → state ≡ (opening_run s.parts s.plan s.candidates n).state → hands ≡ all_starting s.candidates n
+    → done_of_run (all_to_end s.parts s.plan (length hands) (after_turns s.parts s.plan turns (run_of state hands)))
+    ≡ done_of_run
+    (all_to_end s.parts s.plan n (after_turns s.parts s.plan turns (opening_run s.parts s.plan s.candidates n)))
+unfolding done_by
+opened_outcomes s n turns state hands state_is hands_is =
+    let size : length hands ≡ n = ap (λ (h : List Actor). length h) hands_is ∙ how_many s.candidates n in
+    λ i. done_by s (size i) turns (run_of (state_is i) (hands_is i))
 
-  pub whole_fits : (s : Setting) (n : ℕ) (state : State) (hands : List Actor)
-      → s ≡ record { parts = parts; candidates = candidates; plan = plan_of parts candidates 1 }
-      → n ≡ working actors (length candidates) → state ≡ (opening_run s.parts s.plan s.candidates n).state
-      → hands ≡ all_starting candidates n → 1 ≤ actors → Fit s state hands
-  whole_fits s n state hands s_is n_is state_is hands_is some =
-      let same : length s.candidates ≡ length candidates = ap (λ (x : Setting). length x.candidates) s_is in
-      let all : hands ≡ all_starting s.candidates n =
-      hands_is ∙ ap (λ (x : Setting). all_starting x.candidates n) (sym s_is) in
-      opening_fits s n state hands (omega (arith, n_is)) (omega (arith, n_is, same)) state_is all
-
-  pub whole_few : (n : ℕ) (hands : List Actor) → n ≡ working actors (length candidates) → actors ≤ 8
-      → hands ≡ all_starting candidates n → 1 ≤ actors → length hands ≤ 8
-  whole_few n hands n_is few hands_is some =
-      let size : length hands ≡ n = ap (λ (h : List Actor). length h) hands_is ∙ how_many candidates n in
-      omega (arith, size, n_is, few, some)
+-- those of as many actors as work, with all words in one shard
+pub whole_outcomes : (s : Setting) (candidates : List Tx) (actors n : ℕ) (turns : List ℕ) → candidates ≡ s.candidates
+    → s.plan ≡ plan_of s.parts s.candidates 1 → n ≡ working actors (length candidates)
+    → done_of_run
+    (all_to_end s.parts s.plan n (after_turns s.parts s.plan turns (opening_run s.parts s.plan s.candidates n)))
+    ≡ outcomes_of_run s.parts s.candidates actors turns
+unfolding done_by
+whole_outcomes s candidates actors n turns own plan_is n_is =
+    let size : n ≡ working actors (length s.candidates) =
+    n_is ∙ ap (λ (list : List Tx). working actors (length list)) own in
+    ap (λ (k : ℕ). done_by s k turns (opening_run s.parts s.plan s.candidates k)) size
+    ∙ ap
+    (λ (plan : Plan). done_by (record { parts = s.parts; candidates = s.candidates; plan = plan })
+    (working actors (length s.candidates)) turns
+    (opening_run s.parts plan s.candidates (working actors (length s.candidates)))) plan_is

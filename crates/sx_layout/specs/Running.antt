@@ -108,6 +108,10 @@ closing_run parts candidates actors turns =
     let n = working actors (length candidates) in
     all_to_end parts plan n (after_turns parts plan turns (opening_run parts plan candidates n))
 
+-- what its actors have decided, one actor after the other
+abbrev pub done_of_run : Run → List Outcome
+done_of_run run = flat_map (λ actor. actor.done) run.actors
+
 -- the outcomes, in the order of the candidates
 abbrev pub outcomes_of_run : Parts → List Tx → ℕ → List ℕ → List Outcome
 outcomes_of_run parts candidates actors turns =

@@ -20,7 +20,7 @@ use sx_tx::Tx;
 
 /// An actor of a script: the candidates that it has left, what it does next for the first of them, and
 /// the outcomes of those before. Contracts see an `Actor`.
-#[derive(Debug, Drop)]
+#[derive(Drop)]
 pub struct Hand<'a> {
     left: &'a [Tx],
     stage: Stage,
@@ -49,8 +49,8 @@ fn pass_over<'a>(
     ensures places { IfOk result (λ found. MatchOption found.1 (found.0.now ≡ []) (FirstPasses setting.now.parts found.0.now)) }
     ensures own { IfOk result (λ found. All (Contains setting.now.candidates) left.now → All (Contains setting.now.candidates) found.0.now) }
 {
-    for (at, tx) in left.iter().enumerate() {
-        match setting.setting.places_of(near, tx) {
+    for at in 0..left.len() {
+        match setting.setting.places_of(near, &left[at]) {
             Ok(places) => return Ok((&left[at..], Some(places))),
             Err(why) => done.push(Outcome::Static(why))?,
         }

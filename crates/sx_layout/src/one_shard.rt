@@ -21,7 +21,7 @@ use sx_ledger::{Ledger, Places};
 use sx_tx::Tx;
 
 /// The setting of candidates, with all words in one shard.
-#[derive(Debug, Drop)]
+#[derive(Drop)]
 pub struct OneShard<'a> {
     pub setting: Setting<'a>,
 }

@@ -1,12 +1,13 @@
 //! Running a script.
 
-ghost use Rattle.std.specs.Prelude.{◌≡◌, ◌<◌, ◌≤◌, length, max, IfOk, OnOk, Ok};
+ghost use Rattle.std.specs.Prelude.{◌≡◌, ◌<◌, ◌≤◌, length, max, IfOk, Ok};
 ghost use Rattle.std.specs.List.{flat_map};
 ghost use Rattle.sx_layout.specs.Actors.{working as at_work, part_begin as the_begin, starting, all_starting};
 ghost use Rattle.sx_layout.specs.Gathering.{IsGathered, body_of, decisions};
 ghost use Rattle.sx_layout.specs.Outcomes.{AreOutcomes};
+ghost use Rattle.sx_layout.specs.Plan.{plan_of};
 ghost use Rattle.sx_layout.specs.Room.{room_for};
-ghost use Rattle.sx_layout.specs.Running.{after_turns, all_to_end as all_at_end, opening_run, outcomes_of_run};
+ghost use Rattle.sx_layout.specs.Running.{after_turns, all_to_end as all_at_end, done_of_run, opening_run, outcomes_of_run};
 ghost use Rattle.sx_layout.specs.RunOf.{Fit, run_of};
 ghost use Rattle.sx_layout.specs.Scripts.{most_actors};
 ghost use Rattle.sx_tx.specs.Transactions.{IsTxList, most_transactions};
@@ -84,21 +85,6 @@ fn all_hands<'a>(alloc: Global, candidates: &'a [Tx], n: u32) -> Result<Vec<Hand
     Ok(hands)
 }
 
-// All turns, and then what is left to do.
-fn run(
-    setting: &OneShard,
-    core: &mut Core,
-    hands: &mut [Hand],
-    turns: &[u8],
-) -> Result<(), NoMemory>
-    requires few { length hands.old ≤ 8 }
-    requires fit { Fit setting.now core.old.state hands.old }
-    ensures { OnOk result (run_of core.new.state hands.new ≡ all_at_end setting.now.parts setting.now.plan (length hands.old) (after_turns setting.now.parts setting.now.plan turns.now (run_of core.old.state hands.old))) }
-{
-    all_turns(setting, core, hands, turns)?;
-    all_to_end(setting, core, hands)
-}
-
 // The outcomes of all actors, one actor after the other. There is room for `count` from the start.
 fn all_done(alloc: Global, count: u32, hands: &[Hand]) -> Result<Outcomes, NoMemory>
     ensures { IfOk result (λ outcomes. outcomes ≡ flat_map (λ actor. actor.done) hands.now) }
@@ -108,6 +94,73 @@ fn all_done(alloc: Global, count: u32, hands: &[Hand]) -> Result<Outcomes, NoMem
         outcomes.extend_from_slice(hand.done())?;
     }
     Ok(Outcomes::of(outcomes))
+}
+
+// All turns, then what is left to do, and the outcomes, for which there is room for `count` from the start.
+fn run(
+    alloc: Global,
+    setting: &OneShard,
+    core: &mut Core,
+    hands: &mut [Hand],
+    turns: &[u8],
+    count: u32,
+) -> Result<Outcomes, NoMemory>
+    requires few { length hands.old ≤ 8 }
+    requires fit { Fit setting.now core.old.state hands.old }
+    ensures { IfOk result (λ outcomes. outcomes ≡ done_of_run (all_at_end setting.now.parts setting.now.plan (length hands.old) (after_turns setting.now.parts setting.now.plan turns.now (run_of core.old.state hands.old)))) }
+{
+    all_turns(setting, core, hands, turns)?;
+    all_to_end(setting, core, hands)?;
+    all_done(alloc, count, hands)
+}
+
+// The same from the core before the first turn, by `n` actors.
+fn run_opened(
+    alloc: Global,
+    setting: &OneShard,
+    core: &mut Core,
+    candidates: &[Tx],
+    n: u32,
+    turns: &[u8],
+) -> Result<Outcomes, NoMemory>
+    requires own { candidates.now ≡ setting.now.candidates }
+    requires few_candidates { length candidates.now ≤ most_transactions }
+    requires some { 1 ≤ n }
+    requires few { n ≤ most_actors }
+    requires enough { n ≤ max 1 (length candidates.now) }
+    requires opening { core.old.state ≡ (opening_run setting.now.parts setting.now.plan setting.now.candidates n).state }
+    ensures { IfOk result (λ outcomes. outcomes ≡ done_of_run (all_at_end setting.now.parts setting.now.plan n (after_turns setting.now.parts setting.now.plan turns.now (opening_run setting.now.parts setting.now.plan setting.now.candidates n)))) }
+{
+    let mut hands = all_hands(alloc, candidates, n)?;
+    run(
+        alloc,
+        setting,
+        core,
+        &mut hands,
+        turns,
+        candidates.len() as u32,
+    )
+}
+
+// The outcomes of a script in its setting.
+fn outcomes_in(
+    alloc: Global,
+    setting: &OneShard,
+    candidates: &[Tx],
+    actors: u32,
+    turns: &[u8],
+) -> Result<Outcomes, NoMemory>
+    requires own { candidates.now ≡ setting.now.candidates }
+    requires plan { setting.now.plan ≡ plan_of setting.now.parts setting.now.candidates 1 }
+    requires few_candidates { length candidates.now ≤ most_transactions }
+    requires some_actor { 1 ≤ actors }
+    requires few_actors { actors ≤ most_actors }
+    ensures { IfOk result (λ outcomes. outcomes ≡ outcomes_of_run setting.now.parts setting.now.candidates actors turns.now) }
+{
+    let count = candidates.len() as u32;
+    let n = working(actors, count);
+    let mut core = opening_core(alloc, setting, count, n)?;
+    run_opened(alloc, setting, &mut core, candidates, n, turns)
 }
 
 /// Gathers at most 1,000,000 candidates of a ledger by 1 to 8 actors, which take turns as the script
@@ -137,10 +190,5 @@ pub fn run_script(
         IfOk result (λ outcomes. IsGathered ledger.now candidates.now outcomes (body_of (decisions candidates.now outcomes))) }
 {
     let setting = OneShard::new(alloc, ledger, candidates)?;
-    let count = candidates.len() as u32;
-    let n = working(actors, count);
-    let mut core = opening_core(alloc, &setting, count, n)?;
-    let mut hands = all_hands(alloc, candidates, n)?;
-    run(&setting, &mut core, &mut hands, turns)?;
-    all_done(alloc, count, &hands)
+    outcomes_in(alloc, &setting, candidates, actors, turns)
 }

@@ -5,7 +5,7 @@ use sx_event::Event;
 use sx_tx::Kind;
 
 /// What an actor does next for a candidate. A bit is a place in a bit word, below 64.
-#[derive(Clone, Copy, Debug, PartialEq, Eq)]
+#[derive(Clone, Copy)]
 pub enum Stage {
     /// Claims the candidate's sequence number.
     Number,
@@ -18,7 +18,7 @@ pub enum Stage {
 }
 
 /// What follows from what an actor is told.
-#[derive(Clone, Copy, Debug, PartialEq, Eq)]
+#[derive(Clone, Copy)]
 pub enum Next {
     /// The candidate goes on.
     On(Stage),
@@ -28,7 +28,7 @@ pub enum Next {
 
 /// What an actor is about to do for a candidate of the kind `of`. `second` is the stage that comes once
 /// the candidate's number is claimed, where the event claims it.
-#[derive(Clone, Copy, Debug, PartialEq, Eq)]
+#[derive(Clone, Copy)]
 pub struct Ahead {
     pub of: Kind,
     pub event: Event,
