@@ -10,15 +10,13 @@ ghost use Rattle.sx_record.specs.Frame.{record_bytes};
 ghost use Rattle.sx_tx.specs.Transactions.{list_bytes, most_transactions, tx_bytes};
 
 use crate::digest::Digest;
+use crate::pieces::{AccountEncoder, OfferEncoder, TxEncoder, add_entries, add_written};
 use sha2::{Digest as Hasher, Sha256};
 use std::alloc::Global;
 use sx_bytes::{NoMemory, Writer};
 use sx_ledger::Ledger;
 use sx_record::tag;
-use sx_tx::{Tx, write_tx};
-
-// How many transactions are written before their bytes are hashed: they take at most 35 KiB.
-const A_PIECE: usize = 1024;
+use sx_tx::Tx;
 
 /// SHA-256 of these bytes. It takes no memory.
 pub fn digest_of(bytes: &[u8]) -> Digest
@@ -42,52 +40,27 @@ pub fn record_digest(tag: u8, payload: &[u8]) -> Digest
     Digest::of(hasher.finalize())
 }
 
-/// The digest of a ledger: that of its whole state record.
+/// The digest of a ledger: that of its whole state record. Accounts and offers are written and hashed in pieces, so that
+/// the call takes no more memory for many of them than for 1,024.
 pub fn ledger_digest(alloc: Global, ledger: &Ledger) -> Result<Digest, NoMemory>
     ensures hash { IfOk result (λ digest. digest ≡ digest_of_ledger ledger.now) }
     ensures digest { IfOk result IsDigest }
 {
-    let length = ledger.state_length();
-    let mut payload = Writer::new(alloc);
-    payload.reserve(length as usize)?;
-    ledger.write_state(&mut payload)?;
-    prove!(payload.bytes().len() == length as usize);
-    Ok(record_digest(tag::STATE, payload.bytes()))
-}
-
-// Writes transactions in place of what was written before.
-fn write_piece(to: &mut Writer, txs: &[Tx]) -> Result<(), NoMemory>
-    ensures { OnOk result (to.new ≡ flat_map tx_bytes txs.now) }
-{
-    to.cut(0);
-    for tx in txs {
-        write_tx(to, tx)?;
-    }
-    Ok(())
-}
-
-// Adds transactions to a message. They are written in place of what was written before.
-fn add_piece(hasher: &mut Sha256, piece: &mut Writer, txs: &[Tx]) -> Result<(), NoMemory>
-    ensures { OnOk result ((m : List ℕ) → Holds256 hasher.old m → Holds256 hasher.new (m ++ flat_map tx_bytes txs.now)) }
-{
-    write_piece(piece, txs)?;
-    hasher.update(piece.bytes());
-    Ok(())
-}
-
-// Adds transactions to a message, in pieces.
-fn add_transactions(alloc: Global, hasher: &mut Sha256, txs: &[Tx]) -> Result<(), NoMemory>
-    requires { length txs.now ≤ most_transactions }
-    ensures { OnOk result ((m : List ℕ) → Holds256 hasher.old m → Holds256 hasher.new (m ++ flat_map tx_bytes txs.now)) }
-{
+    let parts = ledger.parts();
+    let accounts = AccountEncoder {
+        version: parts.version,
+    };
+    let mut hasher = Sha256::new();
     let mut piece = Writer::new(alloc);
-    let mut done = 0;
-    while done < txs.len() {
-        let end = txs.len().min(done + A_PIECE);
-        add_piece(hasher, &mut piece, &txs[done..end])?;
-        done = end;
-    }
-    Ok(())
+    piece.put_u8(tag::STATE)?;
+    piece.put_u32(ledger.state_length())?;
+    ledger.write_opening(&mut piece)?;
+    add_written(&mut hasher, &mut piece);
+    add_entries(&accounts, &mut hasher, &mut piece, parts.accounts.items())?;
+    piece.put_u32(ledger.offers())?;
+    add_written(&mut hasher, &mut piece);
+    add_entries(&OfferEncoder, &mut hasher, &mut piece, parts.offers.items())?;
+    Ok(Digest::of(hasher.finalize()))
 }
 
 /// The digest of a list of transactions: that of the list's encoding, their number included. They are written and hashed
@@ -98,7 +71,9 @@ pub fn body_digest(alloc: Global, txs: &[Tx]) -> Result<Digest, NoMemory>
     ensures digest { IfOk result IsDigest }
 {
     let mut hasher = Sha256::new();
-    hasher.update((txs.len() as u32).to_be_bytes().as_slice());
-    add_transactions(alloc, &mut hasher, txs)?;
+    let mut piece = Writer::new(alloc);
+    piece.put_u32(txs.len() as u32)?;
+    add_written(&mut hasher, &mut piece);
+    add_entries(&TxEncoder, &mut hasher, &mut piece, txs)?;
     Ok(Digest::of(hasher.finalize()))
 }

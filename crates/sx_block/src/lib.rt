@@ -24,6 +24,7 @@ mod header;
 mod header_reading;
 mod header_writing;
 mod laws;
+mod pieces;
 mod reading;
 mod rule_laws;
 mod state_digest;

@@ -5,6 +5,7 @@ pub mod AdmissibleCases
 pub mod WideCases
 pub mod StaticCases
 mod FormatCases
+pub mod Opening
 pub mod TradeCases
 pub mod UsedBits
 pub mod LastNumbers

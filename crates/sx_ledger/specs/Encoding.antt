@@ -23,6 +23,13 @@ offer_bytes offer =
     big_bytes 1 offer.sell ++ (big_bytes 1 offer.buy ++ (big_bytes 8 offer.limit
     ++ (big_bytes 8 offer.account.0 ++ (big_bytes 8 offer.seq ++ big_bytes 8 offer.amount))))
 
+-- what a state has before its accounts, their number included
+abbrev pub opening_bytes : Parts → List ℕ
+opening_bytes parts =
+    big_bytes 1 parts.version ++ (big_bytes 8 parts.height ++ (big_bytes 1 (length parts.prices)
+    ++ (flat_map (big_bytes 8) parts.prices ++ (flat_map (big_bytes 8) parts.rounding
+    ++ big_bytes 4 (length parts.accounts)))))
+
 -- the payload of a state's record
 abbrev pub state_bytes : Parts → List ℕ
 state_bytes parts =

@@ -64,4 +64,4 @@ pub use parts::Parts;
 pub use places::{Places, Target};
 pub use reading::{par_read_state, read_prices, read_state};
 pub use statics::Static;
-pub use writing::write_account;
+pub use writing::{write_account, write_accounts, write_offers};

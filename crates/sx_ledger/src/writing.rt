@@ -5,7 +5,7 @@ ghost use Rattle.std.specs.List.{flat_map};
 ghost use Rattle.byteorder.specs.Endian.{big_bytes};
 ghost use Rattle.sx_bytes.specs.Written.{Begins};
 ghost use Rattle.sx_ledger.specs.Ledger.{IsLedger, longest_state};
-ghost use Rattle.sx_ledger.specs.Encoding.{window_bytes, account_bytes, offer_bytes, state_bytes};
+ghost use Rattle.sx_ledger.specs.Encoding.{window_bytes, account_bytes, offer_bytes, opening_bytes, state_bytes};
 
 use crate::account::Account;
 use crate::ledger::Ledger;
@@ -75,8 +75,9 @@ pub fn write_account(to: &mut Writer, version: u8, account: &Account) -> Result<
     written
 }
 
+/// Appends accounts as a state of this version has them. Where memory runs out, some of their bytes may stand there.
 #[tactic(auto, using(sx_bytes::proofs::Written::begins, sx_bytes::proofs::Written::begins_then))]
-fn put_accounts(to: &mut Writer, version: u8, accounts: &[Account]) -> Result<(), NoMemory>
+pub fn write_accounts(to: &mut Writer, version: u8, accounts: &[Account]) -> Result<(), NoMemory>
     ensures ok { OnOk result (to.new ≡ to.old ++ flat_map (account_bytes version) accounts.now) }
     ensures err { OnErr result (Begins to.old to.new) }
 {
@@ -99,8 +100,9 @@ fn put_offer(to: &mut Writer, offer: &Offer) -> Result<(), NoMemory>
     to.put_u64(offer.amount.get())
 }
 
+/// Appends offers as a state has them. Where memory runs out, some of their bytes may stand there.
 #[tactic(auto, using(sx_bytes::proofs::Written::begins, sx_bytes::proofs::Written::begins_then))]
-fn put_offers(to: &mut Writer, offers: &[Offer]) -> Result<(), NoMemory>
+pub fn write_offers(to: &mut Writer, offers: &[Offer]) -> Result<(), NoMemory>
     ensures ok { OnOk result (to.new ≡ to.old ++ flat_map offer_bytes offers.now) }
     ensures err { OnErr result (Begins to.old to.new) }
 {
@@ -110,10 +112,11 @@ fn put_offers(to: &mut Writer, offers: &[Offer]) -> Result<(), NoMemory>
     Ok(())
 }
 
+// What stands before the accounts, their number included.
 #[tactic(auto, using(sx_bytes::proofs::Written::begins, sx_bytes::proofs::Written::begins_then))]
-fn put_state(to: &mut Writer, parts: &Parts) -> Result<(), NoMemory>
+fn put_opening(to: &mut Writer, parts: &Parts) -> Result<(), NoMemory>
     requires { IsLedger parts.now }
-    ensures ok { OnOk result (to.new ≡ to.old ++ state_bytes parts.now) }
+    ensures ok { OnOk result (to.new ≡ to.old ++ opening_bytes parts.now) }
     ensures err { OnErr result (Begins to.old to.new) }
 {
     to.put_u8(parts.version)?;
@@ -121,10 +124,19 @@ fn put_state(to: &mut Writer, parts: &Parts) -> Result<(), NoMemory>
     to.put_u8(parts.prices.items().len() as u8)?;
     put_prices(to, parts.prices.items())?;
     put_units(to, parts.rounding.items())?;
-    to.put_u32(parts.accounts.items().len() as u32)?;
-    put_accounts(to, parts.version, parts.accounts.items())?;
+    to.put_u32(parts.accounts.items().len() as u32)
+}
+
+#[tactic(auto, using(sx_bytes::proofs::Written::begins, sx_bytes::proofs::Written::begins_then))]
+fn put_state(to: &mut Writer, parts: &Parts) -> Result<(), NoMemory>
+    requires { IsLedger parts.now }
+    ensures ok { OnOk result (to.new ≡ to.old ++ state_bytes parts.now) }
+    ensures err { OnErr result (Begins to.old to.new) }
+{
+    put_opening(to, parts)?;
+    write_accounts(to, parts.version, parts.accounts.items())?;
     to.put_u32(parts.offers.items().len() as u32)?;
-    put_offers(to, parts.offers.items())
+    write_offers(to, parts.offers.items())
 }
 
 impl Ledger {
@@ -141,6 +153,17 @@ impl Ledger {
             to.cut(before);
         }
         written
+    }
+
+    /// Appends what the payload of the state has before the accounts, their number included. After them come the number
+    /// of the offers in four bytes, and the offers. Where memory runs out, some of the bytes may stand there.
+    pub fn write_opening(&self, to: &mut Writer) -> Result<(), NoMemory>
+        ensures ok { OnOk result (to.new ≡ to.old ++ opening_bytes self.now) }
+        ensures err { OnErr result (Begins to.old to.new) }
+        ensures rest { state_bytes self.now ≡ opening_bytes self.now ++ (flat_map (account_bytes self.now.version) self.now.accounts
+            ++ (big_bytes 4 (length self.now.offers) ++ flat_map offer_bytes self.now.offers)) }
+    {
+        put_opening(to, self.parts())
     }
 
     /// How many bytes the payload of the state has, at most [`Ledger::LONGEST`]. It takes no memory.

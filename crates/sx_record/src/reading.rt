@@ -12,10 +12,13 @@ use crate::frame::{FRAME_BYTES, MOST_BYTES, Record};
 use byteorder::{BigEndian, ByteOrder};
 use std::alloc::Global;
 use sx_base::{Source, TakeFault, take_exact};
-use sx_bytes::{Bytes, Form, FormFault};
+use sx_bytes::{Bytes, Form, FormFault, NoMemory};
 
 // The memory that is taken for a payload before any of it has come, in bytes.
 const FIRST_PIECE: usize = 65_536;
+
+// How many bytes of a payload are read at a time. They are still in a processor's cache from being zeroed then.
+const MOST_AT_ONCE: usize = 1 << 18;
 
 /// Reads the next record. `at` is the offset of its tag, and `tags` are those that are allowed here.
 ///
@@ -157,8 +160,20 @@ fn next_payload<S: Source>(
     Ok(payload)
 }
 
-// Appends the next bytes of the payload to those that have come: as many as have come, or all that
-// are missing if these are fewer.
+// Takes the memory for as many bytes more as have come, or for all that are missing if these are fewer. Where there is
+// memory for the next piece already, none is taken.
+fn make_room(payload: &mut Vec<u8>, size: usize, piece: usize) -> Result<(), NoMemory>
+    requires { vec_len payload.old ≤ size }
+    ensures { payload.new.items ≡ payload.old.items }
+{
+    let come = payload.len();
+    if payload.capacity() - come < piece {
+        payload.reserve_exact(come.max(FIRST_PIECE).min(size - come))?;
+    }
+    Ok(())
+}
+
+// Appends the next bytes of the payload to those that have come.
 fn take_piece<S: Source>(
     source: &mut S,
     at: u64,
@@ -178,8 +193,8 @@ fn take_piece<S: Source>(
     ensures kept { S.strict source.new ≡ S.strict source.old }
 {
     let come = payload.len();
-    let piece = come.max(FIRST_PIECE).min(size - come);
-    payload.reserve_exact(piece)?;
+    let piece = come.clamp(FIRST_PIECE, MOST_AT_ONCE).min(size - come);
+    make_room(payload, size, piece)?;
     payload.resize(come + piece, 0)?;
     fill(source, at + come as u64, &mut payload[come..])
 }

@@ -3,8 +3,7 @@ use Rattle.std.proofs.Math.Seq.{take-add}
 use Rattle.std.proofs.lemmas.Grind.{flat_map-append}
 use Rattle.std.specs.List.{flat_map}
 use Rattle.sha2.specs.Hashers.{Holds256}
-use Rattle.sx_tx.specs.Transactions.{tx_bytes}
-use Rattle.sx_block.proofs.hashing.add_transactions.Goals as goal
+use Rattle.sx_block.proofs.pieces.add_entries.Goals as goal
 
 -- the entries up to one place, and those from there to another
 up_to : {X : Type 0} (encode : X → List ℕ) (xs : List X) (m : List ℕ) (done end : ℕ) → done ≤ end
@@ -20,15 +19,16 @@ up_to {X} encode xs m done end le =
     ∙ ap (flat_map encode) taken)
 
 pub loop-done-preserved : goal.loop-done-preserved
-loop-done-preserved c =
-    let txs = c.args.txs.now in
+loop-done-preserved g c =
+    let encode = g.E.Encoder.encode c.args.encoder.now in
+    let entries = c.args.entries.now in
     let done = c.loop-done.done in
-    let end = c.min-end.result in
-    let within : done ≤ end = omega (arith, c.min-end.ensures, c.loop-done.invariant.within, c.loop-done-test.true) in
+    let count = c.min-count.result in
     record {
-      within = omega (arith, c.min-end.ensures);
+      within = omega (arith, c.min-count.ensures, c.loop-done.invariant.within);
       holds = λ (m : List ℕ). λ (h : Holds256 c.args.hasher.now m).
           subst (λ (text : List ℕ). Holds256 c.add_piece.new.hasher text)
-          (up_to tx_bytes txs m done end within)
-          (c.in_ok-add_piece.ensures (m ++ flat_map tx_bytes (take done txs)) (c.loop-done.invariant.holds m h));
+          (up_to encode entries m done (done + count) (omega arith))
+          (c.in_ok-add_piece.ensures.hashed (m ++ flat_map encode (take done entries)) (c.loop-done.invariant.holds m h));
+      emptied = c.in_ok-add_piece.ensures.emptied;
     }

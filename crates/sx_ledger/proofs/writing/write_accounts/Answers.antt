@@ -1,6 +1,6 @@
 use Rattle.sx_bytes.proofs.Written.{flat_map-taken}
 use Rattle.sx_ledger.specs.Encoding.{account_bytes}
-use Rattle.sx_ledger.proofs.writing.put_accounts.Goals as goal
+use Rattle.sx_ledger.proofs.writing.write_accounts.Goals as goal
 
 pub loop-account-preserved : goal.loop-account-preserved
 loop-account-preserved c =

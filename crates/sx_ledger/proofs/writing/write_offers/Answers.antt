@@ -1,6 +1,6 @@
 use Rattle.sx_bytes.proofs.Written.{flat_map-taken}
 use Rattle.sx_ledger.specs.Encoding.{offer_bytes}
-use Rattle.sx_ledger.proofs.writing.put_offers.Goals as goal
+use Rattle.sx_ledger.proofs.writing.write_offers.Goals as goal
 
 pub loop-offer-preserved : goal.loop-offer-preserved
 loop-offer-preserved c =
