@@ -11,13 +11,14 @@ ghost use Rattle.sx_input.specs.Head.{IsHead};
 ghost use Rattle.sx_input.specs.Incoming.{IsReady};
 ghost use Rattle.sx_tx.specs.Transactions.{list_bytes};
 
+use crate::leaving::left_of;
 use std::alloc::Global;
 use std::thread::Threads;
-use sx_block::{digest_of, validity_laws};
+use sx_block::validity_laws;
 use sx_check::{
     CheckFault, Checked, Judged, check_laws, close, first_reason, judge_applicable, named,
 };
-use sx_input::{Head, Incoming, StateDigest, written};
+use sx_input::{Head, Incoming, StateDigest};
 use sx_spread::apply_spread;
 
 // Where the chain stands after a block, and what is told of the block.
@@ -28,13 +29,15 @@ pub struct Advanced {
 }
 
 // Judges the next block, and applies it by so many workers. A thread may still be making the digest of the ledger,
-// which neither needs. So it is waited for last, or where the block is refused.
+// which neither needs. So it is waited for last, or where the block is refused. The record of the ledger after the block
+// is written only where a caller wants it.
 pub fn advance<R: Threads + Sync>(
     rt: &R,
     alloc: Global,
     head: Head,
     incoming: Incoming,
     workers: u32,
+    is_wanted: bool,
 ) -> Result<Advanced, CheckFault>
     requires some_worker { 1 ≤ workers }
     requires few_workers { workers ≤ 64 }
@@ -65,15 +68,14 @@ pub fn advance<R: Threads + Sync>(
     };
     let Judged { checked, effects } = judged;
     let ledger = apply_spread(rt, alloc, ledger, &block, effects, workers)?;
-    let state = written(alloc, &ledger, state)?;
-    let after = digest_of(state.bytes());
+    let left = left_of(rt, alloc, &ledger, state, is_wanted)?;
     let parent = digest.wait(rt);
     named(&block.header, &parent)?;
-    close(&block.header, &after)?;
+    close(&block.header, &left.digest)?;
     let head = Head {
         ledger,
-        state: Some(state),
-        digest: StateDigest::Known(after),
+        state: left.state,
+        digest: StateDigest::Known(left.digest),
     };
     Ok(Advanced { head, checked })
 }

@@ -37,7 +37,7 @@ fn verdict<R: Threads + Sync>(
     ensures concludes { ConcludesAs Command.Check (item.state head.ledger ∷ item.block incoming.block ∷ []) result }
     ensures calm { IsErrOf result Stop.ReadFault → ⊥ }
 {
-    match advance(rt, alloc, head, incoming, workers) {
+    match advance(rt, alloc, head, incoming, workers, false) {
         Ok(advanced) => Ok(check_line(alloc, &advanced.checked)?),
         Err(CheckFault::Invalid(why)) => Err(Stop::Refused { block: 0, why }),
         Err(CheckFault::NoMemory) => Err(Stop::NoMemory),

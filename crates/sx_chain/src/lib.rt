@@ -21,6 +21,7 @@
 mod advancing;
 mod checking;
 mod following;
+mod leaving;
 mod replaying;
 
 pub use checking::check;

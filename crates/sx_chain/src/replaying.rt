@@ -66,7 +66,7 @@ fn step_block<R: Threads + Sync>(
         }));
     }
     let incoming = decoded_block(rt, alloc, &place.head.ledger, found, workers)?;
-    match advance(rt, alloc, place.head, incoming, workers) {
+    match advance(rt, alloc, place.head, incoming, workers, true) {
         Ok(advanced) => Ok(Place {
             head: advanced.head,
             at: end_of(found),
