@@ -4,6 +4,7 @@ pub mod Repeated
 pub mod UsedNumbers
 pub mod Refusals
 pub mod InPlace
+pub mod Merging
 pub mod OffersAfter
 pub mod Cancelled
 pub mod PostedUnits

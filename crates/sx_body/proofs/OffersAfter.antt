@@ -1,49 +1,60 @@
 -- The offers after a body: those that are kept and those that are made, in the order of their keys.
-use Rattle.std.proofs.Common.{◌≡◌, ℕ, ◌<◌, ◌≤◌, Bool, true, false, cond, not, List, [], ◌∷◌, ◌++◌, length, get_or, Some}
-use Rattle.std.proofs.Common.{refl, sym, subst, ◌∙◌, arith}
+use Rattle.std.proofs.Common.{◌≡◌, ℕ, ◌+◌, ◌<◌, ◌≤◌, Bool, true, false, cond, not, List, [], ◌∷◌, ◌++◌, length, get_or}
+use Rattle.std.proofs.Common.{drop, Some, None, refl, sym, ap, subst, ◌∙◌}
 use Rattle.std.specs.Prelude.{slice_get}
+use Rattle.std.specs.List.{filter, list_any}
 use Rattle.std.specs.List.Sorted.{IsPermutation, IsSortedByKey}
 use Rattle.std.specs.declared.cmp.Ordering.{Ordering}
-use Rattle.std.proofs.lemmas.List.Sorted.{IsPermutation-append_comm, IsPermutation-sym, IsPermutation-trans}
+use Rattle.std.proofs.lemmas.List.{drop_more}
+use Rattle.std.proofs.lemmas.List.Sorted.{IsPermutation-append_left, IsPermutation-sym, IsPermutation-trans}
 use Rattle.std.proofs.lemmas.List.Sorted.{ranks_by, sorted_far}
-use Rattle.std.proofs.lemmas.Option.{same_Some}
+use Rattle.std.proofs.lemmas.Option.{same_Some, slice_get-get_or}
+use Rattle.sx_body.specs.Merging.{merged}
 use Rattle.sx_body.specs.Tally.{AreFlags}
+use Rattle.sx_body.proofs.Merging.{merged_moves, merged_sorted}
 use Rattle.sx_body.proofs.SameOrder.{one_list, put_all_moves}
 use Rattle.sx_ledger.specs.contracts.key.KeyOrd.TheImpl as derived
 use Rattle.sx_ledger.specs.declared.key.Key.{Key}
 use Rattle.sx_ledger.specs.declared.offer.Offer.{Offer}
 use Rattle.sx_ledger.specs.declared.parts.Parts.{Parts}
-use Rattle.sx_ledger.specs.Body.{IsAdmissibleIn, kept_offers, made, offers_after, put_offers}
+use Rattle.sx_ledger.specs.Body.{IsAdmissibleIn, cancelled, kept_offers, made, offers_after}
 use Rattle.sx_ledger.specs.Ledger.{IsLedger}
 use Rattle.sx_ledger.specs.Order.{key_before, key_cmp, key_of, same_key}
 use Rattle.sx_ledger.proofs.BodyKeepsLedger.{keys_in_order}
-use Rattle.sx_ledger.proofs.Insertion.{put_offers_are}
+use Rattle.sx_ledger.proofs.Insertion.{filter_in_order, put_offers_are}
 use Rattle.sx_ledger.proofs.KeyOrder.{before_both, before_differs, key_cmp_derived, key_cmp_total}
 use Rattle.sx_ledger.proofs.KeyOrder.{same_key_from, same_key_is}
 use Rattle.sx_tx.specs.declared.tx.Tx.{Tx}
 
 -- ---- the offers that are kept
 
-pub not_cond : (b : Bool) (offer : Offer) → cond b [] (offer ∷ []) ≡ cond (not b) (offer ∷ []) []
-not_cond true offer = refl
-not_cond false offer = refl
+not_cond : (b : Bool) (offer : Offer) (others : List Offer)
+    → cond b [] (offer ∷ []) ++ others ≡ cond (not b) (offer ∷ others) others
+not_cond true offer others = refl
+not_cond false offer others = refl
 
 -- the flag at a place tells what the test says of the offer there
-pub flag_is : (test : Offer → Bool) (offers : List Offer) (flags : List Bool) → AreFlags test offers flags
+flag_is : (test : Offer → Bool) (offers : List Offer) (flags : List Bool) → AreFlags test offers flags
     → (place : ℕ) (offer : Offer) (flag : Bool) → slice_get offers place ≡ Some offer
     → slice_get flags place ≡ Some flag → flag ≡ test offer
 flag_is test offers flags are place offer flag here there =
     same_Some flag (test offer) (sym there ∙ are place offer here)
 
+-- the kept offers from a place on: the one at the place, unless its flag is set, and those behind it
+pub kept_more : (test : Offer → Bool) (offers : List Offer) (flags : List Bool) → AreFlags test offers flags
+    → (place : ℕ) (offer : Offer) (flag : Bool) → place < length offers → offer ≡ get_or offers place offer
+    → slice_get flags place ≡ Some flag
+    → cond flag [] (offer ∷ []) ++ filter (λ o. not (test o)) (drop (place + 1) offers)
+    ≡ filter (λ o. not (test o)) (drop place offers)
+kept_more test offers flags are place offer flag lt is there =
+    let rest = filter (λ (o : Offer). not (test o)) (drop (place + 1) offers) in
+    let here = slice_get-get_or offers place offer lt ∙ ap Some (sym is) in
+    ap (λ (b : Bool). cond b [] (offer ∷ []) ++ rest) (flag_is test offers flags are place offer flag here there)
+    ∙ not_cond (test offer) offer rest
+    ∙ ap (λ (o : Offer). filter (λ x. not (test x)) (o ∷ drop (place + 1) offers)) is
+    ∙ sym (ap (filter (λ o. not (test o))) (drop_more offers place offer lt))
+
 -- ---- the offers after the body
-
-none_put : (new offers : List Offer) → length new ≡ 0 → put_offers new offers ≡ offers
-none_put [] offers none = refl
-none_put (offer ∷ new) offers some = absurd (omega arith)
-
-pub none_made : (parts : Parts) (txs : List Tx) → length (made txs) ≡ 0
-    → kept_offers parts.offers txs ≡ offers_after parts txs
-none_made parts txs none = sym (none_put (made txs) (kept_offers parts.offers txs) none)
 
 pub sorted_offers : (offers : List Offer) → IsSortedByKey key_of derived.ghosts.cmp offers
     → IsSortedByKey key_of key_cmp offers
@@ -58,19 +69,22 @@ rising offers sorted i j d le lt =
     le lt
 
 pub offers_are : (parts : Parts) (txs : List Tx) → IsLedger parts → IsAdmissibleIn 2 parts txs
-    → (after : List Offer) → IsPermutation (kept_offers parts.offers txs ++ made txs) after
-    → IsSortedByKey key_of key_cmp after → after ≡ offers_after parts txs
-offers_are parts txs keeps body after permuted sorted =
+    → (sorted : List Offer) → IsPermutation (made txs) sorted → IsSortedByKey key_of key_cmp sorted
+    → merged (kept_offers parts.offers txs) sorted ≡ offers_after parts txs
+offers_are parts txs keeps body sorted moved by_key =
     let kept = kept_offers parts.offers txs in
-    let moves : IsPermutation (made txs ++ kept) (offers_after parts txs) =
+    let after = merged kept sorted in
+    let whole : IsPermutation (made txs ++ kept) (offers_after parts txs) =
     subst (IsPermutation (made txs ++ kept)) (sym (put_offers_are (made txs) kept))
     (put_all_moves key_of key_before (made txs) kept) in
+    let ordered = filter_in_order key_of key_before before_both
+    (λ offer. not (list_any (same_key (key_of offer)) (cancelled txs))) None parts.offers keeps.by_key in
     sym (one_list key_of key_before same_key same_key_is (λ a. same_key_from a a refl) before_both
     (λ a e. let differ = before_differs a a e in let self = same_key_from a a refl in absurd cc)
     (offers_after parts txs) after
     (keys_in_order 2 parts txs keeps body)
-    (rising after sorted)
+    (rising after (merged_sorted kept sorted ordered by_key))
     (IsPermutation-trans (offers_after parts txs) (made txs ++ kept) after
-    (IsPermutation-sym (made txs ++ kept) (offers_after parts txs) moves)
-    (IsPermutation-trans (made txs ++ kept) (kept ++ made txs) after
-    (IsPermutation-append_comm (made txs) kept) permuted)))
+    (IsPermutation-sym (made txs ++ kept) (offers_after parts txs) whole)
+    (IsPermutation-trans (made txs ++ kept) (sorted ++ kept) after
+    (IsPermutation-append_left kept (made txs) sorted moved) (merged_moves kept sorted))))

@@ -5,3 +5,4 @@ pub mod Refusal
 pub mod Known
 pub mod Overdraft
 pub mod Accounts
+pub mod Merging

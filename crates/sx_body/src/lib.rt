@@ -20,8 +20,8 @@
 //!
 //! Each payee and each cancelled offer is searched for once, and an account once where its transactions
 //! stand together. Only accounts that are debited or credited have sums of their own, and only their
-//! balances are read and changed, in place. Accounts are sorted only where one is created, and offers only
-//! where one is made.
+//! balances are read and changed, in place. Accounts are sorted only where one is created. Of the offers
+//! only those that are made are sorted, and one pass puts them among those that are kept.
 //!
 //! Not here: whether transactions stand in order, and what trades afterwards.
 #![tactic(auto)]
