@@ -34,7 +34,7 @@ use Rattle.sx_tx.specs.declared.tx.Tx.{Tx}
 -- a transaction whose target is no offer cancels none
 pub cancels_none : (parts : Parts) (tx : Tx) (k : Kind) (named : Target) → IsTarget parts tx.account.0 k named
     → ((place : ℕ) → named ≡ target.Offer place → ⊥) → cancelled_by tx k ≡ None
-cancels_none parts tx (kind.Pay to asset amount) named is other = refl
+cancels_none parts tx (kind.Pay asset to amount) named is other = refl
 cancels_none parts tx (kind.Create id) named is other = refl
 cancels_none parts tx (kind.Offer sell buy limit amount) named is other = refl
 cancels_none parts tx (kind.Cancel sell buy limit seq) target.Nothing is other = absurd is
@@ -49,7 +49,7 @@ pub record IsCancelAt (parts : Parts) (tx : Tx) (k : Kind) (place : ℕ) : Type 
 
 pub cancels_at : (parts : Parts) (tx : Tx) (k : Kind) (place : ℕ)
     → IsTarget parts tx.account.0 k (target.Offer place) → IsCancelAt parts tx k place
-cancels_at parts tx (kind.Pay to asset amount) place is = absurd is
+cancels_at parts tx (kind.Pay asset to amount) place is = absurd is
 cancels_at parts tx (kind.Create id) place is = absurd cc
 cancels_at parts tx (kind.Offer sell buy limit amount) place is = absurd cc
 cancels_at parts tx (kind.Cancel sell buy limit seq) place is =

@@ -115,7 +115,7 @@ posted_small posting account asset small =
     ]
 
 debit_small : (by account asset : ℕ) (k : Kind) → IsKind k → posted (debit_of by k) account asset ≤ 2 ^ 62
-debit_small by account asset (kind.Pay to paid amount) is =
+debit_small by account asset (kind.Pay paid to amount) is =
     posted_small (record { account = by; asset = paid; units = amount }) account asset is.2.1
 debit_small by account asset (kind.Create id) is = omega arith
 debit_small by account asset (kind.Offer sell buy limit amount) is =
@@ -135,7 +135,7 @@ debits_small (tx ∷ txs) account asset all =
 module _ (parts : Parts) (keeps : IsLedger parts) where
   credit_small : (by account asset : ℕ) (k : Kind) → IsKind k
       → posted (credit_of parts.offers by k) account asset ≤ 2 ^ 62
-  credit_small by account asset (kind.Pay to paid amount) is =
+  credit_small by account asset (kind.Pay paid to amount) is =
       posted_small (record { account = to.0; asset = paid; units = amount }) account asset is.2.1
   credit_small by account asset (kind.Create id) is = omega arith
   credit_small by account asset (kind.Offer sell buy limit amount) is = omega arith

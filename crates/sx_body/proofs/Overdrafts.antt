@@ -31,7 +31,7 @@ use Rattle.sx_tx.specs.declared.tx.Tx.{Tx}
 -- ---- what is debited where nothing can be
 
 no_debit : (by account asset : ℕ) (k : Kind) → (by == account) ≡ false → posted (debit_of by k) account asset ≡ 0
-no_debit by account asset (kind.Pay to paid amount) other = rw other refl
+no_debit by account asset (kind.Pay paid to amount) other = rw other refl
 no_debit by account asset (kind.Create id) other = refl
 no_debit by account asset (kind.Offer sell buy limit amount) other = rw other refl
 no_debit by account asset (kind.Cancel sell buy limit seq) other = refl
@@ -52,7 +52,7 @@ debits_elsewhere parts id asset (tx ∷ txs) absent passing =
 
 beyond_one : (by account assets asset : ℕ) (k : Kind) → names_beyond assets k ≡ false → assets ≤ asset
     → posted (debit_of by k) account asset ≡ 0
-beyond_one by account assets asset (kind.Pay to paid amount) within beyond =
+beyond_one by account assets asset (kind.Pay paid to amount) within beyond =
     let lt : paid < assets = leb-false assets paid within in
     rw (ne_eqb paid asset (λ e. absurd (omega arith)), and_right (by == account) false refl) refl
 beyond_one by account assets asset (kind.Create id) within beyond = refl

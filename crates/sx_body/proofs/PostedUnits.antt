@@ -89,12 +89,12 @@ pub record IsPayment (parts : Parts) (tx : Tx) (to asset amount : ℕ) : Type 0 
   pub posting : credit parts.offers tx ≡ Some (record { account = to; asset = asset; units = amount })
 
 pub payment : (parts : Parts) (tx : Tx) → static_of parts tx ≡ Ok tt → (to : AccountId) (asset amount : ℕ)
-    → tx.kind ≡ kind.Pay to asset amount → IsPayment parts tx to.0 asset amount
+    → tx.kind ≡ kind.Pay asset to amount → IsPayment parts tx to.0 asset amount
 payment parts tx pass to asset amount is =
     let passing = passes parts tx pass in
-    let payee : pays_unknown parts.accounts (kind.Pay to asset amount) ≡ false =
+    let payee : pays_unknown parts.accounts (kind.Pay asset to amount) ≡ false =
     ap (pays_unknown parts.accounts) (sym is) ∙ passing.payee in
-    let assets : names_beyond (assets_of parts) (kind.Pay to asset amount) ≡ false =
+    let assets : names_beyond (assets_of parts) (kind.Pay asset to amount) ≡ false =
     ap (names_beyond (assets_of parts)) (sym is) ∙ passing.assets in
     record {
       payee = contained parts.accounts to.0 (not-false (has_account parts.accounts to.0) payee);
@@ -165,7 +165,7 @@ debit_there parts tx pass posting is = by_kind tx.kind (passes parts tx pass).as
   where
     by_kind : (k : Kind) → names_beyond (assets_of parts) k ≡ false → debit_of tx.account.0 k ≡ Some posting
         → posting.asset < assets_of parts
-    by_kind (kind.Pay to asset amount) within same =
+    by_kind (kind.Pay asset to amount) within same =
         omega (arith, leb-false (assets_of parts) asset within, ap (λ (p : Posting). p.asset) (same_Some _ posting same))
     by_kind (kind.Create id) within same = absurd (none-some posting same)
     by_kind (kind.Offer sell buy limit amount) within same =

@@ -143,7 +143,7 @@ same_key_or_not x y =
 -- nothing is debited of an asset that is not there
 no_debit_of : (n by account asset : ℕ) (k : Kind) → names_beyond n k ≡ false → n ≤ asset
     → posted (debit_of by k) account asset ≡ 0
-no_debit_of n by account asset (kind.Pay to x amount) within le =
+no_debit_of n by account asset (kind.Pay x to amount) within le =
     let lt = leb-false n x within in
     let other : (x == asset) ≡ false = ne_eqb x asset (λ e. omega (arith, e)) in
     elim (cases_Bool (by == account)) [ inl own ↦ rw (own, other) refl | inr not ↦ rw not refl ]
@@ -167,7 +167,7 @@ no_debits parts (tx ∷ txs) all account asset le =
 
 -- and nothing at an account whose id is out of range
 no_debit_at : (by account asset : ℕ) (k : Kind) → by < account → posted (debit_of by k) account asset ≡ 0
-no_debit_at by account asset (kind.Pay to x amount) lt = rw (ne_eqb by account (λ e. omega (arith, e))) refl
+no_debit_at by account asset (kind.Pay x to amount) lt = rw (ne_eqb by account (λ e. omega (arith, e))) refl
 no_debit_at by account asset (kind.Create id) lt = refl
 no_debit_at by account asset (kind.Offer sell buy limit amount) lt =
     rw (ne_eqb by account (λ e. omega (arith, e))) refl

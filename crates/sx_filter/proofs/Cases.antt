@@ -29,7 +29,7 @@ abbrev tx : ℕ → ℕ → Kind → Tx
 tx account seq of = record { account = record { 0 = account }; seq = seq; kind = of }
 
 abbrev pays : ℕ → ℕ → ℕ → ℕ → Tx
-pays from seq to amount = tx from seq (kind.Pay (record { 0 = to }) 0 amount)
+pays from seq to amount = tx from seq (kind.Pay 0 (record { 0 = to }) amount)
 
 abbrev creates : ℕ → ℕ → ℕ → Tx
 creates from seq id = tx from seq (kind.Create (record { 0 = id }))
@@ -112,11 +112,11 @@ one_offer = refl
 refused_cancels_nothing : kept_of offered (cancels 4 3 ∷ cancels 70 3 ∷ []) ≡ cancels 4 3 ∷ []
 refused_cancels_nothing = refl
 
-not_spent : kept_of offered (cancels 4 3 ∷ tx 1 5 (kind.Pay (record { 0 = 2 }) 0 11) ∷ []) ≡ []
+not_spent : kept_of offered (cancels 4 3 ∷ tx 1 5 (kind.Pay 0 (record { 0 = 2 }) 11) ∷ []) ≡ []
 not_spent = refl
 
 -- the assets of an account count apart, but one that is short takes all of the account's candidates with it
-assets_apart : kept_of offered (tx 2 1 (kind.Pay (record { 0 = 1 }) 1 8) ∷ tx 2 2
+assets_apart : kept_of offered (tx 2 1 (kind.Pay 1 (record { 0 = 1 }) 8) ∷ tx 2 2
     (kind.Create (record { 0 = 9 })) ∷ cancels 4 3 ∷ [])
     ≡ cancels 4 3 ∷ []
 assets_apart = refl

@@ -80,7 +80,7 @@ bit_taken before after of at bit claims = record { notes = λ shard. []; grow = 
 
 pub bit_held : (before after : List Seated) (of : Kind) (at : Spot) (bit : ℕ) → IsHeld before after at bit
     → Takes before after of (wanted.Bit at bit) (too_late of)
-bit_held before after (kind.Pay to asset amount) at bit held = record {
+bit_held before after (kind.Pay asset to amount) at bit held = record {
   notes = at_shard at.shard (Set at.word bit ∷ []);
   grow = held;
   found = (refl, at_itself at.shard (Set at.word bit ∷ []));

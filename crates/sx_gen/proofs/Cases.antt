@@ -16,7 +16,7 @@ offer_of_words : offer_by (λ k. get_or (11 ∷ 6 ∷ 9901 ∷ 100 ∷ []) k 0) 
 offer_of_words = refl
 
 -- the payee, the asset and the amount
-payment_of_words : payment_by (λ k. get_or (1999 ∷ 9 ∷ 199 ∷ []) k 0) ≡ Pay (record { 0 = 1000 }) 1 100
+payment_of_words : payment_by (λ k. get_or (1999 ∷ 9 ∷ 199 ∷ []) k 0) ≡ Pay 1 (record { 0 = 1000 }) 100
 payment_of_words = refl
 
 -- the first words of the generator that is in this state, as they are published
@@ -35,6 +35,6 @@ unfolding word_after state_after
 first_offer = refl
 
 second_payment : payment_at (1 ∷ 2 ∷ 3 ∷ 4 ∷ []) 1
-    ≡ record { account = record { 0 = 2 }; seq = 5; kind = Pay (record { 0 = 387 }) 5 63 }
+    ≡ record { account = record { 0 = 2 }; seq = 5; kind = Pay 5 (record { 0 = 387 }) 63 }
 unfolding word_after state_after
 second_payment = refl

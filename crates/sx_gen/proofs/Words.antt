@@ -56,7 +56,7 @@ pub is_offer : (word : ℕ → ℕ) (a b c d sell buy limit amount : ℕ) → a 
 is_offer word a b c d sell buy limit amount aw bw cw dw s t l m = rw (s, t, l, m, aw, bw, cw, dw) refl
 
 pub is_payment : (word : ℕ → ℕ) (a b c asset amount : ℕ) → a ≡ word 0 % 1000 → b ≡ word 1 % 8 → c ≡ word 2 % 100
-    → asset ≡ b → amount ≡ 1 + c → Pay (record { 0 = 1 + a }) asset amount ≡ payment_by word
+    → asset ≡ b → amount ≡ 1 + c → Pay asset (record { 0 = 1 + a }) amount ≡ payment_by word
 is_payment word a b c asset amount aw bw cw s m = rw (s, m, aw, bw, cw) refl
 
 -- what `unwrap` gives of a number in range

@@ -18,7 +18,7 @@ offer_by word =
 
 -- a payment, by three words: the payee, the asset, and the amount
 abbrev pub payment_by : (ℕ → ℕ) → Kind
-payment_by word = Pay (record { 0 = 1 + word 0 % 1000 }) (word 1 % 8) (1 + word 2 % 100)
+payment_by word = Pay (word 1 % 8) (record { 0 = 1 + word 0 % 1000 }) (1 + word 2 % 100)
 
 -- the offer at place i, with the words of a generator
 abbrev pub offer_at : List ℕ → ℕ → Tx

@@ -128,14 +128,14 @@ purse_form purse need (step.Made name) small = tt
 purse_form purse need step.Joined small = tt
 
 late_form : (of : Kind) → IsOutcome (too_late of)
-late_form (kind.Pay to asset amount) = tt
+late_form (kind.Pay asset to amount) = tt
 late_form (kind.Create id) = tt
 late_form (kind.Offer sell buy limit amount) = tt
 late_form (kind.Cancel sell buy limit seq) = tt
 
 second_form : (parts : Parts) (plan : Plan) (account : ℕ) (of : Kind) → IsKind of →
     StageForm (stage_of (wanted_by parts plan account of))
-second_form parts plan account (kind.Pay to asset amount) is = is.2.1
+second_form parts plan account (kind.Pay asset to amount) is = is.2.1
 second_form parts plan account (kind.Create id) is = tt
 second_form parts plan account (kind.Offer sell buy limit amount) is = is.1.1
 second_form parts plan account (kind.Cancel sell buy limit seq) is = tt

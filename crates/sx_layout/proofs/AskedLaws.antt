@@ -57,7 +57,7 @@ module _ (parts : Parts) (candidates : List Tx) (shards : ℕ) (tx : Tx) (laid :
       (ap (named_by parts plan tx.account.0) same ∙ names)
 
   wanted_there : (of : Kind) → tx.kind ≡ of → IsWanted plan (wanted_by parts plan tx.account.0 of)
-  wanted_there (kind.Pay to asset amount) same =
+  wanted_there (kind.Pay asset to amount) same =
       purse_there asset
       (debit_at parts tx (record { account = tx.account.0; asset = asset; units = amount }) ask
       (ap (debit_of tx.account.0) same)).small
@@ -88,7 +88,7 @@ module _ (parts : Parts) (candidates : List Tx) (shards : ℕ) (tx : Tx) (laid :
       ap (λ (w : ℕ). bit_at w (spot_of plan thing).1) has.opening ∙ none
 
   wanted_clear : (of : Kind) → tx.kind ≡ of → IsWantedClear plan (wanted_by parts plan tx.account.0 of)
-  wanted_clear (kind.Pay to asset amount) same = tt
+  wanted_clear (kind.Pay asset to amount) same = tt
   wanted_clear (kind.Create id) same =
       let thing = AName (place_in plan.names id.0) in
       bit_clear thing (thing_there (kind.Create id) same thing refl) (bit_at-zero (spot_of plan thing).1)

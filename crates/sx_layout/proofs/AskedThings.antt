@@ -169,7 +169,7 @@ named_is_by : (parts : Parts) (candidates : List Tx) (shards place : ℕ) (tx : 
     → slice_get candidates place ≡ Some tx → tx.kind ≡ of → cancels_unknown parts.offers tx.account.0 of ≡ false
     → named_by parts (plan_of parts candidates shards) tx.account.0 of ≡ Some thing
     → IsThing (plan_of parts candidates shards) thing
-named_is_by parts candidates shards place tx (kind.Pay to asset amount) thing at same known names = absurd cc
+named_is_by parts candidates shards place tx (kind.Pay asset to amount) thing at same known names = absurd cc
 named_is_by parts candidates shards place tx (kind.Create id) thing at same known names =
     let plan = plan_of parts candidates shards in
     let there : has id.0 plan.names ≡ true =

@@ -69,7 +69,7 @@ module _ (parts : Parts) (plan : Plan) (one : plan.shards ≡ 1) (state : State)
 
     late : (of : Kind) → tx.kind ≡ of → static_of parts tx ≡ Ok tt → IsGone bits_now (wanted_of parts plan tx)
         → IsLate (too_late of)
-    late (kind.Pay to asset amount) e passes gone = record { closes = (passes, ap too_late e, gone); marks = refl }
+    late (kind.Pay asset to amount) e passes gone = record { closes = (passes, ap too_late e, gone); marks = refl }
     late (kind.Create id) e passes gone = record { closes = (passes, ap too_late e, gone); marks = refl }
     late (kind.Offer sell buy limit amount) e passes gone =
         record { closes = (passes, ap too_late e, gone); marks = refl }

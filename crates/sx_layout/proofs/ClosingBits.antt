@@ -89,7 +89,7 @@ module _ (parts : Parts) (candidates : List Tx) (shards : ℕ) (outcomes : List 
   number_open tx asked = number_clear parts tx is.laid_out.ledger asked
 
   named_open : (tx : Tx) (of : Kind) (t : Thing) → named_by parts plan tx.account.0 of ≡ Some t → IsOpen t
-  named_open tx (kind.Pay to asset amount) t names = absurd cc
+  named_open tx (kind.Pay asset to amount) t names = absurd cc
   named_open tx (kind.Create id) t names = subst IsOpen (same_Some (AName _) t names) (name_open _)
   named_open tx (kind.Offer sell buy limit amount) t names = absurd cc
   named_open tx (kind.Cancel sell buy limit seq) t names = subst IsOpen (same_Some (AnOffer _) t names) (offer_open _)

@@ -207,7 +207,7 @@ module _ (parts : Parts) (candidates : List Tx) (shards : ℕ) (outcomes : List 
   overdrawn : (tx : Tx) (of : Kind) (seen need : ℕ) → Asks parts tx → tx.kind ≡ of
       → IsMissed plan purses (wanted_by parts plan tx.account.0 of) seen need
       → IsOverdrawn parts (body_of list) tx seen need
-  overdrawn tx (kind.Pay to asset amount) seen need own same missed =
+  overdrawn tx (kind.Pay asset to amount) seen need own same missed =
       short_of tx asset seen need amount own (ap (debit_of tx.account.0) same) missed.0 missed.1
   overdrawn tx (kind.Create id) seen need own same missed = absurd missed
   overdrawn tx (kind.Offer sell buy limit amount) seen need own same missed =
@@ -218,7 +218,7 @@ module _ (parts : Parts) (candidates : List Tx) (shards : ℕ) (outcomes : List 
   gone_offer : (tx : Tx) (of : Kind) → tx.kind ≡ of → too_late of ≡ outcome.OfferTaken
       → IsGone bits (wanted_by parts plan tx.account.0 of)
       → (offer : ℕ) × NamesSet parts plan bits tx (AnOffer offer)
-  gone_offer tx (kind.Pay to asset amount) same late gone = absurd gone
+  gone_offer tx (kind.Pay asset to amount) same late gone = absurd gone
   gone_offer tx (kind.Create id) same late gone = absurd cc
   gone_offer tx (kind.Offer sell buy limit amount) same late gone = absurd gone
   gone_offer tx (kind.Cancel sell buy limit seq) same late gone =
@@ -227,7 +227,7 @@ module _ (parts : Parts) (candidates : List Tx) (shards : ℕ) (outcomes : List 
   gone_name : (tx : Tx) (of : Kind) → tx.kind ≡ of → too_late of ≡ outcome.NameTaken
       → IsGone bits (wanted_by parts plan tx.account.0 of)
       → (index : ℕ) × NamesSet parts plan bits tx (AName index)
-  gone_name tx (kind.Pay to asset amount) same late gone = absurd gone
+  gone_name tx (kind.Pay asset to amount) same late gone = absurd gone
   gone_name tx (kind.Create id) same late gone =
       (_, record { names = ap (named_by parts plan tx.account.0) same; set = gone })
   gone_name tx (kind.Offer sell buy limit amount) same late gone = absurd gone

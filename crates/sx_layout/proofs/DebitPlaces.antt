@@ -29,7 +29,7 @@ first_false false c e = refl
 
 at_by : (parts : Parts) (account : ℕ) (of : Kind) (posting : Posting) → names_beyond (assets_of parts) of ≡ false
     → debit_of account of ≡ Some posting → Where parts account posting
-at_by parts account (kind.Pay to asset amount) posting known e =
+at_by parts account (kind.Pay asset to amount) posting known e =
     subst (Where parts account) (same_Some (record { account = account; asset = asset; units = amount }) posting e)
     (record { owner = refl; small = below (assets_of parts) asset known })
 at_by parts account (kind.Create id) posting known e = absurd cc

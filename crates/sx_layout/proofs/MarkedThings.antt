@@ -21,7 +21,7 @@ use Rattle.sx_tx.specs.declared.tx.Tx.{Tx}
 
 -- the offer that a candidate cancels, or the id that it creates
 abbrev pub named_by : Parts → Plan → ℕ → Kind → Option Thing
-named_by parts plan account (kind.Pay to asset amount) = None
+named_by parts plan account (kind.Pay asset to amount) = None
 named_by parts plan account (kind.Create id) = Some (AName (place_in plan.names id.0))
 named_by parts plan account (kind.Offer sell buy limit amount) = None
 named_by parts plan account (kind.Cancel sell buy limit seq) =
@@ -79,15 +79,15 @@ module _ (parts : Parts) (plan : Plan) (shard account : ℕ) (number : Thing) wh
       ap (λ (c : List Claim). before ++ c) (sym (append-nil (mark thing))) ∙ sym (append-nil (before ++ (mark thing ++ [])))
 
   marks_by : (keeps accepted : Bool) (of : Kind) → are keeps accepted of
-  marks_by true true (kind.Pay to asset amount) =
-      first (wanted_mark shard (wanted_by parts plan account (kind.Pay to asset amount)))
+  marks_by true true (kind.Pay asset to amount) =
+      first (wanted_mark shard (wanted_by parts plan account (kind.Pay asset to amount)))
   marks_by true true (kind.Create id) = second (mark number) (AName (place_in plan.names id.0))
   marks_by true true (kind.Offer sell buy limit amount) =
       first (wanted_mark shard (wanted_by parts plan account (kind.Offer sell buy limit amount)))
   marks_by true true (kind.Cancel sell buy limit seq) =
       second (mark number) (AnOffer (offer_place parts (own_key sell buy limit seq)))
   marks_by true false of = first []
-  marks_by false true (kind.Pay to asset amount) = refl
+  marks_by false true (kind.Pay asset to amount) = refl
   marks_by false true (kind.Create id) = second [] (AName (place_in plan.names id.0))
   marks_by false true (kind.Offer sell buy limit amount) = refl
   marks_by false true (kind.Cancel sell buy limit seq) =

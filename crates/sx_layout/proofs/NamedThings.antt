@@ -17,7 +17,7 @@ use Rattle.sx_tx.specs.declared.tx.Tx.{Tx}
 
 pub never_number : (parts : Parts) (plan : Plan) (account place number : ℕ) (of : Kind)
     → named_by parts plan account of ≡ Some (Number place number) → ⊥
-never_number parts plan account place number (kind.Pay to asset amount) names = cc
+never_number parts plan account place number (kind.Pay asset to amount) names = cc
 never_number parts plan account place number (kind.Create id) names = cc
 never_number parts plan account place number (kind.Offer sell buy limit amount) names = cc
 never_number parts plan account place number (kind.Cancel sell buy limit seq) names = cc
@@ -32,7 +32,7 @@ pub record CancelsAt (parts : Parts) (tx : Tx) (of : Kind) (place : ℕ) : Type 
 cancels_by : (parts : Parts) (plan : Plan) (tx : Tx) (of : Kind) (place : ℕ)
     → cancels_unknown parts.offers tx.account.0 of ≡ false → named_by parts plan tx.account.0 of ≡ Some (AnOffer place)
     → CancelsAt parts tx of place
-cancels_by parts plan tx (kind.Pay to asset amount) place known names = absurd cc
+cancels_by parts plan tx (kind.Pay asset to amount) place known names = absurd cc
 cancels_by parts plan tx (kind.Create id) place known names = absurd cc
 cancels_by parts plan tx (kind.Offer sell buy limit amount) place known names = absurd cc
 cancels_by parts plan tx (kind.Cancel sell buy limit seq) place known names =
@@ -58,7 +58,7 @@ pub record CreatesAt (plan : Plan) (of : Kind) (index : ℕ) : Type 0 where
 
 creates_by : (parts : Parts) (plan : Plan) (account : ℕ) (of : Kind) (index : ℕ)
     → named_by parts plan account of ≡ Some (AName index) → CreatesAt plan of index
-creates_by parts plan account (kind.Pay to asset amount) index names = absurd cc
+creates_by parts plan account (kind.Pay asset to amount) index names = absurd cc
 creates_by parts plan account (kind.Create id) index names = record { id = id.0; creates = refl; at = cc }
 creates_by parts plan account (kind.Offer sell buy limit amount) index names = absurd cc
 creates_by parts plan account (kind.Cancel sell buy limit seq) index names = absurd cc
@@ -69,7 +69,7 @@ creates_at parts plan tx index names = creates_by parts plan tx.account.0 tx.kin
 
 named_cancel : (parts : Parts) (plan : Plan) (tx : Tx) (of : Kind) (key : Key) → cancelled_by tx of ≡ Some key
     → named_by parts plan tx.account.0 of ≡ Some (AnOffer (offer_place parts key))
-named_cancel parts plan tx (kind.Pay to asset amount) key cancels = absurd cc
+named_cancel parts plan tx (kind.Pay asset to amount) key cancels = absurd cc
 named_cancel parts plan tx (kind.Create id) key cancels = absurd cc
 named_cancel parts plan tx (kind.Offer sell buy limit amount) key cancels = absurd cc
 named_cancel parts plan tx (kind.Cancel sell buy limit seq) key cancels =
@@ -82,7 +82,7 @@ names_cancelled parts plan tx key cancels = named_cancel parts plan tx tx.kind k
 
 named_create : (parts : Parts) (plan : Plan) (account : ℕ) (of : Kind) (id : ℕ) → created_by of ≡ Some id
     → named_by parts plan account of ≡ Some (AName (place_in plan.names id))
-named_create parts plan account (kind.Pay to asset amount) id creates = absurd cc
+named_create parts plan account (kind.Pay asset to amount) id creates = absurd cc
 named_create parts plan account (kind.Create made) id creates =
     ap (λ (n : ℕ). Some (AName (place_in plan.names n))) (same_Some made.0 id creates)
 named_create parts plan account (kind.Offer sell buy limit amount) id creates = absurd cc

@@ -24,7 +24,7 @@ ledger = record {
 -- account 1 pays this amount to account 2
 abbrev pub pays : ℕ → ℕ → Tx
 pays seq amount =
-    record { account = record { 0 = 1 }; seq = seq; kind = kind.Pay (record { 0 = 2 }) 0 amount }
+    record { account = record { 0 = 1 }; seq = seq; kind = kind.Pay 0 (record { 0 = 2 }) amount }
 
 -- Both actors claim their numbers and see 100. Actor 0 takes 60, so actor 1 loses its Take and finds 40
 pub lost_step : outcomes_of_run ledger (pays 1 60 ∷ pays 2 60 ∷ []) 2 (0 ∷ 1 ∷ 0 ∷ 1 ∷ 0 ∷ 1 ∷ [])

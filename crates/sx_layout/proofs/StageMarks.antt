@@ -47,7 +47,7 @@ rest_of_one x n one = rw one (let below = mod_below x 1 (omega arith) in omega (
 
 module _ (parts : Parts) (plan : Plan) (one : plan.shards ≡ 1) where
   wanted_shard_by : (account : ℕ) (of : Kind) → shard_of (wanted_by parts plan account of) ≡ 0
-  wanted_shard_by account (kind.Pay to asset amount) = rest_of_one _ plan.shards one
+  wanted_shard_by account (kind.Pay asset to amount) = rest_of_one _ plan.shards one
   wanted_shard_by account (kind.Create id) = rest_of_one _ plan.shards one
   wanted_shard_by account (kind.Offer sell buy limit amount) = rest_of_one _ plan.shards one
   wanted_shard_by account (kind.Cancel sell buy limit seq) = rest_of_one _ plan.shards one

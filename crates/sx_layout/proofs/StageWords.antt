@@ -42,7 +42,7 @@ second_fits plan one (wanted.Units purse need) there some = (
 
 some_units : (parts : Parts) (plan : Plan) (account : ℕ) (of : Kind) → IsKind of
     → IsSomeUnits (wanted_by parts plan account of)
-some_units parts plan account (kind.Pay to asset amount) form = form.2.0
+some_units parts plan account (kind.Pay asset to amount) form = form.2.0
 some_units parts plan account (kind.Create id) form = tt
 some_units parts plan account (kind.Offer sell buy limit amount) form = form.1.0
 some_units parts plan account (kind.Cancel sell buy limit seq) form = tt

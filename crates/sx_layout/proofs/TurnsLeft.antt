@@ -123,7 +123,7 @@ claim_less new name most clear taken false first second = first
 module _ (parts : Parts) (plan : Plan) (state : State) (name : ℕ) (live : (view_of state name).live ≡ true) where
   second_less : (new : State) (account : ℕ) (of : Kind) →
       suc (stage_turns new name (stage_of (wanted_by parts plan account of))) ≤ 3
-  second_less new account (kind.Pay to asset amount) = omega arith
+  second_less new account (kind.Pay asset to amount) = omega arith
   second_less new account (kind.Create id) = omega arith
   second_less new account (kind.Offer sell buy limit amount) = omega arith
   second_less new account (kind.Cancel sell buy limit seq) = omega arith

@@ -39,7 +39,7 @@ bit_wanted at = wanted.Bit at.0 at.1
 -- a payment and an offer ask for their amount, a creation for the bit of the new id, and a cancellation for that of its
 -- offer
 abbrev pub wanted_by : Parts → Plan → ℕ → Kind → Wanted
-wanted_by parts plan account (kind.Pay to asset amount) = purse_wanted parts plan account asset amount
+wanted_by parts plan account (kind.Pay asset to amount) = purse_wanted parts plan account asset amount
 wanted_by parts plan account (kind.Create id) = bit_wanted (name_spot plan (place_in plan.names id.0))
 wanted_by parts plan account (kind.Offer sell buy limit amount) = purse_wanted parts plan account sell amount
 wanted_by parts plan account (kind.Cancel sell buy limit seq) =

@@ -105,7 +105,7 @@ created_ids (tx ∷ txs) all =
   where
     one : (k : Kind) (rest : List ℕ) → IsKind k → AllByRecursion IsId rest
         → AllByRecursion IsId (cons_option (created_by k) rest)
-    one (kind.Pay to asset amount) rest is all = all
+    one (kind.Pay asset to amount) rest is all = all
     one (kind.Create id) rest is all = (is, all)
     one (kind.Offer sell buy limit amount) rest is all = all
     one (kind.Cancel sell buy limit seq) rest is all = all

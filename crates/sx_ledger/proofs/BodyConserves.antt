@@ -153,7 +153,7 @@ accounts_sum version parts txs asset keeps body all lt =
 one_moves : (offers : List Offer) (tx : Tx) (k : Kind) (asset : ℕ)
     → units_of (debit_of tx.account.0 k) asset + counted (freed offers asset) (cancelled_by tx k)
     ≡ units_of (credit_of offers tx.account.0 k) asset + counted (offered asset) (made_by tx k)
-one_moves offers tx (kind.Pay to paid amount) asset = refl
+one_moves offers tx (kind.Pay paid to amount) asset = refl
 one_moves offers tx (kind.Create id) asset = refl
 one_moves offers tx (kind.Offer sell buy limit amount) asset = omega arith
 one_moves offers tx (kind.Cancel sell buy limit seq) asset = omega arith

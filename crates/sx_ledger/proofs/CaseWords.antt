@@ -30,7 +30,7 @@ abbrev pub tx : ℕ → ℕ → Kind → Tx
 tx id seq kind = record { account = record { 0 = id }; seq = seq; kind = kind }
 
 abbrev pub pay : ℕ → ℕ → ℕ → Kind
-pay to asset amount = kind.Pay (record { 0 = to }) asset amount
+pay to asset amount = kind.Pay asset (record { 0 = to }) amount
 
 abbrev pub create : ℕ → Kind
 create id = kind.Create (record { 0 = id })

@@ -99,7 +99,7 @@ made_later tx (other ∷ txs) all = one other.kind (made txs) (made_later tx txs
   where
     one : (k : Kind) (rest : List Offer) → AllByRecursion (Fresh tx.account.0 tx.seq) rest
         → AllByRecursion (Fresh tx.account.0 tx.seq) (cons_option (made_by other k) rest)
-    one (kind.Pay to asset amount) rest fresh = fresh
+    one (kind.Pay asset to amount) rest fresh = fresh
     one (kind.Create id) rest fresh = fresh
     one (kind.Offer sell buy limit amount) rest fresh = (λ same e. absurd (omega (arith, all.0.seq same)), fresh)
     one (kind.Cancel sell buy limit seq) rest fresh = fresh
@@ -165,7 +165,7 @@ module _ (parts : Parts) (up : IsStrictlyIncreasing (ids parts.accounts)) where
       one : (k : Kind) (rest : List Offer) → in_order tx_before (Some tx) txs ≡ true
           → AllByRecursion (Fresh tx.account.0 tx.seq) rest → AreApart key_of key_before rest kept
           → AreApart key_of key_before (cons_option (made_by tx k) rest) kept
-      one (kind.Pay to asset amount) rest ordered fresh apart = apart
+      one (kind.Pay asset to amount) rest ordered fresh apart = apart
       one (kind.Create id) rest ordered fresh apart = apart
       one (kind.Offer sell buy limit amount) rest ordered fresh apart =
           let new : Offer = record {
@@ -204,7 +204,7 @@ all_made parts all (tx ∷ txs) in_range passing used =
     one : (k : Kind) (rest : List Offer) → IsKind k → names_beyond (assets_of parts) k ≡ false
         → is_same_pair k ≡ false
         → AllByRecursion (IsMade parts all) rest → AllByRecursion (IsMade parts all) (cons_option (made_by tx k) rest)
-    one (kind.Pay to asset amount) rest is assets differ made = made
+    one (kind.Pay asset to amount) rest is assets differ made = made
     one (kind.Create id) rest is assets differ made = made
     one (kind.Offer sell buy limit amount) rest is assets differ made =
         let both = or_parts (nat_le (assets_of parts) sell) (nat_le (assets_of parts) buy) assets in

@@ -151,14 +151,14 @@ passes parts tx e =
 
 debit_there : (accounts : List Account) (by : ℕ) (k : Kind) → has_account accounts by ≡ true
     → IsThere accounts (debit_of by k)
-debit_there accounts by (kind.Pay to asset amount) own = own
+debit_there accounts by (kind.Pay asset to amount) own = own
 debit_there accounts by (kind.Create id) own = tt
 debit_there accounts by (kind.Offer sell buy limit amount) own = own
 debit_there accounts by (kind.Cancel sell buy limit seq) own = tt
 
 credit_there : (accounts : List Account) (offers : List Offer) (by : ℕ) (k : Kind) → has_account accounts by ≡ true
     → pays_unknown accounts k ≡ false → IsThere accounts (credit_of offers by k)
-credit_there accounts offers by (kind.Pay to asset amount) own payee = not-false (has_account accounts to.0) payee
+credit_there accounts offers by (kind.Pay asset to amount) own payee = not-false (has_account accounts to.0) payee
 credit_there accounts offers by (kind.Create id) own payee = tt
 credit_there accounts offers by (kind.Offer sell buy limit amount) own payee = tt
 credit_there accounts offers by (kind.Cancel sell buy limit seq) own payee = own
@@ -177,7 +177,7 @@ credits_there parts txs all k d lt = let at =
 one_absent : (accounts : List Account) (k : Kind) (rest : List ℕ) → creates_known accounts k ≡ false
     → AllByRecursion (λ id. has_account accounts id ≡ false) rest
     → AllByRecursion (λ id. has_account accounts id ≡ false) (cons_option (created_by k) rest)
-one_absent accounts (kind.Pay to asset amount) rest new all = all
+one_absent accounts (kind.Pay asset to amount) rest new all = all
 one_absent accounts (kind.Create id) rest new all = (new, all)
 one_absent accounts (kind.Offer sell buy limit amount) rest new all = all
 one_absent accounts (kind.Cancel sell buy limit seq) rest new all = all

@@ -13,14 +13,14 @@ use Rattle.sx_tx.specs.Window.{Next, open_numbers}
 use Rattle.sx_tx.proofs.UsedNumbers.{none_used}
 
 no_debit : (by account asset : ℕ) (k : Kind) → (by == account) ≡ false → posted (debit_of by k) account asset ≡ 0
-no_debit by account asset (kind.Pay to paid amount) other = rw other refl
+no_debit by account asset (kind.Pay paid to amount) other = rw other refl
 no_debit by account asset (kind.Create id) other = refl
 no_debit by account asset (kind.Offer sell buy limit amount) other = rw other refl
 no_debit by account asset (kind.Cancel sell buy limit seq) other = refl
 
 no_credit : (offers : List Offer) (by account asset : ℕ) (k : Kind) → (by == account) ≡ false → pays account k ≡ false
     → posted (credit_of offers by k) account asset ≡ 0
-no_credit offers by account asset (kind.Pay to paid amount) other unpaid = rw unpaid refl
+no_credit offers by account asset (kind.Pay paid to amount) other unpaid = rw unpaid refl
 no_credit offers by account asset (kind.Create id) other unpaid = refl
 no_credit offers by account asset (kind.Offer sell buy limit amount) other unpaid = refl
 no_credit offers by account asset (kind.Cancel sell buy limit seq) other unpaid = rw other refl

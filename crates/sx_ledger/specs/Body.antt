@@ -24,7 +24,7 @@ tx_before one other =
 -- ---- what transactions create, make and cancel
 
 abbrev pub created_by : Kind → Option ℕ
-created_by (kind.Pay to asset amount) = None
+created_by (kind.Pay asset to amount) = None
 created_by (kind.Create id) = Some id.0
 created_by (kind.Offer sell buy limit amount) = None
 created_by (kind.Cancel sell buy limit seq) = None
@@ -34,7 +34,7 @@ abbrev pub created : List Tx → List ℕ
 created txs = filter_map (λ tx. created_by tx.kind) txs
 
 abbrev pub made_by : Tx → Kind → Option Offer
-made_by tx (kind.Pay to asset amount) = None
+made_by tx (kind.Pay asset to amount) = None
 made_by tx (kind.Create id) = None
 made_by tx (kind.Offer sell buy limit amount) =
     Some (record { sell = sell; buy = buy; limit = limit; account = tx.account; seq = tx.seq; amount = amount })
@@ -45,7 +45,7 @@ abbrev pub made : List Tx → List Offer
 made txs = filter_map (λ tx. made_by tx tx.kind) txs
 
 abbrev pub cancelled_by : Tx → Kind → Option Key
-cancelled_by tx (kind.Pay to asset amount) = None
+cancelled_by tx (kind.Pay asset to amount) = None
 cancelled_by tx (kind.Create id) = None
 cancelled_by tx (kind.Offer sell buy limit amount) = None
 cancelled_by tx (kind.Cancel sell buy limit seq) =

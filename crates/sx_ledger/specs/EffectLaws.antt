@@ -59,7 +59,7 @@ LowWithinHigh =
 
 -- a payment to this account
 abbrev pub pays : ℕ → Kind → Bool
-pays account (kind.Pay to asset amount) = to.0 == account
+pays account (kind.Pay asset to amount) = to.0 == account
 pays account (kind.Create id) = false
 pays account (kind.Offer sell buy limit amount) = false
 pays account (kind.Cancel sell buy limit seq) = false

@@ -20,7 +20,7 @@ amount_of (offer ∷ offers) key = if same_key (key_of offer) key then offer.amo
 
 -- a payment is debited to its account, and so is what is put on offer
 abbrev pub debit_of : ℕ → Kind → Option Posting
-debit_of account (kind.Pay to asset amount) = Some (record { account = account; asset = asset; units = amount })
+debit_of account (kind.Pay asset to amount) = Some (record { account = account; asset = asset; units = amount })
 debit_of account (kind.Create id) = None
 debit_of account (kind.Offer sell buy limit amount) =
     Some (record { account = account; asset = sell; units = amount })
@@ -31,7 +31,7 @@ debit tx = debit_of tx.account.0 tx.kind
 
 -- a payment is credited to the payee, and a cancelled offer, of the offers at the opening, to its account
 abbrev pub credit_of : List Offer → ℕ → Kind → Option Posting
-credit_of offers account (kind.Pay to asset amount) = Some (record { account = to.0; asset = asset; units = amount })
+credit_of offers account (kind.Pay asset to amount) = Some (record { account = to.0; asset = asset; units = amount })
 credit_of offers account (kind.Create id) = None
 credit_of offers account (kind.Offer sell buy limit amount) = None
 credit_of offers account (kind.Cancel sell buy limit seq) =

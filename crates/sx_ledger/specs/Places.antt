@@ -26,7 +26,7 @@ IsNamedOffer parts key (target.Offer place) = slice_get (keys parts.offers) plac
 
 -- what a transaction of this account and kind names: the payee of a payment, or the offer of a cancellation
 abbrev pub IsTarget : Parts → ℕ → Kind → Target → Type 0
-IsTarget parts account (kind.Pay to asset amount) named = IsPayee parts to.0 named
+IsTarget parts account (kind.Pay asset to amount) named = IsPayee parts to.0 named
 IsTarget parts account (kind.Create id) named = named ≡ target.Nothing
 IsTarget parts account (kind.Offer sell buy limit amount) named = named ≡ target.Nothing
 IsTarget parts account (kind.Cancel sell buy limit seq) named =
@@ -50,7 +50,7 @@ pub record IsFound (ids : List ℕ) (id : ℕ) (place : Option ℕ) : Type 0 whe
 
 -- the account that a transaction of this kind pays or creates
 abbrev pub named_account : Kind → Option AccountId
-named_account (kind.Pay to asset amount) = Some to
+named_account (kind.Pay asset to amount) = Some to
 named_account (kind.Create id) = Some id
 named_account (kind.Offer sell buy limit amount) = None
 named_account (kind.Cancel sell buy limit seq) = None

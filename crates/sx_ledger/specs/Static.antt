@@ -45,35 +45,35 @@ has_offer offers key = list_any (λ offer. same_key (key_of offer) key) offers
 
 -- it names an asset that is not among `assets` assets
 abbrev pub names_beyond : ℕ → Kind → Bool
-names_beyond assets (kind.Pay to asset amount) = nat_le assets asset
+names_beyond assets (kind.Pay asset to amount) = nat_le assets asset
 names_beyond assets (kind.Create id) = false
 names_beyond assets (kind.Offer sell buy limit amount) = nat_le assets sell || nat_le assets buy
 names_beyond assets (kind.Cancel sell buy limit seq) = nat_le assets sell || nat_le assets buy
 
 -- an offer or a cancellation of one asset for itself
 abbrev pub is_same_pair : Kind → Bool
-is_same_pair (kind.Pay to asset amount) = false
+is_same_pair (kind.Pay asset to amount) = false
 is_same_pair (kind.Create id) = false
 is_same_pair (kind.Offer sell buy limit amount) = sell == buy
 is_same_pair (kind.Cancel sell buy limit seq) = sell == buy
 
 -- a payment to an account that is not there
 abbrev pub pays_unknown : List Account → Kind → Bool
-pays_unknown accounts (kind.Pay to asset amount) = not (has_account accounts to.0)
+pays_unknown accounts (kind.Pay asset to amount) = not (has_account accounts to.0)
 pays_unknown accounts (kind.Create id) = false
 pays_unknown accounts (kind.Offer sell buy limit amount) = false
 pays_unknown accounts (kind.Cancel sell buy limit seq) = false
 
 -- a creation of an account that is there
 abbrev pub creates_known : List Account → Kind → Bool
-creates_known accounts (kind.Pay to asset amount) = false
+creates_known accounts (kind.Pay asset to amount) = false
 creates_known accounts (kind.Create id) = has_account accounts id.0
 creates_known accounts (kind.Offer sell buy limit amount) = false
 creates_known accounts (kind.Cancel sell buy limit seq) = false
 
 -- a cancellation, by this account, of an offer that is not there
 abbrev pub cancels_unknown : List Offer → ℕ → Kind → Bool
-cancels_unknown offers account (kind.Pay to asset amount) = false
+cancels_unknown offers account (kind.Pay asset to amount) = false
 cancels_unknown offers account (kind.Create id) = false
 cancels_unknown offers account (kind.Offer sell buy limit amount) = false
 cancels_unknown offers account (kind.Cancel sell buy limit seq) =
@@ -87,7 +87,7 @@ cancels_unknown offers account (kind.Cancel sell buy limit seq) =
 
 -- an offer that buys less than one unit at its limit
 abbrev pub is_dust : Kind → Bool
-is_dust (kind.Pay to asset amount) = false
+is_dust (kind.Pay asset to amount) = false
 is_dust (kind.Create id) = false
 is_dust (kind.Offer sell buy limit amount) = nat_lt (amount * limit) (2 ^ 24)
 is_dust (kind.Cancel sell buy limit seq) = false

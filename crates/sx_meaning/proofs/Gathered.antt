@@ -18,7 +18,7 @@ use Rattle.sx_tx.specs.Transactions.{IsKind, IsTx, IsTxList}
 -- what is debited is an amount
 few_debited : (account : ℕ) (terms : Kind) (posting : Posting) → IsKind terms → debit_of account terms ≡ Some posting
     → posting.units ≤ most_amount
-few_debited account (kind.Pay to asset amount) posting is e =
+few_debited account (kind.Pay asset to amount) posting is e =
     let same : record { account = account; asset = asset; units = amount } ≡ posting = cc in
     omega (arith, is.2.1, ap (λ (p : Posting). p.units) same)
 few_debited account (kind.Create id) posting is e = absurd cc

@@ -51,7 +51,7 @@ not_within_limits is =
 
 abbrev unpaid : Block
 unpaid = record block {
-  txs = record { account = record { 0 = 1 }; seq = 2; kind = kind.Pay (record { 0 = 2 }) 0 1 } ∷ [];
+  txs = record { account = record { 0 = 1 }; seq = 2; kind = kind.Pay 0 (record { 0 = 2 }) 1 } ∷ [];
 }
 
 not_covered : Settles before unpaid → ⊥

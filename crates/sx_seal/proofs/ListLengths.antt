@@ -23,7 +23,7 @@ pub list_is : KindIsLength → (txs : List Tx) → length (list_bytes txs) ≡ 4
 list_is each txs = omega (arith, total_is each txs)
 
 few_of : (of : Kind) → length_of of ≤ 35
-few_of (kind.Pay to asset amount) = omega arith
+few_of (kind.Pay asset to amount) = omega arith
 few_of (kind.Create id) = omega arith
 few_of (kind.Offer sell buy limit amount) = omega arith
 few_of (kind.Cancel sell buy limit seq) = omega arith

@@ -71,7 +71,7 @@ tx : ℕ → ℕ → Kind → Tx
 tx account seq kind = record { account = record { 0 = account }; seq = seq; kind = kind }
 
 four_kinds : candidates_text (
-    tx 1 1 (kind.Pay (record { 0 = 2 }) 0 30)
+    tx 1 1 (kind.Pay 0 (record { 0 = 2 }) 30)
     ∷ tx 1 2 (kind.Create (record { 0 = 9 }))
     ∷ tx 1 3 (kind.Offer 0 1 16777216 100)
     ∷ tx 2 4 (kind.Cancel 1 0 8388608 3)
@@ -111,7 +111,7 @@ two_payments = record {
     rounding = 0 ∷ [];
     after = after;
   };
-  txs = tx 1 1 (kind.Pay (record { 0 = 2 }) 0 30) ∷ tx 2 1 (kind.Pay (record { 0 = 1 }) 0 20) ∷ [];
+  txs = tx 1 1 (kind.Pay 0 (record { 0 = 2 }) 30) ∷ tx 2 1 (kind.Pay 0 (record { 0 = 1 }) 20) ∷ [];
 }
 
 nine_lines : block_text two_payments ≡ codes "block version 2 height 1 mu 10 assets 1\n"

@@ -9,7 +9,7 @@ use Rattle.sx_tx.specs.declared.tx.Tx.{Tx}
 
 -- the name of the kind, then its fields
 abbrev pub kind_text : Kind → List ℕ
-kind_text (kind.Pay to asset amount) =
+kind_text (kind.Pay asset to amount) =
     codes "pay " ++ (decimal to.0 ++ (codes " " ++ (decimal asset ++ (codes " " ++ decimal amount))))
 kind_text (kind.Create id) = codes "create " ++ decimal id.0
 kind_text (kind.Offer sell buy limit amount) =

@@ -16,7 +16,7 @@ fn put_payment(
     asset: AssetId,
     amount: Amount,
 ) -> Result<(), NoMemory>
-    ensures { OnOk result (string_bytes to.new ≡ string_bytes to.old ++ kind_text (Kind.Pay payee asset amount)) }
+    ensures { OnOk result (string_bytes to.new ≡ string_bytes to.old ++ kind_text (Kind.Pay asset payee amount)) }
 {
     let payee = payee.0;
     let asset = asset.get();

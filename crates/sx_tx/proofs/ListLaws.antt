@@ -93,7 +93,7 @@ only_in bytes r txs given is e =
 -- ---- lengths
 
 length_most : (what : Kind) → length_of what ≤ 35
-length_most (kind.Pay to asset amount) = omega arith
+length_most (kind.Pay asset to amount) = omega arith
 length_most (kind.Create id) = omega arith
 length_most (kind.Offer sell buy limit amount) = omega arith
 length_most (kind.Cancel sell buy limit seq) = omega arith

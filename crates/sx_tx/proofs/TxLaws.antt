@@ -48,7 +48,7 @@ terms_again c x after is within e =
 -- ---- a kind
 
 abbrev pay : ℕ → ℕ → ℕ → Kind
-pay to asset amount = kind.Pay (record { 0 = to }) asset amount
+pay to asset amount = kind.Pay asset (record { 0 = to }) amount
 
 abbrev create : ℕ → Kind
 create id = kind.Create (record { 0 = id })
@@ -111,8 +111,8 @@ number_again n c x text after some few again within e =
 
 kind_again : ReadsAgain kind_at kind_bytes IsKind
 unfolding pay_at create_at offer_at cancel_at
-kind_again c (kind.Pay to asset amount) after is within e =
-    number_again 1 c (kind.Pay to asset amount) (big_bytes 8 to.0 ++ (big_bytes 1 asset ++ big_bytes 8 amount))
+kind_again c (kind.Pay asset to amount) after is within e =
+    number_again 1 c (kind.Pay asset to amount) (big_bytes 8 to.0 ++ (big_bytes 1 asset ++ big_bytes 8 amount))
     after (omega arith) (omega arith)
     (λ mid h f. three_again id_at asset_at amount_at pay (big_bytes 8) (big_bytes 1) (big_bytes 8) IsId IsAsset
     IsAmount id_again asset_again amount_again mid to.0 asset amount after is.0 is.1 is.2 h f) within e
@@ -152,7 +152,7 @@ tx_again c x after is within e =
 -- ---- lengths
 
 length_is : (account seq : ℕ) (what : Kind) → length (tx_bytes (made account seq what)) ≡ length_of what
-length_is account seq (kind.Pay to asset amount) = refl
+length_is account seq (kind.Pay asset to amount) = refl
 length_is account seq (kind.Create id) = refl
 length_is account seq (kind.Offer sell buy limit amount) = refl
 length_is account seq (kind.Cancel sell buy limit seq') = refl
@@ -161,7 +161,7 @@ pub length-tx_bytes : KindIsLength
 length-tx_bytes tx = length_is tx.account.0 tx.seq tx.kind
 
 least_of : (what : Kind) → least_tx_bytes ≤ length_of what
-least_of (kind.Pay to asset amount) = omega arith
+least_of (kind.Pay asset to amount) = omega arith
 least_of (kind.Create id) = omega arith
 least_of (kind.Offer sell buy limit amount) = omega arith
 least_of (kind.Cancel sell buy limit seq) = omega arith

@@ -11,7 +11,7 @@ use Rattle.sx_tx.specs.Window.{open_numbers, bit_length, is_used, IsWindow, Next
 
 -- how many bytes a transaction of this kind takes
 abbrev pub length_of : Kind → ℕ
-length_of (kind.Pay to asset amount) = 34
+length_of (kind.Pay asset to amount) = 34
 length_of (kind.Create id) = 25
 length_of (kind.Offer sell buy limit amount) = 35
 length_of (kind.Cancel sell buy limit seq) = 35

@@ -39,7 +39,7 @@ pay_at c = do
   to ← id_at c
   asset ← asset_at to.1
   amount ← amount_at asset.1
-  Ok (kind.Pay (record { 0 = to.0 }) asset.0 amount.0, amount.1)
+  Ok (kind.Pay asset.0 (record { 0 = to.0 }) amount.0, amount.1)
 
 unfoldable pub create_at : Cursor → Result (Kind × Cursor) FormFault
 create_at c = do

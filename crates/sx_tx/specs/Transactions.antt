@@ -26,7 +26,7 @@ terms_bytes sell buy limit = big_bytes 1 sell ++ (big_bytes 1 buy ++ big_bytes 8
 
 -- the number of the kind, then its fields
 abbrev pub kind_bytes : Kind → List ℕ
-kind_bytes (kind.Pay to asset amount) = big_bytes 1 1 ++ (big_bytes 8 to.0 ++ (big_bytes 1 asset ++ big_bytes 8 amount))
+kind_bytes (kind.Pay asset to amount) = big_bytes 1 1 ++ (big_bytes 8 to.0 ++ (big_bytes 1 asset ++ big_bytes 8 amount))
 kind_bytes (kind.Create id) = big_bytes 1 2 ++ big_bytes 8 id.0
 kind_bytes (kind.Offer sell buy limit amount) = big_bytes 1 3 ++ (terms_bytes sell buy limit ++ big_bytes 8 amount)
 kind_bytes (kind.Cancel sell buy limit seq) = big_bytes 1 4 ++ (terms_bytes sell buy limit ++ big_bytes 8 seq)
@@ -56,7 +56,7 @@ abbrev pub AreTerms : ℕ → ℕ → ℕ → Type 0
 AreTerms sell buy limit = IsAsset sell × IsAsset buy × IsLimit limit
 
 abbrev pub IsKind : Kind → Type 0
-IsKind (kind.Pay to asset amount) = IsId to.0 × IsAsset asset × IsAmount amount
+IsKind (kind.Pay asset to amount) = IsId to.0 × IsAsset asset × IsAmount amount
 IsKind (kind.Create id) = IsId id.0
 IsKind (kind.Offer sell buy limit amount) = AreTerms sell buy limit × IsAmount amount
 IsKind (kind.Cancel sell buy limit seq) = AreTerms sell buy limit × IsSeq seq

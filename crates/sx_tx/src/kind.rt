@@ -7,9 +7,10 @@ use sx_price::Limit;
 #[derive(Clone, Copy, Debug, PartialEq, Eq)]
 pub enum Kind {
     /// Gives `amount` units of `asset` to the account `to`.
+    // The asset stands first, since a field of one byte takes no memory of its own beside the number of the kind.
     Pay {
-        to: AccountId,
         asset: AssetId,
+        to: AccountId,
         amount: Amount,
     },
     /// Opens the account `id`.

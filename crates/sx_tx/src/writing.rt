@@ -20,7 +20,7 @@ fn put_pay(
     asset: AssetId,
     amount: Amount,
 ) -> Result<(), NoMemory>
-    ensures ok { OnOk result (to.new ≡ to.old ++ kind_bytes (Kind.Pay payee asset amount)) }
+    ensures ok { OnOk result (to.new ≡ to.old ++ kind_bytes (Kind.Pay asset payee amount)) }
     ensures err { OnErr result (Begins to.old to.new) }
 {
     to.put_u8(1)?;
