@@ -6,6 +6,7 @@ pub mod Runs
 pub mod Read
 pub mod Chaining
 pub mod Linking
+pub mod Bucketing
 pub mod Agreeing
 pub mod Stepping
 mod Cases

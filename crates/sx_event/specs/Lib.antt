@@ -4,6 +4,7 @@ pub mod Step
 pub mod Rule
 pub mod Laws
 pub mod Tables
+pub mod Buckets
 pub mod Chains
 pub mod History
 pub mod Seated

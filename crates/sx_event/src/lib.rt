@@ -51,8 +51,14 @@
 //! [`Core::start`] and [`Core::reserve`] take all memory: a step takes none, and `spare` counts how
 //! many there is memory for. The lists of claims and notes stand in proofs alone: a program keeps of
 //! a view whether it is live, its range, and what it saw last of each purse. So a claim takes no
-//! memory, and a Join costs the same however much the views have taken and seen. What a view saw last
-//! of a purse is looked up in as many tables as views were joined into it, and one more.
+//! memory, and a Join costs the same however much the views have taken and seen. A Look and a lost Take
+//! add a note of 24 bytes, which stays as long as the core.
+//!
+//! What a view saw last of a purse is looked up in as many tables as views were joined into it, and one
+//! more. The notes of a purse, of all tables, form a chain, which other purses may share. To look into
+//! a table is to go along the chain, from the newest note to the table's own of this purse, or to the
+//! end if the table has none. So an actor that looks at a purse just before it takes from it passes
+//! only the notes that came in between.
 //!
 //! Not here: threads and atomic words, which a crate above runs by the same step function; what
 //! purses and bits stand for; who is an actor and whose turn it is.

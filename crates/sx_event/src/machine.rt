@@ -84,8 +84,10 @@ impl Core {
 
     /// One step of the actor whose view has this name. It takes no memory.
     ///
-    /// A Take reads as many tables of notes as views were joined into the actor's own, and one more.
-    /// Every other step costs the same however many views, claims and notes there are.
+    /// A Take reads as many tables of notes as views were joined into the actor's own, and one more. In
+    /// each it passes the notes of the purse, and of purses that share its chain, that came after the
+    /// table's own, or all of them if the table has none. Every other step costs the same however many
+    /// views, claims and notes there are.
     pub fn step(&mut self, actor: u32, event: Event) -> Step
         requires spare { 1 ≤ self.old.spare }
         requires allowed { StepAllowed self.old.state actor event }
