@@ -1,8 +1,7 @@
 -- Faults of small encodings, worked out by hand: which one, and where.
-use Rattle.std.proofs.Common.{◌≡◌, ℕ, List, [], ◌∷◌, ◌++◌, None, Err, refl}
+use Rattle.std.proofs.Common.{◌≡◌, ℕ, List, [], ◌∷◌, ◌++◌, Err, refl}
 use Rattle.std.specs.Prelude.{replicate}
-use Rattle.sx_block.specs.Decoding.{Front, cut_at, flow_at, front_at, trade_at}
-use Rattle.sx_block.specs.Trades.{trade_before}
+use Rattle.sx_block.specs.Decoding.{cut_at, flow_at, front_at, trade_at}
 use Rattle.sx_bytes.specs.declared.fault.Form.{Form}
 use Rattle.sx_bytes.specs.declared.fault.Form.TheVariants as form
 use Rattle.sx_bytes.specs.declared.fault.FormFault.{FormFault}

@@ -15,6 +15,7 @@ pub mod TradeTotals
 pub mod TradeKeeps
 pub mod Rules
 pub mod InPart
+pub mod InParts
 pub mod ValidBlocks
 pub mod Cases
 pub mod FaultCases

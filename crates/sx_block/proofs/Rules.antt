@@ -1,5 +1,5 @@
 -- The rules of a block one by one, and what they make together.
-use Rattle.std.proofs.Common.{◌≡◌, ℕ, zero, suc, ◌<◌, ◌≤◌, List, refl, sym, ap, subst, ◌∙◌, inl, inr, arith}
+use Rattle.std.proofs.Common.{◌≡◌, ℕ, zero, suc, ◌≤◌, List, refl, sym, ap, subst, ◌∙◌, inl, inr, arith}
 use Rattle.std.specs.Prelude.{◌==◌}
 use Rattle.std.proofs.lemmas.Bool.{cases_Bool, cases_lt, cases_order}
 use Rattle.sx_block.specs.declared.header.Block.{Block}
@@ -7,7 +7,7 @@ use Rattle.sx_block.specs.Block.{IsBlock}
 use Rattle.sx_block.specs.EffectLaws.{IsRounded, IsTradable}
 use Rattle.sx_block.specs.Rule.{Rule, rank}
 use Rattle.sx_block.specs.Rule as rule
-use Rattle.sx_block.specs.Validity.{Holds, HoldsBefore, HoldsButParent, IsApplicable, IsSound, IsValid, flow_of_block}
+use Rattle.sx_block.specs.Validity.{Holds, HoldsBefore, HoldsButParent, IsApplicable, flow_of_block}
 use Rattle.sx_block.specs.ValidityLaws.{ApplicableIsSound, BlockFits, FittingIsSound, SoundFits, SoundIsAdmissible}
 use Rattle.sx_block.specs.ValidityLaws.{SoundIsApplicable, SoundIsBody, SoundIsTradable, SoundIsValid, ValidIsSound}
 use Rattle.sx_ledger.specs.declared.parts.Parts.{Parts}

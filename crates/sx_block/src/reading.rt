@@ -21,7 +21,7 @@ use sx_tx::{MOST_TRANSACTIONS, Tx, TxList, read_tx};
 const LEAST_BYTES: usize = 25;
 
 // Whether a transaction may follow the one before it.
-fn follows(before: Option<Tx>, next: &Tx) -> bool
+pub(crate) fn follows(before: Option<Tx>, next: &Tx) -> bool
     ensures { result ≡ may_follow tx_before before next.now }
 {
     match before {

@@ -10,7 +10,7 @@ use Rattle.sx_bytes.proofs.Grammar.{bind_ok}
 use Rattle.sx_bytes.proofs.Parts.{made_is}
 use Rattle.sx_tx.specs.declared.tx.Tx.{Tx}
 use Rattle.sx_tx.specs.Transactions.{most_transactions}
-use Rattle.sx_tx.specs.TransactionDecoding.{AreDecoded, candidates_at, list_at, tx_at}
+use Rattle.sx_tx.specs.TransactionDecoding.{AreDecoded, IsListAt, candidates_at, list_at, tx_at}
 
 -- n entries, and m more from their end on, are n + m entries
 pub many_joined : {X : Type 0} (entry : Cursor → Result (X × Cursor) FormFault) (n m : ℕ) (c mid end : Cursor)
@@ -58,27 +58,25 @@ list_is : (from mid next : Cursor) (count : ℕ) (txs : List Tx)
 unfolding list_at
 list_is from mid next count txs read many = rw read many
 
-ends_whole : (payload : List ℕ) (txs : List Tx)
-    → list_at (at_place payload 0) ≡ Ok (txs, at_place payload (length payload)) → candidates_at payload ≡ Ok txs
+-- the count, and so many transactions after it
+pub listed_is : (payload : List ℕ) (from mid : Cursor) (count n place begin end : ℕ) (txs : List Tx)
+    → from ≡ at_place payload place → field_at 4 (between 0 most_transactions) form.TooMany from ≡ Ok (count, mid)
+    → mid.bytes ≡ from.bytes → begin ≡ mid.place → n ≡ count → AreDecoded payload begin n txs end
+    → IsListAt payload place txs end
+listed_is payload from mid count n place begin end txs from_is read same begin_is n_is decoded =
+    let bytes : payload ≡ mid.bytes = sym (same ∙ ap (λ (c : Cursor). c.bytes) from_is) in
+    let begins : at_place payload begin ≡ mid =
+    ap (λ (xs : List ℕ). at_place xs begin) bytes ∙ ap (λ (p : ℕ). at_place mid.bytes p) begin_is in
+    let all : AreDecoded payload begin count txs end =
+    subst (λ (k : ℕ). AreDecoded payload begin k txs end) n_is decoded in
+    let many : many_at tx_at count mid ≡ Ok (txs, at_place payload end) =
+    subst (λ (c : Cursor). many_at tx_at count c ≡ Ok (txs, at_place payload end)) begins all in
+    subst (λ (c : Cursor). list_at c ≡ Ok (txs, at_place payload end)) from_is
+    (list_is from mid (at_place payload end) count txs read many)
+
+pub ends_whole : (payload : List ℕ) (txs : List Tx) → IsListAt payload 0 txs (length payload)
+    → candidates_at payload ≡ Ok txs
 unfolding candidates_at
 ends_whole payload txs read =
     let ended : left (at_place payload (length payload)) ≡ 0 = omega arith in
     rw read (rw (eq-eqb (left (at_place payload (length payload))) 0 ended) refl)
-
--- the count, and so many transactions up to the end of the payload
-pub whole_is : (payload : List ℕ) (from mid : Cursor) (count n place end : ℕ) (txs : List Tx)
-    → from ≡ at_place payload 0 → field_at 4 (between 0 most_transactions) form.TooMany from ≡ Ok (count, mid)
-    → mid.bytes ≡ from.bytes → place ≡ mid.place → n ≡ count → AreDecoded payload place n txs end
-    → end ≡ length payload → candidates_at payload ≡ Ok txs
-whole_is payload from mid count n place end txs from_is read same place_is n_is decoded end_is =
-    let bytes : payload ≡ mid.bytes = sym (same ∙ ap (λ (c : Cursor). c.bytes) from_is) in
-    let begins : at_place payload place ≡ mid =
-    ap (λ (xs : List ℕ). at_place xs place) bytes ∙ ap (λ (p : ℕ). at_place mid.bytes p) place_is in
-    let all : AreDecoded payload place count txs (length payload) =
-    subst (AreDecoded payload place count txs) end_is
-    (subst (λ (k : ℕ). AreDecoded payload place k txs end) n_is decoded) in
-    let many : many_at tx_at count mid ≡ Ok (txs, at_place payload (length payload)) =
-    subst (λ (c : Cursor). many_at tx_at count c ≡ Ok (txs, at_place payload (length payload))) begins all in
-    ends_whole payload txs
-    (subst (λ (c : Cursor). list_at c ≡ Ok (txs, at_place payload (length payload))) from_is
-    (list_is from mid (at_place payload (length payload)) count txs read many))

@@ -82,6 +82,11 @@ list_at c = do
   count ← field_at 4 (between 0 most_transactions) form.TooMany c
   many_at tx_at count.0 count.1
 
+-- the list from a place of the bytes on has these transactions, and ends at another place
+abbrev pub IsListAt : List ℕ → ℕ → List Tx → ℕ → Type 0
+IsListAt bytes place txs end =
+    list_at (record { bytes = bytes; place = place }) ≡ Ok (txs, record { bytes = bytes; place = end })
+
 -- a whole payload, from its first byte
 unfoldable pub candidates_at : List ℕ → Result (List Tx) FormFault
 candidates_at bytes = do

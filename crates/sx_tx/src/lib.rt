@@ -33,7 +33,7 @@ pub use fields::{read_amount, read_asset, read_id, read_limit, read_seq};
 pub use kind::Kind;
 pub use laws::{list_laws, tx_laws, window_laws};
 pub use reading::{read_candidates, read_tx};
-pub use reading_in_parts::par_read_candidates;
+pub use reading_in_parts::{par_read_candidates, par_read_list};
 pub use tx::Tx;
 pub use tx_list::{MOST_TRANSACTIONS, TxList};
 pub use window::{Window, WindowFault};

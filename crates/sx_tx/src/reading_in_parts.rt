@@ -1,4 +1,4 @@
-//! Decoding a long payload of candidates by several threads.
+//! Decoding a long list of transactions by several threads.
 //!
 //! One thread steps over the front half of the transactions, by the bytes of their kinds alone, to where the back
 //! half seems to begin. Then half of the threads decode each half, in the same way, into its part of one vector. Where
@@ -10,7 +10,7 @@ ghost use Rattle.std.specs.Thread.{IsSync};
 ghost use Rattle.sx_bytes.specs.Grammar.{Gives};
 ghost use Rattle.sx_tx.specs.declared.tx.Tx.{Tx as Transaction};
 ghost use Rattle.sx_tx.specs.Transactions.{list_bytes, IsTxList};
-ghost use Rattle.sx_tx.specs.TransactionDecoding.{AreDecoded, candidates_at};
+ghost use Rattle.sx_tx.specs.TransactionDecoding.{AreDecoded, IsListAt, candidates_at};
 
 use crate::reading::{read_candidates, tx};
 use crate::tx::Tx;
@@ -101,6 +101,55 @@ fn fill_by<R: Threads + Sync>(
     other
 }
 
+// The count at a place of a payload and that many transactions, decoded by so many threads, and where they end.
+fn listed<R: Threads + Sync>(
+    rt: &R,
+    alloc: Global,
+    payload: &[u8],
+    place: usize,
+    threads: usize,
+) -> Result<(TxList, usize), ReadError>
+    requires { 1 ≤ threads }
+    ensures { IfOk result (λ read. IsListAt payload.now place read.0 read.1) }
+{
+    let mut from = reader_at(payload, place)?;
+    let count = from.field_u32(0, MOST_TRANSACTIONS, Form::TooMany)?;
+    let begin = from.place();
+    // Memory grows with what the bytes left can hold, and not with what the count claims.
+    if from.left() / Tx::LEAST_BYTES < count as usize {
+        return Err(ReadError::Form(fault_at(begin, Form::Short)));
+    }
+    // A slot has some transaction before its own is decoded: the first one serves.
+    let first = tx(&mut from)?;
+    let mut txs = vec![in alloc; first; count as usize]?;
+    let end = fill_by(rt, payload, begin, threads, &mut txs)?;
+    Ok((TxList::of(txs), end))
+}
+
+// How many of so many workers are worth starting for so many bytes.
+fn threads_for(bytes: usize, workers: u32) -> usize
+    requires { 1 ≤ workers }
+    ensures { 1 ≤ result }
+{
+    (bytes / WORTH_A_THREAD).clamp(1, workers as usize)
+}
+
+/// The list of transactions at a place of a payload, its count included, and where it ends. As many as `workers` threads
+/// decode a long one. An error says nothing of the bytes: a caller that wants the first fault reads them by one thread.
+pub fn par_read_list<R: Threads + Sync>(
+    rt: &R,
+    alloc: Global,
+    payload: &[u8],
+    place: usize,
+    workers: u32,
+) -> Result<(TxList, usize), ReadError>
+    requires some_worker { 1 ≤ workers }
+    ensures { IfOk result (λ read. IsListAt payload.now place read.0 read.1) }
+{
+    let threads = threads_for(payload.len(), workers);
+    listed(rt, alloc, payload, place, threads)
+}
+
 // The transactions of a payload, decoded by so many threads. An error says nothing of the payload.
 fn whole<R: Threads + Sync>(
     rt: &R,
@@ -111,21 +160,11 @@ fn whole<R: Threads + Sync>(
     requires { 1 ≤ threads }
     ensures { IfOk result (λ txs. candidates_at payload.now ≡ Ok txs) }
 {
-    let mut from = Reader::new(payload);
-    let count = from.field_u32(0, MOST_TRANSACTIONS, Form::TooMany)?;
-    let place = from.place();
-    // Memory grows with what the bytes left can hold, and not with what the count claims.
-    if from.left() / Tx::LEAST_BYTES < count as usize {
-        return Err(ReadError::Form(fault_at(place, Form::Short)));
-    }
-    // A slot has some transaction before its own is decoded: the first one serves.
-    let first = tx(&mut from)?;
-    let mut txs = vec![in alloc; first; count as usize]?;
-    let end = fill_by(rt, payload, place, threads, &mut txs)?;
+    let (txs, end) = listed(rt, alloc, payload, 0, threads)?;
     if end != payload.len() {
         return Err(ReadError::Form(fault_at(end, Form::Rest)));
     }
-    Ok(TxList::of(txs))
+    Ok(txs)
 }
 
 /// The transactions of a payload of candidates, as [`read_candidates`] answers them, with the same errors. As many as
@@ -146,7 +185,7 @@ pub fn par_read_candidates<R: Threads + Sync>(
     // Which fault it is.
     ensures exact { Gives (λ txs. txs) result (candidates_at payload.now) }
 {
-    let threads = (payload.len() / WORTH_A_THREAD).min(workers as usize);
+    let threads = threads_for(payload.len(), workers);
     if threads < 2 {
         return read_candidates(alloc, payload);
     }

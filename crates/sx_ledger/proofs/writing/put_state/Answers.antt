@@ -1,11 +1,11 @@
 use Rattle.std.proofs.Common.{◌≡◌, List, ℕ, ◌++◌, length, Result, Ok, Err, ap, sym, ◌∙◌}
-use Rattle.std.specs.Prelude.{OnOk, OnErr}
+use Rattle.std.specs.Prelude.{OnErr}
 use Rattle.std.specs.List.{flat_map}
 use Rattle.std.proofs.lemmas.Result.{on_err_weaker, on_ok_weaker}
 use Rattle.byteorder.specs.Endian.{big_bytes}
 use Rattle.sx_bytes.specs.Written.{Begins}
 use Rattle.sx_bytes.proofs.Written.{begins_since, written_then}
-use Rattle.sx_ledger.specs.Encoding.{account_bytes, offer_bytes, opening_bytes, state_bytes}
+use Rattle.sx_ledger.specs.Encoding.{account_bytes, offer_bytes, opening_bytes}
 use Rattle.sx_ledger.proofs.Opening.{opening_first}
 use Rattle.sx_ledger.proofs.writing.put_state.Goals as goal
 

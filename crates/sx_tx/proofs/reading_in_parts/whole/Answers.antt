@@ -1,25 +1,10 @@
-use Rattle.std.proofs.Common.{◌≡◌, length, ◌∙◌, arith}
-use Rattle.std.proofs.lemmas.List.{with_items_is}
-use Rattle.sx_tx.specs.TransactionDecoding.{AreDecoded, tx_at}
-use Rattle.sx_tx.proofs.Halves.{many_length, whole_is}
+use Rattle.std.proofs.Common.{subst}
+use Rattle.sx_tx.specs.TransactionDecoding.{IsListAt}
+use Rattle.sx_tx.proofs.Halves.{ends_whole}
 use Rattle.sx_tx.proofs.reading_in_parts.whole.Goals as goal
 
 pub returns : goal.returns
 returns g c =
     let payload = c.args.payload.now in
-    let place = c.place-place.result in
-    let count = c.in_ok-count.count in
-    let end = c.in_ok-end.end in
-    let txs = c.fill_by.new.txs in
-    let slots = length c.deref_mut.result.now in
-    let decoded : AreDecoded payload place slots txs end = c.in_ok-end.ensures in
-    let made : slots ≡ count =
-    omega (arith, c.deref_mut.ensures.len, c.in_ok-txs.ensures.len, c.in_ok-txs.txs.ok) in
-    let one_each : length txs ≡ slots =
-    many_length tx_at slots (record { bytes = payload; place = place }) (record { bytes = payload; place = end }) txs
-    decoded in
-    let items : c.of.result ≡ txs =
-    c.of.ensures ∙ with_items_is c.in_ok-txs.txs txs (omega (arith, one_each, c.deref_mut.ensures.len)) in
-    rw items (whole_is payload c.new-from.result c.field_u32.new.self count slots place end txs c.new-from.ensures
-    c.in_ok-count.ensures.exact c.in_ok-count.ensures.same c.place-place.ensures.place made decoded
-    c.if-end-payload.false)
+    ends_whole payload c.in_ok-txs.txs
+    (subst (IsListAt payload 0 c.in_ok-txs.txs) c.if-end-payload.false c.in_ok-txs.ensures)
