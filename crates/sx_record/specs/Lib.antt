@@ -1,3 +1,4 @@
+pub mod Beside
 pub mod Tags
 pub mod Frame
 pub mod Decoding

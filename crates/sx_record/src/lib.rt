@@ -16,6 +16,7 @@
 //! which.
 #![tactic(auto)]
 
+mod beside;
 mod fault;
 mod frame;
 mod laws;
@@ -23,8 +24,9 @@ mod reading;
 pub mod tag;
 mod writing;
 
+pub use beside::{Alone, Beside, fill};
 pub use fault::RecordFault;
 pub use frame::{FRAME_BYTES, MOST_BYTES, Record};
 pub use laws::record_laws;
-pub use reading::next_record;
+pub use reading::{next_record, next_record_beside};
 pub use writing::{write_frame, write_record};
