@@ -7,7 +7,6 @@ use Rattle.std.specs.Prelude.{nat_le, ◌&&◌, ◌==◌, ◌⊎◌}
 use Rattle.sx_block.specs.declared.header.Block.{Block}
 use Rattle.sx_block.specs.Block.{IsBlock}
 use Rattle.sx_bytes.specs.declared.fault.Form.TheVariants as form
-use Rattle.sx_bytes.specs.declared.fault.FormFault.{FormFault}
 use Rattle.sx_chain.specs.declared.following.Taking.{Taking}
 use Rattle.sx_chain.specs.Following.{HasTaken, IsNext, MayGoOn, Steps, StepsTo, expected_at, is_full}
 use Rattle.sx_chain.proofs.Steps.{after_block, block_listed, block_tests, full_tests, near_block, near_outcomes}

@@ -2,3 +2,4 @@ pub mod PayloadItems
 pub mod Faults
 pub mod TakenRecords
 pub mod Readings
+pub mod Hashing

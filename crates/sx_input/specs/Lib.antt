@@ -2,3 +2,4 @@ pub mod Stream
 pub mod Head
 pub mod Found
 pub mod Incoming
+pub mod Hashing

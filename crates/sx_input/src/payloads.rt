@@ -13,7 +13,7 @@ ghost use Rattle.sx_record.specs.Tags.{state_tag};
 use crate::stop::Stop;
 use std::alloc::Global;
 use std::thread::Threads;
-use sx_block::{Block, Digest, block_laws, read_block};
+use sx_block::{Block, Digest, block_laws, par_read_block};
 use sx_bytes::{FormFault, ReadError};
 use sx_commit::{Proof, proof_laws, read_proof};
 use sx_layout::{Outcomes, Script, outcome_list_laws, read_outcomes, read_script, script_laws};
@@ -38,7 +38,7 @@ pub trait Payload {
 
     const TAG: u8;
 
-    /// The value that a payload encodes. A state or candidates, where there are many, are read by several threads, and
+    /// The value that a payload encodes. A state, candidates or a block, where they are long, are read by several threads, and
     /// the call returns where these return.
     fn read<R: Threads + Sync>(rt: &R, alloc: Global, payload: &[u8]) -> Result<Self, ReadError>
         requires shared { IsSync R.row }
@@ -89,9 +89,9 @@ impl Payload for Block {
 
     const TAG: u8 = tag::BLOCK;
 
-    fn read<R: Threads + Sync>(_rt: &R, alloc: Global, payload: &[u8]) -> Result<Block, ReadError> {
+    fn read<R: Threads + Sync>(rt: &R, alloc: Global, payload: &[u8]) -> Result<Block, ReadError> {
         block_laws();
-        read_block(alloc, payload)
+        par_read_block(rt, alloc, payload, WORKERS)
     }
 }
 
