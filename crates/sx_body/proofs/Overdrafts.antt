@@ -1,7 +1,7 @@
 -- Overdrafts of accounts at their places, and those of a body.
 use Rattle.std.proofs.Common.{◌≡◌, ◌≢◌, ℕ, zero, suc, ◌+◌, ◌-◌, ◌<◌, ◌≤◌, true, false, ◌==◌, List, [], ◌∷◌, length, get_or}
-use Rattle.std.proofs.Common.{All, Some, inl, inr, refl, sym, ap, ap₂, subst, ◌∙◌, arith}
-use Rattle.std.specs.Prelude.{nat_le, slice_get}
+use Rattle.std.proofs.Common.{All, Option, Some, None, inl, inr, refl, sym, ap, ap₂, subst, ◌∙◌, arith}
+use Rattle.std.specs.Prelude.{IfNone, IfSome, nat_le, slice_get}
 use Rattle.std.specs.List.Sorted.{IsStrictlyIncreasing}
 use Rattle.std.specs.Option.{option_map}
 use Rattle.std.proofs.lemmas.Bool.{and_right, cases_Bool, cases_lt, cases_order, leb-false, ne_eqb, or_parts}
@@ -11,7 +11,8 @@ use Rattle.std.proofs.lemmas.Option.{get_or_from_slice_get, slice_get-map, slice
 use Rattle.sx_base.specs.declared.account_id.AccountId.{AccountId}
 use Rattle.sx_body.specs.declared.overdraft.Overdraft.{Overdraft}
 use Rattle.sx_body.specs.declared.tally.Tally.{Tally}
-use Rattle.sx_body.specs.Overdraft.{CoversAt, IsFirstOverdrawn, IsOverdraftAt, NoneOverdrawn, may_spend}
+use Rattle.sx_body.specs.Overdraft.{AreCovered, CoversAt, IsFirstFrom, IsFirstOverdrawn, IsOverdraftAt, NoneOverdrawn}
+use Rattle.sx_body.specs.Overdraft.{may_spend}
 use Rattle.sx_body.specs.Postings.{credit_at, debit_at}
 use Rattle.sx_body.specs.Tally.{IsTally}
 use Rattle.sx_ledger.specs.declared.account.Account.{Account}
@@ -210,3 +211,15 @@ module _ (version : ℕ) (parts : Parts) (keeps : IsLedger parts) (txs : List Tx
               spends place account there asset inside,
             ));
       }
+
+  pub first_of_all : (found : Option Overdraft) → IfSome found (IsFirstFrom version parts tally.postings 0)
+      → IfSome found (IsFirstOverdrawn version parts txs)
+  first_of_all None first = tt
+  first_of_all (Some overdraft) first =
+      is_first first.place (λ k lt. first.before k (omega arith) lt) overdraft first.here
+
+  pub none_of_all : (found : Option Overdraft)
+      → IfNone found (AreCovered version parts tally.postings 0 (length parts.accounts))
+      → IfNone found (NoneOverdrawn version parts txs)
+  none_of_all None covered = none_overdrawn (λ k lt. covered k (omega arith) lt)
+  none_of_all (Some overdraft) covered = tt

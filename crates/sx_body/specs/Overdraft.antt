@@ -66,3 +66,16 @@ pub record IsOverdraftAt (version : ℕ) (parts : Parts) (postings : Postings) (
   pub over : may_spend version overdraft.opening overdraft.credits < overdraft.debits
   pub before : (asset : ℕ) → asset < overdraft.asset
       → debit_at postings place asset ≤ may_spend version (balance_at asset account) (credit_at postings place asset)
+
+-- no debits of the accounts from one place up to another are above what they may spend
+abbrev pub AreCovered : ℕ → Parts → Postings → ℕ → ℕ → Type 0
+AreCovered version parts postings from end =
+    (place : ℕ) → from ≤ place → place < end → CoversAt version parts postings place
+
+-- the first overdraft of the accounts from a place on
+pub record IsFirstFrom (version : ℕ) (parts : Parts) (postings : Postings) (from : ℕ) (overdraft : Overdraft)
+    : Type 0 where
+  pub place : ℕ
+  pub reached : from ≤ place
+  pub here : IsOverdraftAt version parts postings place overdraft
+  pub before : AreCovered version parts postings from place

@@ -5,13 +5,15 @@
 //! are used, the offers that are cancelled and made, and the accounts that are created. Contracts see a
 //! tally through its relation to the list of transactions (`IsTally`), where each part is a plain sum or
 //! a plain list. [`par_precheck`] answers the same, and has threads look up where what the transactions name
-//! stands; no other call starts a thread. [`refusal_laws`] says that the first refusal is one.
+//! stands. [`refusal_laws`] says that the first refusal is one.
 //!
 //! The tally tells the rest of what makes a body admissible (`IsAdmissibleIn` of `sx_ledger`), and no
 //! transaction is looked at again: [`Tally::cancelled_again`] and [`Tally::created_again`] tell the first
 //! transaction that cancels an offer or creates an account that one before it does, [`Tally::created`]
 //! and [`Tally::made`] how many accounts and offers come, and [`Tally::first_overdraft`] the first account
 //! and asset whose debits are above what may be spent, by the rule of either version.
+//! [`Tally::par_first_overdraft`] answers the same, and has each of several threads look at a part of the
+//! accounts. Only it and [`par_precheck`] start threads.
 //!
 //! [`offers_after`] answers the offers after an admissible body, and [`apply_accounts`] the ledger after
 //! it: exactly those of the definitions of `sx_ledger`. [`apply_to_account`] makes one account what it is

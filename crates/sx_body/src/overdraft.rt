@@ -1,15 +1,21 @@
-//! The first account whose debits are above what it may spend.
+//! The first account whose debits are above what it may spend, looked for by one thread or by several.
 
-ghost use Rattle.std.specs.Prelude.{◌≡◌, ℕ, ◌<◌, ◌≤◌, List, length, nat_lt, slice_index, slice_get, IfSome, IfNone};
-ghost use Rattle.std.specs.Prelude.{Some};
-ghost use Rattle.sx_body.specs.Overdraft.{CoversAt, CoversBelow, IsFirstOverdrawn, IsOverdraftAt, IsOverdraftOf};
-ghost use Rattle.sx_body.specs.Overdraft.{NoneOverdrawn, may_spend};
+ghost use Rattle.std.specs.Prelude.{◌≡◌, ℕ, ◌*◌, ◌<◌, ◌≤◌, List, length, nat_lt, slice_index, slice_get, IfSome};
+ghost use Rattle.std.specs.Prelude.{IfNone, Some};
+ghost use Rattle.std.specs.Thread.{IsSync};
+ghost use Rattle.sx_body.specs.Overdraft.{AreCovered, CoversAt, CoversBelow, IsFirstFrom, IsFirstOverdrawn};
+ghost use Rattle.sx_body.specs.Overdraft.{IsOverdraftAt, IsOverdraftOf, NoneOverdrawn, may_spend};
 ghost use Rattle.sx_body.specs.Tally.{IsTally, IsTallyFor};
 ghost use Rattle.sx_tx.specs.declared.tx.Tx.{Tx as Transaction};
 
 use crate::tally::Tally;
+use std::thread::{Threads, join};
 use sx_base::{AccountId, AssetId};
 use sx_ledger::{Account, Ledger};
+
+// How many accounts are worth a thread of their own. To look at them takes a millisecond, and to start a thread a small
+// part of that.
+const WORTH_A_THREAD: u32 = 8_192;
 
 /// An account whose transactions debit more of an asset than it may spend.
 #[derive(Clone, Copy, Debug, PartialEq, Eq)]
@@ -106,6 +112,67 @@ impl Tally {
         overdraft_of(version, account, debits, credits)
     }
 
+    // The first overdraft of the accounts from one place up to another.
+    fn first_overdraft_in(
+        &self,
+        ledger: &Ledger,
+        version: u8,
+        from: u32,
+        end: u32,
+    ) -> Option<Overdraft>
+        requires within { end ≤ length ledger.now.accounts }
+        requires shape { IsTallyFor ledger.now self.now }
+        ensures first { IfSome result (IsFirstFrom version ledger.now self.now.postings from) }
+        ensures none { IfNone result (AreCovered version ledger.now self.now.postings from end) }
+    {
+        for place in from..end {
+            if let Some(overdraft) = self.overdraft_at(ledger, version, place) {
+                return Some(overdraft);
+            }
+        }
+        None
+    }
+}
+
+// The first overdraft of the accounts from one place up to another, looked for by so many threads, each with a part of
+// them.
+fn first_overdraft_by<R: Threads + Sync>(
+    rt: &R,
+    tally: &Tally,
+    ledger: &Ledger,
+    version: u8,
+    from: u32,
+    end: u32,
+    threads: u32,
+) -> Option<Overdraft>
+    requires order { from ≤ end }
+    requires within { end ≤ length ledger.now.accounts }
+    requires shape { IsTallyFor ledger.now tally.now }
+    ensures first { IfSome result (IsFirstFrom version ledger.now tally.now.postings from) }
+    ensures none { IfNone result (AreCovered version ledger.now tally.now.postings from end) }
+{
+    if threads < 2 {
+        return tally.first_overdraft_in(ledger, version, from, end);
+    }
+    let few = threads / 2;
+    let middle = from + (end - from) / 2;
+    let (one, other) = join(
+        rt,
+        || -> Option<Overdraft>
+            requires { IsSync R.row × (from ≤ middle) × (middle ≤ length ledger.now.accounts) × IsTallyFor ledger.now tally.now }
+            ensures first { IfSome result (IsFirstFrom version ledger.entry.now tally.entry.now.postings from) }
+            ensures none { IfNone result (AreCovered version ledger.entry.now tally.entry.now.postings from middle) }
+        { first_overdraft_by(rt, tally, ledger, version, from, middle, few) },
+        || -> Option<Overdraft>
+            requires { IsSync R.row × (middle ≤ end) × (end ≤ length ledger.now.accounts) × IsTallyFor ledger.now tally.now × (few * 2 ≤ threads) × (1 ≤ few) }
+            ensures first { IfSome result (IsFirstFrom version ledger.entry.now tally.entry.now.postings middle) }
+            ensures none { IfNone result (AreCovered version ledger.entry.now tally.entry.now.postings middle end) }
+        { first_overdraft_by(rt, tally, ledger, version, middle, end, threads - few) },
+    );
+    one.or(other)
+}
+
+impl Tally {
     /// The first account, by id, whose transactions debit more of an asset than it may spend by the rule
     /// of this version, and of it the first such asset: in version 1 an account may spend what it holds in
     /// the ledger, in version 2 also what the transactions credit to it. It goes over the accounts once,
@@ -117,11 +184,28 @@ impl Tally {
         ensures none { (txs : List Transaction) → IsTally ledger.now txs self.now
             → IfNone result (NoneOverdrawn version ledger.now txs) }
     {
-        for place in 0..ledger.accounts() {
-            if let Some(overdraft) = self.overdraft_at(ledger, version, place) {
-                return Some(overdraft);
-            }
-        }
-        None
+        let accounts = ledger.accounts();
+        self.first_overdraft_in(ledger, version, 0, accounts)
+    }
+
+    /// The same as [`Tally::first_overdraft`], by at most so many threads, each with a part of the accounts. The answer
+    /// is the same for every number of workers, and with one, or for few accounts, no thread is started.
+    pub fn par_first_overdraft<R: Threads + Sync>(
+        &self,
+        rt: &R,
+        ledger: &Ledger,
+        version: u8,
+        workers: u32,
+    ) -> Option<Overdraft>
+        requires some_worker { 1 ≤ workers }
+        requires shape { IsTallyFor ledger.now self.now }
+        ensures first { (txs : List Transaction) → IsTally ledger.now txs self.now
+            → IfSome result (IsFirstOverdrawn version ledger.now txs) }
+        ensures none { (txs : List Transaction) → IsTally ledger.now txs self.now
+            → IfNone result (NoneOverdrawn version ledger.now txs) }
+    {
+        let accounts = ledger.accounts();
+        let threads = (accounts / WORTH_A_THREAD).clamp(1, workers);
+        first_overdraft_by(rt, self, ledger, version, 0, accounts, threads)
     }
 }

@@ -28,7 +28,7 @@ pub struct Advanced {
     pub checked: Checked,
 }
 
-// Judges the next block, and applies it by so many workers. A thread may still be making the digest of the ledger,
+// Judges the next block and applies it, by so many workers. A thread may still be making the digest of the ledger,
 // which neither needs. So it is waited for last, or where the block is refused. The record of the ledger after the block
 // is written only where a caller wants it.
 pub fn advance<R: Threads + Sync>(
@@ -59,7 +59,7 @@ pub fn advance<R: Threads + Sync>(
         digest,
     } = head;
     let Incoming { block, body, found } = incoming;
-    let judged = match judge_applicable(alloc, &ledger, &block, &body, found) {
+    let judged = match judge_applicable(rt, alloc, &ledger, &block, &body, found, workers) {
         Ok(judged) => judged,
         Err(fault) => {
             let parent = digest.wait(rt);

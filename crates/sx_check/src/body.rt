@@ -1,9 +1,10 @@
 //! The transactions of a block on a ledger: reasons 6 to 10, and 17.
 
-ghost use Rattle.std.specs.Prelude.{IfErr, IfOk, OnOk};
+ghost use Rattle.std.specs.Prelude.{◌≤◌, IfErr, IfNone, IfOk, IfSome, OnOk};
 ghost use Rattle.sx_block.specs.Block.{IsBlock};
 ghost use Rattle.sx_block.specs.Rule as rule;
 ghost use Rattle.sx_block.specs.Validity.{HoldsButParent};
+ghost use Rattle.sx_body.specs.Overdraft.{IsFirstOverdrawn, NoneOverdrawn};
 ghost use Rattle.sx_body.specs.Tally.{IsTally};
 ghost use Rattle.sx_check.specs.Refusals.{ExplainsButParent, RefusesButParent};
 ghost use Rattle.sx_check.specs.Surveys.{IsSurvey, IsSurveyed};
@@ -11,6 +12,7 @@ ghost use Rattle.sx_check.specs.Surveys.{IsSurvey, IsSurveyed};
 use crate::fault::CheckFault;
 use crate::invalid::Invalid;
 use crate::survey::Survey;
+use std::thread::Threads;
 use sx_block::Block;
 use sx_body::{Overdraft, PrecheckFault, Tally};
 use sx_ledger::Ledger;
@@ -93,16 +95,38 @@ fn check_room(ledger: &Ledger, block: &Block, tally: &Tally) -> Result<(), Inval
     Ok(())
 }
 
-// And no account is overdrawn by the rule of the block's version.
-fn check_debits(ledger: &Ledger, block: &Block, tally: &Tally) -> Result<(), Invalid>
+// The transactions, of which this was found, pass all rules on them but the one on overdrafts. It answers the survey of
+// them.
+fn check_counts(
+    ledger: &Ledger,
+    block: &Block,
+    found: Result<Survey, PrecheckFault>,
+) -> Result<Survey, CheckFault>
     requires form { IsBlock block.now }
-    requires tally { IsTally ledger.now block.now.txs tally.now }
+    requires header { HoldsButParent rule.Passes ledger.now block.now }
+    requires found { IsSurveyed ledger.now block.now.txs found }
+    ensures room { OnOk result (HoldsButParent rule.Covered ledger.now block.now) }
+    ensures survey { IfOk result (IsSurvey ledger.now block.now.txs) }
+    ensures refused { IfErr result (ExplainsButParent ledger.now block.now) }
+{
+    let survey = check_each(ledger, block, found)?;
+    let tally = &survey.tally;
+    check_cancellations(ledger, block, tally)?;
+    check_creations(ledger, block, tally)?;
+    check_room(ledger, block, tally)?;
+    Ok(survey)
+}
+
+// And no account is overdrawn by the rule of the block's version, of which this is the first overdraft.
+fn check_debits(ledger: &Ledger, block: &Block, overdraft: Option<Overdraft>) -> Result<(), Invalid>
+    requires form { IsBlock block.now }
     requires room { HoldsButParent rule.Covered ledger.now block.now }
+    requires first { IfSome overdraft (IsFirstOverdrawn block.now.header.version ledger.now block.now.txs) }
+    requires none { IfNone overdraft (NoneOverdrawn block.now.header.version ledger.now block.now.txs) }
     ensures body { OnOk result (HoldsButParent rule.Within ledger.now block.now) }
     ensures refused { IfErr result (RefusesButParent ledger.now block.now) }
 {
-    let version = block.header.version;
-    let Some(overdraft) = tally.first_overdraft(ledger, version) else {
+    let Some(overdraft) = overdraft else {
         return Ok(());
     };
     let Overdraft {
@@ -112,7 +136,7 @@ fn check_debits(ledger: &Ledger, block: &Block, tally: &Tally) -> Result<(), Inv
         credits,
         debits,
     } = overdraft;
-    if version == 1 {
+    if block.header.version == 1 {
         Err(Invalid::Overdrawn {
             account,
             asset,
@@ -143,11 +167,34 @@ pub fn check_body(
     ensures survey { IfOk result (IsSurvey ledger.now block.now.txs) }
     ensures refused { IfErr result (ExplainsButParent ledger.now block.now) }
 {
-    let survey = check_each(ledger, block, found)?;
-    let tally = &survey.tally;
-    check_cancellations(ledger, block, tally)?;
-    check_creations(ledger, block, tally)?;
-    check_room(ledger, block, tally)?;
-    check_debits(ledger, block, tally)?;
+    let survey = check_counts(ledger, block, found)?;
+    let version = block.header.version;
+    let overdraft = survey.tally.first_overdraft(ledger, version);
+    check_debits(ledger, block, overdraft)?;
+    Ok(survey)
+}
+
+// The same as `check_body`, with at most so many threads that look for an overdraft.
+pub fn par_check_body<R: Threads + Sync>(
+    rt: &R,
+    ledger: &Ledger,
+    block: &Block,
+    found: Result<Survey, PrecheckFault>,
+    workers: u32,
+) -> Result<Survey, CheckFault>
+    requires some_worker { 1 ≤ workers }
+    requires form { IsBlock block.now }
+    requires header { HoldsButParent rule.Passes ledger.now block.now }
+    requires found { IsSurveyed ledger.now block.now.txs found }
+    ensures body { OnOk result (HoldsButParent rule.Within ledger.now block.now) }
+    ensures survey { IfOk result (IsSurvey ledger.now block.now.txs) }
+    ensures refused { IfErr result (ExplainsButParent ledger.now block.now) }
+{
+    let survey = check_counts(ledger, block, found)?;
+    let version = block.header.version;
+    let overdraft = survey
+        .tally
+        .par_first_overdraft(rt, ledger, version, workers);
+    check_debits(ledger, block, overdraft)?;
     Ok(survey)
 }

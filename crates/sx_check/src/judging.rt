@@ -1,6 +1,6 @@
 //! Whether a block is valid, with the first reason where it is not.
 
-ghost use Rattle.std.specs.Prelude.{◌≡◌, ◌≢◌, IfErr, IfOk, OnOk};
+ghost use Rattle.std.specs.Prelude.{◌≡◌, ◌≢◌, ◌≤◌, IfErr, IfOk, OnOk};
 ghost use Rattle.sha2.specs.Sha256.{sha256};
 ghost use Rattle.sx_block.specs.Block.{IsBlock};
 ghost use Rattle.sx_block.specs.Rule as rule;
@@ -8,11 +8,11 @@ ghost use Rattle.sx_block.specs.Validity.{HoldsButParent, IsSound, IsValid, dige
 ghost use Rattle.sx_check.specs.Checked.{CanBeApplied, IsJudged, IsWrongAfter, checked_of};
 ghost use Rattle.sx_check.specs.Refusals.{Explains, ExplainsButParent, ExplainsEarly, Refuses};
 ghost use Rattle.sx_check.specs.Refusals.{RefusesButParent, RefusesEarly};
-ghost use Rattle.sx_check.specs.Surveys.{IsSurveyed};
+ghost use Rattle.sx_check.specs.Surveys.{IsSurvey, IsSurveyed};
 ghost use Rattle.sx_ledger.specs.Ledger.{IsLedger};
 ghost use Rattle.sx_tx.specs.Transactions.{list_bytes};
 
-use crate::body::check_body;
+use crate::body::{check_body, par_check_body};
 use crate::checked::{Checked, Judged};
 use crate::fault::CheckFault;
 use crate::header::{check_header, check_height, check_parent, named};
@@ -21,6 +21,7 @@ use crate::market::check_market;
 use crate::rounding::check_rounding;
 use crate::survey::{Survey, survey_of};
 use std::alloc::Global;
+use std::thread::Threads;
 use sx_apply::{Effects, apply};
 use sx_block::{Block, Digest, Header, body_digest, ledger_digest};
 use sx_body::PrecheckFault;
@@ -38,22 +39,22 @@ fn checked(block: &Block) -> Checked
     }
 }
 
-// The rest of a judgement, once the header is one for the ledger, whatever ledger it names, and this was found of the
-// transactions.
-fn judge_body(
+// The rest of a judgement, once the transactions are the body of a block for the ledger, whatever ledger the header
+// names, and this is the survey of them.
+fn judge_trades(
     alloc: Global,
     ledger: &Ledger,
     block: &Block,
-    found: Result<Survey, PrecheckFault>,
+    survey: Survey,
 ) -> Result<Judged, CheckFault>
     requires form { IsBlock block.now }
     requires kept { IsLedger ledger.now }
-    requires header { HoldsButParent rule.Passes ledger.now block.now }
-    requires found { IsSurveyed ledger.now block.now.txs found }
+    requires body { HoldsButParent rule.Within ledger.now block.now }
+    requires survey { IsSurvey ledger.now block.now.txs survey }
     ensures judged { IfOk result (CanBeApplied ledger.now block.now) }
     ensures refused { IfErr result (ExplainsButParent ledger.now block.now) }
 {
-    let Survey { tally, offers } = check_body(ledger, block, found)?;
+    let Survey { tally, offers } = survey;
     check_market(alloc, ledger, block, offers.items())?;
     let fills = check_rounding(alloc, ledger, block, offers.items())?;
     Ok(Judged {
@@ -81,7 +82,8 @@ fn judge_rest(
 {
     check_header(ledger, block, body)?;
     let found = survey_of(alloc, ledger, block.txs.items());
-    judge_body(alloc, ledger, block, found)
+    let survey = check_body(ledger, block, found)?;
+    judge_trades(alloc, ledger, block, survey)
 }
 
 /// Judges a block on a ledger by all but the digest of the ledger that it leaves: Ok exactly where the
@@ -113,14 +115,18 @@ pub fn judge(
 /// [`first_reason`] tells the first of all. A block that can be applied follows the ledger where [`named`] says so.
 ///
 /// `body` is the digest of the block's transactions and `found` what [`survey_of`] answered for them. The block has the
-/// form of one, as those have that are read.
-pub fn judge_applicable(
+/// form of one, as those have that are read. At most `workers` threads look for an account that is overdrawn. The answer
+/// is the same for every number of them, and with one, or for few accounts, no thread is started.
+pub fn judge_applicable<R: Threads + Sync>(
+    rt: &R,
     alloc: Global,
     ledger: &Ledger,
     block: &Block,
     body: &Digest,
     found: Result<Survey, PrecheckFault>,
+    workers: u32,
 ) -> Result<Judged, CheckFault>
+    requires some_worker { 1 ≤ workers }
     requires form { IsBlock block.now }
     requires body { body.now ≡ sha256 (list_bytes block.now.txs) }
     requires found { IsSurveyed ledger.now block.now.txs found }
@@ -129,7 +135,8 @@ pub fn judge_applicable(
 {
     check_height(ledger, block)?;
     check_header(ledger, block, body)?;
-    judge_body(alloc, ledger, block, found)
+    let survey = par_check_body(rt, ledger, block, found, workers)?;
+    judge_trades(alloc, ledger, block, survey)
 }
 
 // The first reason, where this is the first but for the one on the digest of the ledger, which is `parent`.

@@ -10,7 +10,8 @@
 //! [`judge_applicable`] needs no digest of the ledger: a block of which it says Ok can be applied, and then [`named`] and
 //! [`close`] are what is left. Where it refuses a block, [`first_reason`] tells the first reason once that digest is
 //! known. [`survey_of`] is the part of it that needs no header, and [`par_survey_of`] the same by threads that look
-//! accounts and offers up. No other call starts a thread.
+//! accounts and offers up. Threads of [`judge_applicable`] look for an account that is overdrawn. No other call starts a
+//! thread.
 //!
 //! A header needs not be trusted: that no circulation trades more value follows from its potentials,
 //! and that lower bounds could not be kept from its cut. No solver, book or curve is used.
