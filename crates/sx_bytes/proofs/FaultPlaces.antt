@@ -1,5 +1,5 @@
 -- That decoding stays within its bytes, part by part.
-use Rattle.std.proofs.Common.{◌≡◌, ℕ, zero, suc, ◌+◌, ◌^◌, ◌<◌, ◌≤◌, Bool, true, false, cond, ltb, List, length, take}
+use Rattle.std.proofs.Common.{◌≡◌, ℕ, zero, suc, ◌+◌, ◌≤◌, Bool, true, false, cond, ltb, List, length, take}
 use Rattle.std.proofs.Common.{Option, Some, Result, Ok, Err, refl, subst, arith}
 use Rattle.std.proofs.lemmas.Bool.{ltb-false}
 use Rattle.byteorder.specs.Endian.{big_number}

@@ -48,6 +48,16 @@ impl Writer {
         Ok(())
     }
 
+    /// Puts bytes before all that was written, which moves on by as many places. It takes the memory for a copy of the
+    /// bytes, and for the whole where there is no room yet.
+    pub fn put_before(&mut self, front: &[u8]) -> Result<(), NoMemory>
+        ensures ok { OnOk result (self.new ≡ front.now ++ self.old) }
+        ensures err { OnErr result (self.new ≡ self.old) }
+    {
+        self.written.splice(..0, front.iter().copied())?;
+        Ok(())
+    }
+
     /// Appends an unsigned integer in one byte.
     pub fn put_u8(&mut self, value: u8) -> Result<(), NoMemory>
         ensures ok { OnOk result (self.new ≡ self.old ++ big_bytes 1 value) }
