@@ -20,3 +20,4 @@ pub mod ValidBlocks
 pub mod Cases
 pub mod FaultCases
 pub mod ValidCase
+pub mod InPieces

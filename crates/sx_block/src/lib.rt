@@ -6,7 +6,8 @@
 //! where a payload is the encoding of one, and else the first fault from left to right; [`write_block`]
 //! appends the one encoding. [`block_laws`] says that no two blocks share an encoding and that each
 //! fits a record. [`ledger_digest`] and [`body_digest`] are the two digests of a header, by SHA-256;
-//! [`header_length`] tells where in a payload the bytes begin of which the second is made. A [`StateDigest`] is the
+//! [`header_length`] tells where in a payload the bytes begin of which the second is made. [`par_written_body`] answers
+//! these bytes with their digest, and [`write_header`] appends those before them. A [`StateDigest`] is the
 //! digest of a state record, which a thread of its own makes where the record is large.
 //!
 //! `specs/Validity` defines the ledger after a block and when a block is valid for a ledger: by sixteen
@@ -17,6 +18,7 @@
 //! Not here: computing the ledger after a block, and deciding whether a block is valid.
 #![tactic(auto)]
 
+mod body_writing;
 mod digest;
 mod effect_laws;
 mod hashing;
@@ -33,6 +35,7 @@ mod trade;
 mod trade_reading;
 mod writing;
 
+pub use body_writing::{WrittenBody, par_written_body};
 pub use digest::{Digest, Digests};
 pub use effect_laws::{block_effect_laws, fill_laws, limit_laws, trade_laws};
 pub use hashing::{body_digest, digest_of, ledger_digest, record_digest};
@@ -42,4 +45,4 @@ pub use reading::read_block;
 pub use reading_in_parts::par_read_block;
 pub use rule_laws::validity_laws;
 pub use state_digest::{DigestOf, StateDigest};
-pub use writing::{header_length, write_block};
+pub use writing::{MOST_HEADER_BYTES, header_length, write_block, write_header};

@@ -6,7 +6,7 @@ ghost use Rattle.sx_block.specs.Encoding.{header_bytes, block_bytes};
 ghost use Rattle.sx_bytes.specs.Written.{Begins};
 ghost use Rattle.sx_tx.specs.Transactions.{list_bytes};
 
-use crate::header::Block;
+use crate::header::{Block, Header};
 use crate::header_writing::put_header;
 use crate::trade::trade_count;
 use sx_bytes::{NoMemory, Writer};
@@ -22,6 +22,12 @@ const ASSET_BYTES: usize = 20;
 const TRADE_BYTES: usize = 18;
 
 const CUT_BYTES: usize = 4;
+
+/// How many bytes a header takes at most: one of 32 assets of which every two trade both ways, with a cut.
+pub const MOST_HEADER_BYTES: usize = FRAME_BYTES
+    + ASSET_BYTES * 32
+    + TRADE_BYTES * 32 * 31
+    + CUT_BYTES;
 
 #[tactic(auto, using(sx_bytes::proofs::Written::begins, sx_bytes::proofs::Written::begins_then))]
 fn put_block(to: &mut Writer, block: &Block) -> Result<(), NoMemory>
@@ -43,6 +49,22 @@ pub fn write_block(to: &mut Writer, block: &Block) -> Result<(), NoMemory>
 {
     let before = to.bytes().len();
     let written = put_block(to, block);
+    if written.is_err() {
+        to.cut(before);
+    }
+    written
+}
+
+/// Appends the header of a block, which is what its payload has before its transactions. Where memory runs out, what was
+/// written before does not change.
+#[tactic(auto, using(sx_bytes::proofs::Written::begins_cut))]
+pub fn write_header(to: &mut Writer, header: &Header) -> Result<(), NoMemory>
+    requires { length header.now.prices ≤ 32 }
+    ensures ok { OnOk result (to.new ≡ to.old ++ header_bytes header.now) }
+    ensures err { OnErr result (to.new ≡ to.old) }
+{
+    let before = to.bytes().len();
+    let written = put_header(to, header);
     if written.is_err() {
         to.cut(before);
     }
