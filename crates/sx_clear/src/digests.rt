@@ -1,11 +1,12 @@
 //! The digests of what is there before anything trades.
 
 ghost use Rattle.std.specs.Prelude.{◌≤◌, IfOk, length};
-ghost use Rattle.sx_clear.specs.Digests.{IsBodyDigest, IsParentDigest};
+ghost use Rattle.sx_clear.specs.Digests.{IsBodyDigest, IsParentDigest, IsWrittenBody};
 ghost use Rattle.sx_tx.specs.Transactions.{most_transactions};
 
 use std::alloc::Global;
-use sx_block::{Digest, body_digest, ledger_digest};
+use std::thread::Threads;
+use sx_block::{Digest, WrittenBody, body_digest, ledger_digest, par_written_body};
 use sx_bytes::NoMemory;
 use sx_ledger::Ledger;
 use sx_tx::Tx;
@@ -30,4 +31,17 @@ pub fn digest_of_body(alloc: Global, txs: &[Tx]) -> Result<Digest, NoMemory>
     ensures { IfOk result (IsBodyDigest txs.now) }
 {
     body_digest(alloc, txs)
+}
+
+// The encoding of transactions, with room for so many bytes after it, and its digest.
+pub fn written_body<R: Threads>(
+    rt: &R,
+    alloc: Global,
+    txs: &[Tx],
+    more: usize,
+) -> Result<WrittenBody, NoMemory>
+    requires few { length txs.now ≤ most_transactions }
+    ensures { IfOk result (IsWrittenBody txs.now) }
+{
+    par_written_body(rt, alloc, txs, more)
 }

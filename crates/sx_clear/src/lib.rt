@@ -14,6 +14,8 @@
 //! the number of its searches has a bound. The value is shared out among the offers of each pair in their
 //! order, rounded to whole units. What the block leaves of the ledger, or of a copy, is hashed for its header. A thread
 //! makes the digest of a large body beside the search for prices, and that of a large ledger beside a copy and its digest.
+//! In [`clear_in_place`] that thread writes the body, and others hash what it has written; the block and the body as it
+//! was written are answered.
 //! Threads also look up the accounts and offers that a large body names, but in [`clear_at`] and [`curves_of`].
 //!
 //! ```text
@@ -49,5 +51,5 @@ mod ranges;
 mod trade;
 
 pub use clearing::{clear, clear_at, clear_many};
-pub use clearing_in_place::clear_in_place;
+pub use clearing_in_place::{Cleared, clear_in_place};
 pub use curves::curves_of;

@@ -1,8 +1,8 @@
-//! What is found of a body before it is cleared: its digest, what it does, and the prices.
+//! What is found of a body before it is cleared: its digest or its encoding with it, what it does, and the prices.
 
 ghost use Rattle.std.specs.Prelude.{◌≡◌, ◌≤◌, IfOk, length};
 ghost use Rattle.sx_apply.specs.Bounds.{AreOffers};
-ghost use Rattle.sx_clear.specs.Digests.{IsBodyDigest};
+ghost use Rattle.sx_clear.specs.Digests.{IsBodyDigest, IsWrittenBody};
 ghost use Rattle.sx_clear.specs.Found.{IsBodyOf};
 ghost use Rattle.sx_clear.specs.Quotes.{posted_at, quotes_of};
 ghost use Rattle.sx_dual.specs.Tables.{IsAssetCount};
@@ -13,10 +13,10 @@ ghost use Rattle.sx_tx.specs.Transactions.{most_transactions};
 
 use crate::body::{Body, par_body_of};
 use crate::curves::offer_curves;
-use crate::digests::digest_of_body;
+use crate::digests::{digest_of_body, written_body};
 use std::alloc::Global;
 use std::thread::{Threads, join};
-use sx_block::Digest;
+use sx_block::{Digest, WrittenBody};
 use sx_bytes::NoMemory;
 use sx_ledger::{Ledger, Offer};
 use sx_multi::{posted_laws, search_many};
@@ -130,4 +130,41 @@ pub fn digest_and_prices<R: Threads + Sync>(
             ensures prices { IfOk result (λ opened. opened.prices ≡ posted_at ledger.entry.now txs.entry.now by.mu by.rounds by.searches) }
         { open(rt, alloc, ledger, txs, by) },
     )
+}
+
+// The encoding of a body with room for so many bytes after it and its digest, made by other threads where that is worth
+// it, and beside it what the body does and the prices.
+pub fn written_and_opened<R: Threads + Sync>(
+    rt: &R,
+    alloc: Global,
+    ledger: &Ledger,
+    txs: &[Tx],
+    by: Search,
+    more: usize,
+) -> Result<(WrittenBody, Opened), NoMemory>
+    requires admissible { IsAdmissible ledger.now txs.now }
+    requires few { length txs.now ≤ most_transactions }
+    requires some_search { 1 ≤ by.searches }
+    requires few_searches { by.searches ≤ 8 }
+    ensures written { IfOk result (λ found. IsWrittenBody txs.now found.0) }
+    ensures body { IfOk result (λ found. IsBodyOf ledger.now txs.now found.1.body) }
+    ensures prices { IfOk result (λ found. found.1.prices ≡ posted_at ledger.now txs.now by.mu by.rounds by.searches) }
+{
+    if txs.len() < MANY_TRANSACTIONS {
+        let written = written_body(rt, alloc, txs, more)?;
+        return Ok((written, open(rt, alloc, ledger, txs, by)?));
+    }
+    let (written, opened) = join(
+        rt,
+        || -> Result<WrittenBody, NoMemory>
+            requires { length txs.now ≤ most_transactions }
+            ensures { IfOk result (IsWrittenBody txs.entry.now) }
+        { written_body(rt, alloc, txs, more) },
+        || -> Result<Opened, NoMemory>
+            requires { IsAdmissible ledger.now txs.now × (1 ≤ by.searches) × (by.searches ≤ 8) }
+            ensures body { IfOk result (λ opened. IsBodyOf ledger.entry.now txs.entry.now opened.body) }
+            ensures prices { IfOk result (λ opened. opened.prices ≡ posted_at ledger.entry.now txs.entry.now by.mu by.rounds by.searches) }
+        { open(rt, alloc, ledger, txs, by) },
+    );
+    Ok((written?, opened?))
 }
