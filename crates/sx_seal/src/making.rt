@@ -12,14 +12,15 @@ ghost use Rattle.sx_ledger.specs.Body.{IsAdmissible};
 ghost use Rattle.sx_ledger.specs.Ledger.{IsLedger, most_height};
 ghost use Rattle.sx_meaning.specs.Sealing.{IsClearedFor, IsMadeOf};
 ghost use Rattle.sx_seal.specs.Making.{AreNumbers};
-ghost use Rattle.sx_tx.specs.Transactions.{most_transactions};
+ghost use Rattle.sx_tx.specs.Transactions.{list_bytes, most_transactions};
 
+use crate::lengths::most_beside;
 use std::alloc::Global;
 use std::sync::ledger;
 use std::thread::Threads;
 use sx_block::{Block, StateDigest};
 use sx_bytes::NoMemory;
-use sx_clear::{clear_in_place, clear_many};
+use sx_clear::{Cleared, clear_in_place, clear_many};
 use sx_gather::{GatherFault, Sealed};
 use sx_input::Head;
 use sx_layout::{Outcomes, gathering_laws};
@@ -44,6 +45,13 @@ pub struct Numbers {
 #[derive(Debug, Drop)]
 pub struct Made {
     pub block: Block,
+    pub outcomes: Outcomes,
+}
+
+// The same, and the encoding of the transactions of the block.
+#[derive(Debug, Drop)]
+pub struct MadeInPlace {
+    pub cleared: Cleared,
     pub outcomes: Outcomes,
 }
 
@@ -115,21 +123,23 @@ fn cleared_in_place<R: Threads + Sync, L: ledger::Ledger>(
     sealed: Sealed,
     numbers: Numbers,
     steps: &mut Steps<L>,
-) -> Result<Made, NoMemory>
+) -> Result<MadeInPlace, NoMemory>
     requires parent { digest_in parent ≡ digest_of_ledger ledger }
     requires whole { IsWhole parent }
     requires admissible { IsAdmissible ledger sealed.txs }
     requires few { length sealed.txs ≤ most_transactions }
     requires below_last { ledger.height < most_height }
     requires numbers { AreNumbers numbers }
-    ensures cleared { IfOk result (λ made. IsClearedFor ledger numbers.mu numbers.rounds numbers.searches made.block) }
-    ensures txs { IfOk result (λ made. made.block.txs ≡ sealed.txs) }
+    ensures cleared { IfOk result (λ made. IsClearedFor ledger numbers.mu numbers.rounds numbers.searches made.cleared.block) }
+    ensures txs { IfOk result (λ made. made.cleared.block.txs ≡ sealed.txs) }
+    ensures list { IfOk result (λ made. made.cleared.list ≡ list_bytes made.cleared.block.txs) }
     ensures outcomes { IfOk result (λ made. made.outcomes ≡ sealed.outcomes) }
     ensures counted { steps.new ≤ steps.old + most_clearing_searches }
     ensures rising { steps.old ≤ steps.new }
 {
     let Sealed { txs, outcomes } = sealed;
-    let block = clear_in_place(
+    let more = most_beside(txs.items().len(), outcomes.items().len());
+    let cleared = clear_in_place(
         rt,
         alloc,
         ledger,
@@ -138,9 +148,10 @@ fn cleared_in_place<R: Threads + Sync, L: ledger::Ledger>(
         numbers.mu,
         numbers.rounds,
         numbers.searches,
+        more,
         steps,
     )?;
-    Ok(Made { block, outcomes })
+    Ok(MadeInPlace { cleared, outcomes })
 }
 
 // A block of the candidates and what became of each, or why there is no room for them. The body is made in
@@ -178,12 +189,13 @@ pub fn make_in_place<R: Threads + Sync, G: Gate + Sync, L: ledger::Ledger>(
     numbers: Numbers,
     gate: &G,
     steps: &mut Steps<L>,
-) -> Result<Made, GatherFault>
+) -> Result<MadeInPlace, GatherFault>
     requires ledger { IsLedger head.ledger }
     requires head { IsHead head }
     requires few { length candidates ≤ most_transactions }
     requires numbers { AreNumbers numbers }
-    ensures made { IfOk result (λ made. IsMadeOf head.ledger candidates numbers.mu numbers.rounds numbers.searches made.block made.outcomes) }
+    ensures made { IfOk result (λ made. IsMadeOf head.ledger candidates numbers.mu numbers.rounds numbers.searches made.cleared.block made.outcomes) }
+    ensures list { IfOk result (λ made. made.cleared.list ≡ list_bytes made.cleared.block.txs) }
     ensures room { IfOk result (λ _. room_for head.ledger candidates ≡ Ok tt) }
     ensures fault { IfErr result (IsFaultOf (room_for head.ledger candidates)) }
     ensures counted { steps.new ≤ steps.old + most_clearing_searches }
