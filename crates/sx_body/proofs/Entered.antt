@@ -11,9 +11,10 @@ use Rattle.std.proofs.lemmas.List.{get_or-set_other, length-map}
 use Rattle.std.proofs.lemmas.List.Elements.{All-head, All-tail}
 use Rattle.std.proofs.lemmas.Option.{none-some, same_Some, slice_get-get_or, slice_get-map, slice_get_within}
 use Rattle.sx_body.specs.declared.tally.Tally.{Tally}
-use Rattle.sx_body.specs.Postings.{HasRoom}
+use Rattle.sx_body.specs.declared.postings.Entry.{Entry}
+use Rattle.sx_body.specs.Postings.{AreWithin, CanCredit, HasRoom, HasRows, units_in}
 use Rattle.sx_body.specs.Repeats.{IsRepeat}
-use Rattle.sx_body.specs.Tally.{HasUsed, IsTally}
+use Rattle.sx_body.specs.Tally.{HasUsed, IsTally, IsTallyWithPending}
 use Rattle.sx_body.proofs.UsedNumbers.{marked, not_marked}
 use Rattle.sx_ledger.specs.declared.account.Account.{Account}
 use Rattle.sx_ledger.specs.declared.key.Key.{Key}
@@ -154,29 +155,56 @@ module _ (parts : Parts) (keeps : IsLedger parts) where
         credits_small txs account asset (All-tail IsTx tx txs all),
       )
 
+  id_there : (p : ℕ) → p < length parts.accounts
+      → slice_get (ids parts.accounts) p ≡ Some (get_or (ids parts.accounts) p 0)
+  id_there p lt = slice_get-get_or (ids parts.accounts) p 0 (omega (arith, length-map parts.accounts id_of))
+
   -- however many transactions a list of the machine has
-  pub has_room : (txs : List Tx) (tally : Tally) → length txs < 2 ^ 64 → IsTally parts txs tally
-      → HasRoom tally.postings
-  has_room txs tally few is = record {
-    debits = λ p x p_there x_there.
+  module _ (txs : List Tx) (pending : List Entry) (tally : Tally) (few : length txs < 2 ^ 64)
+      (is : IsTallyWithPending parts txs pending tally) where
+    pub has_room : HasRoom tally.postings
+    has_room p x p_there x_there =
         let at = id_there p (omega (arith, is.shape.rows.as_many)) in
         omega (
           arith,
           is.postings.debits p (get_or (ids parts.accounts) p 0) x at (omega (arith, is.shape.rows.assets)),
           debits_small txs (get_or (ids parts.accounts) p 0) x is.in_range,
-        );
-    credits = λ p x p_there x_there.
-        let at = id_there p (omega (arith, is.shape.rows.as_many)) in
-        omega (
-          arith,
-          is.postings.credits p (get_or (ids parts.accounts) p 0) x at (omega (arith, is.shape.rows.assets)),
-          credits_small txs (get_or (ids parts.accounts) p 0) x is.in_range,
-        );
-  }
-    where
-      id_there : (p : ℕ) → p < length parts.accounts
-          → slice_get (ids parts.accounts) p ≡ Some (get_or (ids parts.accounts) p 0)
-      id_there p lt = slice_get-get_or (ids parts.accounts) p 0 (omega (arith, length-map parts.accounts id_of))
+        )
+
+    pub can_credit : CanCredit tally.postings pending
+    can_credit = record {
+      rows = subst (λ (w : ℕ). HasRows tally.postings (length tally.postings.starts.items) w)
+          (sym is.shape.rows.assets)
+          (subst (λ (n : ℕ). HasRows tally.postings n (assets_of parts)) (sym is.shape.rows.as_many) is.shape.rows);
+      within = subst (λ (w : ℕ). AreWithin (length tally.postings.starts.items) w pending) (sym is.shape.rows.assets)
+          (subst (λ (n : ℕ). AreWithin n (assets_of parts) pending) (sym is.shape.rows.as_many) is.postings.within);
+      room = λ p x p_there x_there.
+          let at = id_there p (omega (arith, is.shape.rows.as_many)) in
+          omega (
+            arith,
+            is.postings.credits p (get_or (ids parts.accounts) p 0) x at (omega (arith, is.shape.rows.assets)),
+            credits_small txs (get_or (ids parts.accounts) p 0) x is.in_range,
+          );
+    }
+
+-- a tally is one of which nothing is pending
+pub none_pending : (parts : Parts) (txs : List Tx) (pending : List Entry) (tally : Tally) → pending ≡ []
+    → IsTally parts txs tally → IsTallyWithPending parts txs pending tally
+none_pending parts txs pending tally none is = record {
+  shape = is.shape;
+  passes = is.passes;
+  in_range = is.in_range;
+  postings = record {
+    within = subst (AreWithin (length parts.accounts) (assets_of parts)) (sym none) (λ k d lt. absurd (omega arith));
+    debits = is.postings.debits;
+    credits = λ p account x there lt.
+        omega (arith, is.postings.credits p account x there lt, ap (λ (entries : List Entry). units_in entries p x) none);
+  };
+  used = is.used;
+  cancelled = is.cancelled;
+  created = is.created;
+  made = is.made;
+}
 
 -- ---- no transaction
 

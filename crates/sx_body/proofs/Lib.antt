@@ -8,6 +8,7 @@ pub mod Merging
 pub mod OffersAfter
 pub mod Cancelled
 pub mod PostedUnits
+pub mod PendingUnits
 pub mod Entered
 pub mod Overdrafts
 pub mod KnownAccounts

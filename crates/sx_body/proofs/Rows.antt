@@ -27,7 +27,7 @@ module _ (old new : Postings) (places width place : ℕ) (rows : HasRows old pla
       ap (λ (xs : List ℕ). get_or xs place 0) starts
       ∙ get_or-set_at old.starts.items place place (length old.debits.items) 0 refl (omega (arith, rows.as_many))
 
-  start_other : (p : ℕ) → p ≢ place → start_of new p ≡ start_of old p
+  pub start_other : (p : ℕ) → p ≢ place → start_of new p ≡ start_of old p
   start_other p other =
       ap (λ (xs : List ℕ). get_or xs p 0) starts
       ∙ get_or-set_other old.starts.items place p (length old.debits.items) 0 other

@@ -1,6 +1,7 @@
 -- A table of what is debited and credited, row after row.
 use Rattle.std.specs.Prelude.{◌≡◌, ◌≢◌, ℕ, ◌+◌, ◌<◌, ◌≤◌, ◌^◌, ◌⊎◌, List, length, slice_index, slice_get, Option, Some}
-use Rattle.std.specs.Prelude.{◌==◌, ◌&&◌, if◌then◌else◌}
+use Rattle.std.specs.Prelude.{◌==◌, ◌&&◌, if◌then◌else◌, All, slice_index_or}
+use Rattle.std.specs.List.{sum_by}
 use Rattle.sx_body.specs.declared.postings.Entry.{Entry}
 use Rattle.sx_body.specs.declared.postings.Postings.{Postings}
 use Rattle.sx_ledger.specs.declared.parts.Parts.{Parts}
@@ -24,6 +25,14 @@ credit_at postings place asset = slice_index postings.credits.items (start_of po
 abbrev pub units_at : Entry → ℕ → ℕ → ℕ
 units_at entry place asset = if (entry.place == place) && (entry.asset == asset) then entry.amount else 0
 
+-- the units that entries together have of an asset for the account at a place
+abbrev pub units_in : List Entry → ℕ → ℕ → ℕ
+units_in entries place asset = sum_by (λ entry. units_at entry place asset) entries
+
+-- the entries are of accounts and assets below these numbers
+abbrev pub AreWithin : ℕ → ℕ → List Entry → Type 0
+AreWithin places width entries = All (λ entry. (entry.place < places) × (entry.asset < width)) entries
+
 -- an entry of a posting to an account, which stands at the place
 pub record IsEntry (parts : Parts) (posting : Option Posting) (entry : Entry) : Type 0 where
   pub account : ℕ
@@ -45,12 +54,29 @@ pub record HasRows (postings : Postings) (places width : ℕ) : Type 0 where
   pub apart : (p q : ℕ) → p < places → q < places → p ≢ q → start_of postings p ≢ 0 → start_of postings q ≢ 0
       → (start_of postings p + width ≤ start_of postings q) ⊎ (start_of postings q + width ≤ start_of postings p)
 
--- one amount more can be posted anywhere
-pub record HasRoom (postings : Postings) : Type 0 where
-  pub debits : (p x : ℕ) → p < length postings.starts.items → x < postings.assets
-      → debit_at postings p x + 2 ^ 62 < 2 ^ 128
-  pub credits : (p x : ℕ) → p < length postings.starts.items → x < postings.assets
-      → credit_at postings p x + 2 ^ 62 < 2 ^ 128
+-- where a row of an entry's account is told, by a number that is not 0, it starts there
+abbrev pub AreRowsFound : Postings → List Entry → List ℕ → Type 0
+AreRowsFound postings entries rows =
+    (k : ℕ) (entry : Entry) → k < length entries → slice_index rows k ≢ 0
+    → slice_index rows k ≡ start_of postings (slice_index_or entries k entry).place
+
+-- the account of each entry has a row, and it starts there
+abbrev pub AreRowsOpen : Postings → List Entry → List ℕ → Type 0
+AreRowsOpen postings entries rows =
+    (k : ℕ) (entry : Entry) → k < length entries
+    → (slice_index rows k ≢ 0) × (slice_index rows k ≡ start_of postings (slice_index_or entries k entry).place)
+
+-- one amount more can be debited anywhere
+abbrev pub HasRoom : Postings → Type 0
+HasRoom postings =
+    (p x : ℕ) → p < length postings.starts.items → x < postings.assets → debit_at postings p x + 2 ^ 62 < 2 ^ 128
+
+-- these entries can be credited
+pub record CanCredit (postings : Postings) (entries : List Entry) : Type 0 where
+  pub rows : HasRows postings (length postings.starts.items) postings.assets
+  pub within : AreWithin (length postings.starts.items) postings.assets entries
+  pub room : (p x : ℕ) → p < length postings.starts.items → x < postings.assets
+      → credit_at postings p x + units_in entries p x < 2 ^ 128
 
 -- the debits and credits of the accounts of a ledger, at their places
 pub record HasPostings (parts : Parts) (txs : List Tx) (postings : Postings) : Type 0 where
@@ -58,3 +84,13 @@ pub record HasPostings (parts : Parts) (txs : List Tx) (postings : Postings) : T
       → asset < assets_of parts → debit_at postings place asset ≡ debits txs account asset
   pub credits : (place account asset : ℕ) → slice_get (ids parts.accounts) place ≡ Some account
       → asset < assets_of parts → credit_at postings place asset ≡ credits parts.offers txs account asset
+
+-- the same, where these credits are still to be posted
+pub record HasPostingsWithPending (parts : Parts) (txs : List Tx) (pending : List Entry) (postings : Postings)
+    : Type 0 where
+  pub within : AreWithin (length parts.accounts) (assets_of parts) pending
+  pub debits : (place account asset : ℕ) → slice_get (ids parts.accounts) place ≡ Some account
+      → asset < assets_of parts → debit_at postings place asset ≡ debits txs account asset
+  pub credits : (place account asset : ℕ) → slice_get (ids parts.accounts) place ≡ Some account
+      → asset < assets_of parts
+      → credit_at postings place asset + units_in pending place asset ≡ credits parts.offers txs account asset

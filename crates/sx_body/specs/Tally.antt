@@ -6,7 +6,8 @@ use Rattle.std.specs.Ordering.{nat_cmp}
 use Rattle.sx_body.specs.declared.cancellations.Cancellations.{Cancellations}
 use Rattle.sx_body.specs.declared.creations.Creations.{Creations}
 use Rattle.sx_body.specs.declared.tally.Tally.{Tally}
-use Rattle.sx_body.specs.Postings.{HasPostings, HasRows}
+use Rattle.sx_body.specs.declared.postings.Entry.{Entry}
+use Rattle.sx_body.specs.Postings.{HasPostings, HasPostingsWithPending, HasRows}
 use Rattle.sx_body.specs.Repeats.{IsRepeat, cancels, creates}
 use Rattle.sx_ledger.specs.declared.account.Account.{Account}
 use Rattle.sx_ledger.specs.declared.offer.Offer.{Offer}
@@ -53,6 +54,17 @@ pub record IsTally (parts : Parts) (txs : List Tx) (tally : Tally) : Type 0 wher
   pub passes : All (λ tx. static_of parts tx ≡ Ok tt) txs
   pub in_range : All IsTx txs
   pub postings : HasPostings parts txs tally.postings
+  pub used : HasUsed parts txs tally.used.items
+  pub cancelled : HasCancelled parts txs tally.cancellations
+  pub created : HasCreated txs tally.creations
+  pub made : tally.made.items ≡ made txs
+
+-- The same, where these credits of the transactions are still to be posted.
+pub record IsTallyWithPending (parts : Parts) (txs : List Tx) (pending : List Entry) (tally : Tally) : Type 0 where
+  pub shape : IsTallyFor parts tally
+  pub passes : All (λ tx. static_of parts tx ≡ Ok tt) txs
+  pub in_range : All IsTx txs
+  pub postings : HasPostingsWithPending parts txs pending tally.postings
   pub used : HasUsed parts txs tally.used.items
   pub cancelled : HasCancelled parts txs tally.cancellations
   pub created : HasCreated txs tally.creations

@@ -3,13 +3,15 @@
 ghost use Rattle.std.specs.Prelude.{◌≡◌, ℕ, Ok, ◌++◌, [], ◌∷◌, List, ◌+◌, ◌<◌, ◌^◌, length, slice_get, Some};
 ghost use Rattle.std.specs.Prelude.{IfSome, IfNone, None, OnOk};
 ghost use Rattle.std.specs.List.Sorted.{IsStrictlyIncreasing};
-ghost use Rattle.sx_body.specs.Postings.{HasPostings, HasRoom, HasRows, IsEntry, credit_at, debit_at};
+ghost use Rattle.sx_body.specs.Postings.{AreWithin, HasPostingsWithPending, HasRoom, HasRows, IsEntry, credit_at};
+ghost use Rattle.sx_body.specs.Postings.{debit_at, units_in};
 ghost use Rattle.sx_ledger.specs.Effects.{credit as credit_by, debit as debit_by, posted};
 ghost use Rattle.sx_ledger.specs.Ledger.{assets_of, ids};
 ghost use Rattle.sx_ledger.specs.Places.{ArePlaces};
 ghost use Rattle.sx_ledger.specs.Static.{static_of};
 ghost use Rattle.sx_tx.specs.declared.tx.Tx.{Tx as Transaction};
 
+use crate::pending::Pending;
 use crate::postings::{Entry, Postings};
 use sx_bytes::NoMemory;
 use sx_ledger::{Ledger, Places, Target};
@@ -93,9 +95,9 @@ fn post_debit(
     }
 }
 
-// Adds what a transaction credits, which stands at these places.
-fn post_credit(
-    postings: &mut Postings,
+// Puts what a transaction credits, which stands at these places, behind the credits that are pending.
+fn hold_credit(
+    pending: &mut Pending,
     ledger: &Ledger,
     tx: &Tx,
     places: &Places,
@@ -103,26 +105,23 @@ fn post_credit(
     requires passes { static_of ledger.now tx.now ≡ Ok tt }
     requires places { ArePlaces ledger.now tx.now places.now }
     requires by_id { IsStrictlyIncreasing (ids ledger.now.accounts) }
-    requires rows { HasRows postings.old (length ledger.now.accounts) (assets_of ledger.now) }
-    requires room { (p x : ℕ) → p < length ledger.now.accounts → x < assets_of ledger.now
-        → credit_at postings.old p x + 2 ^ 62 < 2 ^ 128 }
-    ensures rows { OnOk result (HasRows postings.new (length ledger.now.accounts) (assets_of ledger.now)) }
-    ensures debits { OnOk result ((p x : ℕ) → p < length ledger.now.accounts → x < assets_of ledger.now
-        → debit_at postings.new p x ≡ debit_at postings.old p x) }
+    ensures within { OnOk result (AreWithin (length ledger.now.accounts) (assets_of ledger.now) pending.old.entries.items
+        → AreWithin (length ledger.now.accounts) (assets_of ledger.now) pending.new.entries.items) }
     ensures credits { OnOk result ((p account x : ℕ) → slice_get (ids ledger.now.accounts) p ≡ Some account
         → x < assets_of ledger.now
-        → credit_at postings.new p x ≡ credit_at postings.old p x
+        → units_in pending.new.entries.items p x ≡ units_in pending.old.entries.items p x
         + posted (credit_by ledger.now.offers tx.now) account x) }
 {
-    match credit_of(ledger, tx, places) {
-        Some(entry) => postings.credit(&entry),
-        None => Ok(()),
+    if let Some(entry) = credit_of(ledger, tx, places) {
+        pending.entries.push(entry)?;
     }
+    Ok(())
 }
 
-// Adds what a transaction debits and credits, which stands at these places.
+// Adds what a transaction debits, which stands at these places, and lets what it credits be pending.
 pub fn post(
     postings: &mut Postings,
+    pending: &mut Pending,
     ledger: &Ledger,
     tx: &Tx,
     places: &Places,
@@ -133,9 +132,10 @@ pub fn post(
     requires rows { HasRows postings.old (length ledger.now.accounts) (assets_of ledger.now) }
     requires room { HasRoom postings.old }
     ensures rows { OnOk result (HasRows postings.new (length ledger.now.accounts) (assets_of ledger.now)) }
-    ensures posted { OnOk result ((before : List Transaction) → HasPostings ledger.now before postings.old
-        → HasPostings ledger.now (before ++ tx.now ∷ []) postings.new) }
+    ensures posted { OnOk result ((before : List Transaction)
+        → HasPostingsWithPending ledger.now before pending.old.entries.items postings.old
+        → HasPostingsWithPending ledger.now (before ++ tx.now ∷ []) pending.new.entries.items postings.new) }
 {
     post_debit(postings, ledger, tx, places)?;
-    post_credit(postings, ledger, tx, places)
+    hold_credit(pending, ledger, tx, places)
 }

@@ -39,6 +39,7 @@ mod laws;
 mod lookup;
 mod offers;
 mod overdraft;
+mod pending;
 mod postings;
 mod prechecking;
 mod ranges;

@@ -22,7 +22,7 @@ fn look_up_one(ledger: &Ledger, index: &AccountIndex, near: u32, tx: &Tx) -> Opt
 
 // Looks up the places of transactions one after another, from an index on. Each account is looked for near the one
 // before it.
-fn look_up_part(
+pub(crate) fn look_up_part(
     ledger: &Ledger,
     index: &AccountIndex,
     txs: &[Tx],

@@ -1,9 +1,11 @@
 //! What a body debits and credits, account by account and asset by asset.
 
 ghost use Rattle.std.specs.Prelude.{◌≡◌, ℕ, ◌+◌, ◌<◌, ◌≤◌, ◌^◌, ◌==◌, ◌&&◌, if◌then◌else◌, length, slice_index};
-ghost use Rattle.std.specs.Prelude.{IfOk, OnOk, replicate};
+ghost use Rattle.std.specs.Prelude.{◌≢◌, IfOk, OnOk, replicate, slice_index_or};
 ghost use Rattle.std.specs.Bool.{OnFalse};
-ghost use Rattle.sx_body.specs.Postings.{HasRows, credit_at, debit_at, start_of, units_at};
+ghost use Rattle.sx_body.specs.declared.postings.Entry.{Entry as AnyEntry};
+ghost use Rattle.sx_body.specs.Postings.{AreRowsFound, AreRowsOpen, AreWithin, CanCredit, HasRows, credit_at, debit_at};
+ghost use Rattle.sx_body.specs.Postings.{start_of, units_at, units_in};
 
 use std::alloc::Global;
 use sx_base::{Amount, AssetId};
@@ -45,6 +47,20 @@ fn zeros(alloc: Global, count: usize, room: usize) -> Result<Vec<u128>, NoMemory
     Ok(sums)
 }
 
+// Finds where the row of each account of these entries starts. It is 0 where the account has none.
+fn find_rows(starts: &[usize], entries: &[Entry], rows: &mut [usize])
+    requires places { (k : ℕ) (entry : AnyEntry) → k < length entries.now
+        → (slice_index_or entries.now k entry).place < length starts.now }
+    requires one_each { length rows.old ≡ length entries.now }
+    ensures one_each { length rows.new ≡ length entries.now }
+    ensures found { (k : ℕ) (entry : AnyEntry) → k < length entries.now
+        → slice_index rows.new k ≡ slice_index starts.now (slice_index_or entries.now k entry).place }
+{
+    for k in 0..entries.len() {
+        rows[k] = starts[entries[k].place as usize];
+    }
+}
+
 impl Postings {
     // No posting for any of these accounts, with room for the rows of so many of them.
     pub fn zero(
@@ -74,6 +90,7 @@ impl Postings {
         requires rows { HasRows self.old (length self.old.starts.items) self.old.assets }
         ensures start { IfOk result (λ start. start_of self.new place ≡ start) }
         ensures own { IfOk result (λ start. 1 ≤ start) }
+        ensures others { OnOk result ((p : ℕ) → start_of self.old p ≢ 0 → start_of self.new p ≡ start_of self.old p) }
         ensures rows { OnOk result (HasRows self.new (length self.old.starts.items) self.old.assets) }
         ensures debits { OnOk result ((p x : ℕ) → p < length self.old.starts.items → x < self.old.assets
             → debit_at self.new p x ≡ debit_at self.old p x) }
@@ -108,20 +125,78 @@ impl Postings {
         Ok(())
     }
 
-    // Adds to what is credited to an account.
-    pub fn credit(&mut self, entry: &Entry) -> Result<(), NoMemory>
-        requires place { entry.now.place < length self.old.starts.items }
-        requires asset { entry.now.asset < self.old.assets }
+    // Opens a row for each account of these entries that has none. Where an account has one, it has been found.
+    fn open_rows(&mut self, entries: &[Entry], rows: &mut [usize]) -> Result<(), NoMemory>
+        requires within { AreWithin (length self.old.starts.items) self.old.assets entries.now }
+        requires one_each { length rows.old ≡ length entries.now }
+        requires found { AreRowsFound self.old entries.now rows.old }
         requires rows { HasRows self.old (length self.old.starts.items) self.old.assets }
-        requires room { credit_at self.old entry.now.place entry.now.asset + 2 ^ 62 < 2 ^ 128 }
+        ensures one_each { length rows.new ≡ length entries.now }
+        ensures open { OnOk result (AreRowsOpen self.new entries.now rows.new) }
         ensures rows { OnOk result (HasRows self.new (length self.old.starts.items) self.old.assets) }
         ensures debits { OnOk result ((p x : ℕ) → p < length self.old.starts.items → x < self.old.assets
             → debit_at self.new p x ≡ debit_at self.old p x) }
         ensures credits { OnOk result ((p x : ℕ) → p < length self.old.starts.items → x < self.old.assets
-            → credit_at self.new p x ≡ credit_at self.old p x + units_at entry.now p x) }
+            → credit_at self.new p x ≡ credit_at self.old p x) }
     {
-        let at = self.open(entry.place as usize)? + usize::from(entry.asset.get());
+        for k in 0..entries.len() {
+            if rows[k] == 0 {
+                rows[k] = self.open(entries[k].place as usize)?;
+            }
+        }
+        Ok(())
+    }
+
+    // Adds an entry to what is credited to its account, whose row starts here.
+    fn credit(&mut self, row: usize, entry: &Entry)
+        requires place { entry.now.place < length self.old.starts.items }
+        requires asset { entry.now.asset < self.old.assets }
+        requires open { row ≢ 0 }
+        requires row { row ≡ start_of self.old entry.now.place }
+        requires rows { HasRows self.old (length self.old.starts.items) self.old.assets }
+        requires room { credit_at self.old entry.now.place entry.now.asset + entry.now.amount < 2 ^ 128 }
+        ensures starts { self.new.starts ≡ self.old.starts }
+        ensures debits { self.new.debits ≡ self.old.debits }
+        ensures rows { HasRows self.new (length self.old.starts.items) self.old.assets }
+        ensures credits { (p x : ℕ) → p < length self.old.starts.items → x < self.old.assets
+            → credit_at self.new p x ≡ credit_at self.old p x + units_at entry.now p x }
+    {
+        let at = row + usize::from(entry.asset.get());
         self.credits[at] += u128::from(entry.amount.get());
+    }
+
+    // Adds entries to what is credited to their accounts, whose rows start here.
+    fn credit_rows(&mut self, entries: &[Entry], rows: &[usize])
+        requires entries { CanCredit self.old entries.now }
+        requires one_each { length rows.now ≡ length entries.now }
+        requires open { AreRowsOpen self.old entries.now rows.now }
+        ensures starts { self.new.starts ≡ self.old.starts }
+        ensures debits { self.new.debits ≡ self.old.debits }
+        ensures rows { HasRows self.new (length self.old.starts.items) self.old.assets }
+        ensures credits { (p x : ℕ) → p < length self.old.starts.items → x < self.old.assets
+            → credit_at self.new p x ≡ credit_at self.old p x + units_in entries.now p x }
+    {
+        for k in 0..entries.len() {
+            self.credit(rows[k], &entries[k]);
+        }
+    }
+
+    // Adds entries to what is credited to their accounts: it finds their rows, opens those that are missing, and
+    // then adds the amounts. The body of each of these loops is so short that the processor reads the memory for many
+    // entries at the same time. What `rows` contains before does not matter.
+    pub fn credit_all(&mut self, entries: &[Entry], rows: &mut Vec<usize>) -> Result<(), NoMemory>
+        requires { CanCredit self.old entries.now }
+        ensures rows { OnOk result (HasRows self.new (length self.old.starts.items) self.old.assets) }
+        ensures debits { OnOk result ((p x : ℕ) → p < length self.old.starts.items → x < self.old.assets
+            → debit_at self.new p x ≡ debit_at self.old p x) }
+        ensures credits { OnOk result ((p x : ℕ) → p < length self.old.starts.items → x < self.old.assets
+            → credit_at self.new p x ≡ credit_at self.old p x + units_in entries.now p x) }
+    {
+        rows.resize(entries.len(), 0)?;
+        let rows = rows.as_mut_slice();
+        find_rows(&self.starts, entries, rows);
+        self.open_rows(entries, rows)?;
+        self.credit_rows(entries, rows);
         Ok(())
     }
 

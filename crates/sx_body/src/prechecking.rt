@@ -4,12 +4,13 @@ ghost use Rattle.std.specs.Prelude.{◌≡◌, ◌+◌, ◌<◌, ◌≤◌, [], 
 ghost use Rattle.sx_body.specs.declared.prechecking.PrecheckFault.TheVariants as precheck_fault;
 ghost use Rattle.sx_body.specs.Known.{AreKnown, HasPlaces};
 ghost use Rattle.sx_body.specs.Refusal.{IsPrecheckFault};
-ghost use Rattle.sx_body.specs.Tally.{IsTally};
+ghost use Rattle.sx_body.specs.Tally.{IsTally, IsTallyWithPending};
 ghost use Rattle.sx_ledger.specs.Ledger.{IsLedger, ids};
 ghost use Rattle.sx_ledger.specs.Static.{static_of};
 ghost use Rattle.sx_tx.specs.declared.tx.Tx.{Tx as Transaction};
 
-use crate::lookup::look_up;
+use crate::lookup::{look_up, look_up_part};
+use crate::pending::Pending;
 use crate::tally::Tally;
 use std::alloc::Global;
 use std::thread::Threads;
@@ -22,8 +23,12 @@ use thiserror::Error;
 // thread a small part of one.
 const MANY_TRANSACTIONS: usize = 1 << 13;
 
-// How many transactions are looked up before they are entered. Their places stay in a processor's cache meanwhile.
+// How many transactions threads look up before they are entered. Their places stay in a processor's cache meanwhile.
 const PIECE: usize = 1 << 16;
+
+// How many transactions are entered before what they credit is posted. They stay in a processor's first cache
+// meanwhile.
+const RUN: usize = 1 << 8;
 
 /// Why transactions have no tally.
 #[derive(Clone, Copy, Debug, PartialEq, Eq, Error)]
@@ -49,7 +54,6 @@ impl From<NoMemory> for PrecheckFault {
 fn places_of(
     ledger: &Ledger,
     index: &AccountIndex,
-    near: u32,
     tx: &Tx,
     known: Option<Places>,
 ) -> Result<Places, Static>
@@ -60,37 +64,133 @@ fn places_of(
 {
     match known {
         Some(places) => Ok(places),
-        None => ledger.places_of(index, near, tx),
+        None => ledger.places_of(index, 0, tx),
     }
 }
 
-// Enters the transaction at an index, whose places may be known, where all those before it are entered. It answers
-// where the account of the transaction stands, since that of the next one may stand near it.
-fn enter_at(
+// Enters the transaction at an index, whose places may be known, where all those before it are entered. What it
+// credits is pending afterwards.
+fn enter_one(
     ledger: &Ledger,
     index: &AccountIndex,
-    near: u32,
     txs: &[Tx],
     at: usize,
     known: Option<Places>,
     tally: &mut Tally,
-) -> Result<u32, PrecheckFault>
+    pending: &mut Pending,
+) -> Result<(), PrecheckFault>
     requires ledger { IsLedger ledger.now }
     requires index { index.now ≡ ids ledger.now.accounts }
     requires at { at < length txs.now }
     requires known { (tx : Transaction) → IfSome known (HasPlaces ledger.now (slice_index_or txs.now at tx)) }
-    requires tally { IsTally ledger.now (take at txs.now) tally.old }
-    ensures tally { OnOk result (IsTally ledger.now (take (at + 1) txs.now) tally.new) }
+    requires tally { IsTallyWithPending ledger.now (take at txs.now) pending.old.entries.items tally.old }
+    ensures tally { OnOk result (IsTallyWithPending ledger.now (take (at + 1) txs.now) pending.new.entries.items
+        tally.new) }
     ensures refused { IfErr result (IsPrecheckFault ledger.now txs.now) }
 {
     let tx = &txs[at];
-    match places_of(ledger, index, near, tx, known) {
+    match places_of(ledger, index, tx, known) {
         Ok(places) => {
-            tally.enter(ledger, at, tx, &places)?;
-            Ok(places.account)
+            tally.enter(ledger, at, tx, &places, pending)?;
+            Ok(())
         }
         Err(why) => Err(PrecheckFault::Refused { index: at, why }),
     }
+}
+
+// Enters a run of transactions from an index on, whose places may be known, where all those before them are entered.
+// It posts what they credit when all are entered.
+fn enter_run(
+    ledger: &Ledger,
+    index: &AccountIndex,
+    txs: &[Tx],
+    from: usize,
+    known: &[Option<Places>],
+    tally: &mut Tally,
+    pending: &mut Pending,
+) -> Result<(), PrecheckFault>
+    requires ledger { IsLedger ledger.now }
+    requires index { index.now ≡ ids ledger.now.accounts }
+    requires within { from + length known.now ≤ length txs.now }
+    requires known { AreKnown ledger.now txs.now from known.now }
+    requires none { pending.old.entries.items ≡ [] }
+    requires tally { IsTally ledger.now (take from txs.now) tally.old }
+    ensures none { OnOk result (pending.new.entries.items ≡ []) }
+    ensures tally { OnOk result (IsTally ledger.now (take (from + length known.now) txs.now) tally.new) }
+    ensures refused { IfErr result (IsPrecheckFault ledger.now txs.now) }
+{
+    for k in 0..known.len() {
+        enter_one(ledger, index, txs, from + k, known[k], tally, pending)?;
+    }
+    tally.post_pending(pending)?;
+    Ok(())
+}
+
+// Enters transactions from an index on, whose places may be known, where all those before them are entered. It goes
+// over them run by run.
+fn enter_known(
+    ledger: &Ledger,
+    index: &AccountIndex,
+    txs: &[Tx],
+    from: usize,
+    known: &[Option<Places>],
+    tally: &mut Tally,
+    pending: &mut Pending,
+) -> Result<(), PrecheckFault>
+    requires ledger { IsLedger ledger.now }
+    requires index { index.now ≡ ids ledger.now.accounts }
+    requires within { from + length known.now ≤ length txs.now }
+    requires known { AreKnown ledger.now txs.now from known.now }
+    requires none { pending.old.entries.items ≡ [] }
+    requires tally { IsTally ledger.now (take from txs.now) tally.old }
+    ensures none { OnOk result (pending.new.entries.items ≡ []) }
+    ensures tally { OnOk result (IsTally ledger.now (take (from + length known.now) txs.now) tally.new) }
+    ensures refused { IfErr result (IsPrecheckFault ledger.now txs.now) }
+{
+    let mut done = 0;
+    while done < known.len() {
+        let count = RUN.min(known.len() - done);
+        let run = &known[done..done + count];
+        enter_run(ledger, index, txs, from + done, run, tally, pending)?;
+        done += count;
+    }
+    Ok(())
+}
+
+// Goes over the transactions piece by piece: it looks up what a piece names, and then enters its transactions. A piece
+// has as many transactions as there are slots for their places.
+fn enter_alone(
+    ledger: &Ledger,
+    index: &AccountIndex,
+    txs: &[Tx],
+    slots: &mut [Option<Places>],
+    tally: &mut Tally,
+    pending: &mut Pending,
+) -> Result<(), PrecheckFault>
+    requires ledger { IsLedger ledger.now }
+    requires index { index.now ≡ ids ledger.now.accounts }
+    requires some_slot { 1 ≤ length slots.old }
+    requires none { pending.old.entries.items ≡ [] }
+    requires tally { IsTally ledger.now [] tally.old }
+    ensures tally { OnOk result (IsTally ledger.now txs.now tally.new) }
+    ensures refused { IfErr result (IsPrecheckFault ledger.now txs.now) }
+{
+    let mut from = 0;
+    while from < txs.len() {
+        let count = slots.len().min(txs.len() - from);
+        let known = &mut slots[..count];
+        look_up_part(ledger, index, txs, from, known);
+        enter_known(ledger, index, txs, from, known, tally, pending)?;
+        from += count;
+    }
+    Ok(())
+}
+
+// Slots for the places of so many transactions.
+fn empty_slots(alloc: Global, count: usize) -> Result<Vec<Option<Places>>, NoMemory>
+    ensures { IfOk result (λ slots. length slots.items ≡ count) }
+{
+    Ok(vec![in alloc; None; count]?)
 }
 
 /// The tally of transactions on a ledger, or the first of them that the ledger refuses by itself. It goes
@@ -102,35 +202,10 @@ pub fn precheck(alloc: Global, ledger: &Ledger, txs: &[Tx]) -> Result<Tally, Pre
 {
     let index = ledger.index()?;
     let mut tally = Tally::none(alloc, ledger, txs.len())?;
-    let mut near = 0;
-    for at in 0..txs.len() {
-        near = enter_at(ledger, &index, near, txs, at, None, &mut tally)?;
-    }
+    let mut slots = empty_slots(alloc, RUN)?;
+    let mut pending = Pending::none(alloc, RUN)?;
+    enter_alone(ledger, &index, txs, &mut slots, &mut tally, &mut pending)?;
     Ok(tally)
-}
-
-// Enters transactions from an index on, whose places may be known, where all those before them are entered.
-fn enter_known(
-    ledger: &Ledger,
-    index: &AccountIndex,
-    txs: &[Tx],
-    from: usize,
-    known: &[Option<Places>],
-    tally: &mut Tally,
-) -> Result<(), PrecheckFault>
-    requires ledger { IsLedger ledger.now }
-    requires index { index.now ≡ ids ledger.now.accounts }
-    requires within { from + length known.now ≤ length txs.now }
-    requires known { AreKnown ledger.now txs.now from known.now }
-    requires tally { IsTally ledger.now (take from txs.now) tally.old }
-    ensures tally { OnOk result (IsTally ledger.now (take (from + length known.now) txs.now) tally.new) }
-    ensures refused { IfErr result (IsPrecheckFault ledger.now txs.now) }
-{
-    let mut near = 0;
-    for k in 0..known.len() {
-        near = enter_at(ledger, index, near, txs, from + k, known[k], tally)?;
-    }
-    Ok(())
 }
 
 // Goes over the transactions piece by piece: threads look up what a piece names, and then its transactions are entered.
@@ -143,11 +218,13 @@ fn enter_pieces<R: Threads + Sync>(
     workers: u32,
     slots: &mut [Option<Places>],
     tally: &mut Tally,
+    pending: &mut Pending,
 ) -> Result<(), PrecheckFault>
     requires ledger { IsLedger ledger.now }
     requires index { index.now ≡ ids ledger.now.accounts }
     requires some_worker { 1 ≤ workers }
     requires some_slot { 1 ≤ length slots.old }
+    requires none { pending.old.entries.items ≡ [] }
     requires tally { IsTally ledger.now [] tally.old }
     ensures tally { OnOk result (IsTally ledger.now txs.now tally.new) }
     ensures refused { IfErr result (IsPrecheckFault ledger.now txs.now) }
@@ -157,17 +234,10 @@ fn enter_pieces<R: Threads + Sync>(
         let count = slots.len().min(txs.len() - from);
         let known = &mut slots[..count];
         look_up(rt, ledger, index, txs, from, workers, known);
-        enter_known(ledger, index, txs, from, known, tally)?;
+        enter_known(ledger, index, txs, from, known, tally, pending)?;
         from += count;
     }
     Ok(())
-}
-
-// Slots for the places of so many transactions.
-fn empty_slots(alloc: Global, count: usize) -> Result<Vec<Option<Places>>, NoMemory>
-    ensures { IfOk result (λ slots. length slots.items ≡ count) }
-{
-    Ok(vec![in alloc; None; count]?)
 }
 
 /// The same as [`precheck`], with threads that look places up. It goes over the transactions in pieces: at most so
@@ -191,6 +261,16 @@ pub fn par_precheck<R: Threads + Sync>(
     let index = ledger.index()?;
     let mut tally = Tally::none(alloc, ledger, txs.len())?;
     let mut slots = empty_slots(alloc, PIECE.min(txs.len()))?;
-    enter_pieces(rt, ledger, &index, txs, workers, &mut slots, &mut tally)?;
+    let mut pending = Pending::none(alloc, RUN)?;
+    enter_pieces(
+        rt,
+        ledger,
+        &index,
+        txs,
+        workers,
+        &mut slots,
+        &mut tally,
+        &mut pending,
+    )?;
     Ok(tally)
 }

@@ -2,9 +2,9 @@
 
 ghost use Rattle.std.specs.Prelude.{◌≡◌, ◌++◌, [], ◌∷◌, List, Ok, nat_eq, length, IfNone, IfOk, IfSome, OnOk};
 ghost use Rattle.std.specs.List.{IsDistinct};
-ghost use Rattle.sx_body.specs.Postings.{HasRoom};
+ghost use Rattle.sx_body.specs.Postings.{CanCredit, HasRoom};
 ghost use Rattle.sx_body.specs.Repeats.{IsFirstRepeat, cancels, creates};
-ghost use Rattle.sx_body.specs.Tally.{IsTally, IsTallyFor};
+ghost use Rattle.sx_body.specs.Tally.{IsTally, IsTallyFor, IsTallyWithPending};
 ghost use Rattle.sx_ledger.specs.declared.parts.Parts.{Parts as Ledgers};
 ghost use Rattle.sx_ledger.specs.Body.{cancelled, created as created_in, made as made_in};
 ghost use Rattle.sx_ledger.specs.Ledger.{IsLedger};
@@ -17,6 +17,7 @@ use crate::cancellations::Cancellations;
 use crate::creations::Creations;
 use crate::entries::post;
 use crate::kinds::made_offer;
+use crate::pending::Pending;
 use crate::postings::Postings;
 use crate::ranges::tx_ranges;
 use crate::used::mark;
@@ -68,28 +69,44 @@ impl Tally {
         })
     }
 
-    // Enters a transaction, which is the one at this index and stands at these places.
+    // Enters a transaction, which is the one at this index and stands at these places. What it credits is pending
+    // afterwards.
     pub(crate) fn enter(
         &mut self,
         ledger: &Ledger,
         index: usize,
         tx: &Tx,
         places: &Places,
+        pending: &mut Pending,
     ) -> Result<(), NoMemory>
         requires passes { static_of ledger.now tx.now ≡ Ok tt }
         requires places { ArePlaces ledger.now tx.now places.now }
         requires shape { IsTallyFor ledger.now self.old }
         requires room { HasRoom self.old.postings }
         ensures { OnOk result ((before : List Transaction) → length before ≡ index
-            → IsTally ledger.now before self.old → IsTally ledger.now (before ++ tx.now ∷ []) self.new) }
+            → IsTallyWithPending ledger.now before pending.old.entries.items self.old
+            → IsTallyWithPending ledger.now (before ++ tx.now ∷ []) pending.new.entries.items self.new) }
     {
         tx_ranges(tx);
         let last = ledger.account(places.account).window.last;
-        post(&mut self.postings, ledger, tx, places)?;
+        post(&mut self.postings, pending, ledger, tx, places)?;
         mark(&mut self.used, places.account, last, tx.seq);
         self.cancellations.enter(index, &places.target);
         self.creations.enter(index, tx)?;
         push_made(&mut self.made, tx)
+    }
+
+    // Posts the credits that are pending. None is pending afterwards.
+    pub(crate) fn post_pending(&mut self, pending: &mut Pending) -> Result<(), NoMemory>
+        requires { CanCredit self.old.postings pending.old.entries.items }
+        ensures none { OnOk result (pending.new.entries.items ≡ []) }
+        ensures tally { OnOk result ((parts : Ledgers) (txs : List Transaction)
+            → IsTallyWithPending parts txs pending.old.entries.items self.old → IsTally parts txs self.new) }
+    {
+        self.postings
+            .credit_all(&pending.entries, &mut pending.rows)?;
+        pending.entries.clear();
+        Ok(())
     }
 
     /// The first transaction that cancels an offer that one before it cancels, by its index from 0, or

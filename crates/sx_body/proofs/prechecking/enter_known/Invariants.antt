@@ -1,6 +1,13 @@
-use Rattle.std.proofs.Common.{◌+◌, take}
+use Rattle.std.proofs.Common.{◌≡◌, ◌≤◌, ◌+◌, ◌-◌, [], length, take}
 use Rattle.sx_body.specs.Tally.{IsTally}
 use Rattle.sx_body.proofs.prechecking.enter_known.Given as goal
 
-abbrev pub invariant-loop-k : goal.invariant-loop-k
-invariant-loop-k l = IsTally l.ledger (take (l.from + l.k) l.txs) l.tally
+abbrev pub invariant-loop-done : goal.invariant-loop-done
+invariant-loop-done l = record {
+  within : l.done ≤ length l.known;
+  none : l.pending.entries.items ≡ [];
+  tally : IsTally l.ledger (take (l.from + l.done) l.txs) l.tally;
+}
+
+abbrev pub decreases-loop-done : goal.decreases-loop-done
+decreases-loop-done l = length l.known - l.done

@@ -1,10 +1,10 @@
-use Rattle.std.proofs.Common.{◌≡◌, ℕ, ◌+◌, ◌<◌, ◌≤◌, length, get_or, set, refl, ap, arith, rules}
+use Rattle.std.proofs.Common.{◌≡◌, ℕ, ◌+◌, ◌<◌, ◌≤◌, length, get_or, set, refl, ap, ◌∙◌, arith, rules}
 use Rattle.std.specs.Vec.{vec_len, with_item}
 use Rattle.std.proofs.lemmas.Grind.{get_or-set_at, get_or_default_zero}
 use Rattle.std.proofs.lemmas.List.{length-set}
 use Rattle.sx_body.specs.declared.postings.Postings.{Postings}
 use Rattle.sx_body.specs.Postings.{start_of}
-use Rattle.sx_body.proofs.Rows.{opened_credits, opened_debits, opened_rows}
+use Rattle.sx_body.proofs.Rows.{opened_credits, opened_debits, opened_rows, start_other}
 use Rattle.sx_body.proofs.postings.Postings.open.Goals as goal
 
 pub returns : goal.returns
@@ -48,6 +48,9 @@ returns c =
     record {
       start = get_or-set_at old.starts.items place place c.len-start.result 0 refl c.requires.place;
       own = omega (arith, rows.some, c.requires.some_asset);
+      others = λ p some.
+          start_other old new many old.assets place rows c.requires.place no_row refl starts as_many debits_long
+          credits_long d_kept d_zero c_kept c_zero p (λ e. some (ap (start_of old) e ∙ no_row));
       rows = opened_rows old new many old.assets place rows c.requires.place no_row refl starts as_many debits_long
           credits_long d_kept d_zero c_kept c_zero;
       debits = opened_debits old new many old.assets place rows c.requires.place no_row refl starts as_many debits_long
