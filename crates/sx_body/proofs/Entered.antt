@@ -11,8 +11,9 @@ use Rattle.std.proofs.lemmas.List.{get_or-set_other, length-map}
 use Rattle.std.proofs.lemmas.List.Elements.{All-head, All-tail}
 use Rattle.std.proofs.lemmas.Option.{none-some, same_Some, slice_get-get_or, slice_get-map, slice_get_within}
 use Rattle.sx_body.specs.declared.tally.Tally.{Tally}
+use Rattle.sx_body.specs.declared.pending.Pending.{Pending}
 use Rattle.sx_body.specs.declared.postings.Entry.{Entry}
-use Rattle.sx_body.specs.Postings.{AreWithin, CanCredit, HasRoom, HasRows, units_in}
+use Rattle.sx_body.specs.Postings.{AreWithin, CanPost, HasRows, IsNonePending, credit_at, debit_at, units_in}
 use Rattle.sx_body.specs.Repeats.{IsRepeat}
 use Rattle.sx_body.specs.Tally.{HasUsed, IsTally, IsTallyWithPending}
 use Rattle.sx_body.proofs.UsedNumbers.{marked, not_marked}
@@ -160,24 +161,36 @@ module _ (parts : Parts) (keeps : IsLedger parts) where
   id_there p lt = slice_get-get_or (ids parts.accounts) p 0 (omega (arith, length-map parts.accounts id_of))
 
   -- however many transactions a list of the machine has
-  module _ (txs : List Tx) (pending : List Entry) (tally : Tally) (few : length txs < 2 ^ 64)
+  module _ (txs : List Tx) (pending : Pending) (tally : Tally) (few : length txs < 2 ^ 64)
       (is : IsTallyWithPending parts txs pending tally) where
-    pub has_room : HasRoom tally.postings
-    has_room p x p_there x_there =
-        let at = id_there p (omega (arith, is.shape.rows.as_many)) in
-        omega (
-          arith,
-          is.postings.debits p (get_or (ids parts.accounts) p 0) x at (omega (arith, is.shape.rows.assets)),
-          debits_small txs (get_or (ids parts.accounts) p 0) x is.in_range,
-        )
+    rows_here : HasRows tally.postings (length tally.postings.starts.items) tally.postings.assets
+    rows_here =
+        subst (λ (w : ℕ). HasRows tally.postings (length tally.postings.starts.items) w) (sym is.shape.rows.assets)
+        (subst (λ (n : ℕ). HasRows tally.postings n (assets_of parts)) (sym is.shape.rows.as_many) is.shape.rows)
 
-    pub can_credit : CanCredit tally.postings pending
+    within_here : (entries : List Entry) → AreWithin (length parts.accounts) (assets_of parts) entries
+        → AreWithin (length tally.postings.starts.items) tally.postings.assets entries
+    within_here entries within =
+        subst (λ (w : ℕ). AreWithin (length tally.postings.starts.items) w entries) (sym is.shape.rows.assets)
+        (subst (λ (n : ℕ). AreWithin n (assets_of parts) entries) (sym is.shape.rows.as_many) within)
+
+    pub can_debit : CanPost tally.postings debit_at pending.debits.items
+    can_debit = record {
+      rows = rows_here;
+      within = within_here pending.debits.items is.postings.debits_within;
+      room = λ p x p_there x_there.
+          let at = id_there p (omega (arith, is.shape.rows.as_many)) in
+          omega (
+            arith,
+            is.postings.debits p (get_or (ids parts.accounts) p 0) x at (omega (arith, is.shape.rows.assets)),
+            debits_small txs (get_or (ids parts.accounts) p 0) x is.in_range,
+          );
+    }
+
+    pub can_credit : CanPost tally.postings credit_at pending.credits.items
     can_credit = record {
-      rows = subst (λ (w : ℕ). HasRows tally.postings (length tally.postings.starts.items) w)
-          (sym is.shape.rows.assets)
-          (subst (λ (n : ℕ). HasRows tally.postings n (assets_of parts)) (sym is.shape.rows.as_many) is.shape.rows);
-      within = subst (λ (w : ℕ). AreWithin (length tally.postings.starts.items) w pending) (sym is.shape.rows.assets)
-          (subst (λ (n : ℕ). AreWithin n (assets_of parts) pending) (sym is.shape.rows.as_many) is.postings.within);
+      rows = rows_here;
+      within = within_here pending.credits.items is.postings.credits_within;
       room = λ p x p_there x_there.
           let at = id_there p (omega (arith, is.shape.rows.as_many)) in
           omega (
@@ -188,23 +201,28 @@ module _ (parts : Parts) (keeps : IsLedger parts) where
     }
 
 -- a tally is one of which nothing is pending
-pub none_pending : (parts : Parts) (txs : List Tx) (pending : List Entry) (tally : Tally) → pending ≡ []
+pub none_pending : (parts : Parts) (txs : List Tx) (pending : Pending) (tally : Tally) → IsNonePending pending
     → IsTally parts txs tally → IsTallyWithPending parts txs pending tally
 none_pending parts txs pending tally none is = record {
   shape = is.shape;
   passes = is.passes;
   in_range = is.in_range;
   postings = record {
-    within = subst (AreWithin (length parts.accounts) (assets_of parts)) (sym none) (λ k d lt. absurd (omega arith));
-    debits = is.postings.debits;
+    debits_within = subst within (sym none.debits) (λ k d lt. absurd (omega arith));
+    credits_within = subst within (sym none.credits) (λ k d lt. absurd (omega arith));
+    debits = λ p account x there lt.
+        omega (arith, is.postings.debits p account x there lt, ap (λ (es : List Entry). units_in es p x) none.debits);
     credits = λ p account x there lt.
-        omega (arith, is.postings.credits p account x there lt, ap (λ (entries : List Entry). units_in entries p x) none);
+        omega (arith, is.postings.credits p account x there lt, ap (λ (es : List Entry). units_in es p x) none.credits);
   };
   used = is.used;
   cancelled = is.cancelled;
   created = is.created;
   made = is.made;
 }
+  where
+    within : List Entry → Type 0
+    within = AreWithin (length parts.accounts) (assets_of parts)
 
 -- ---- no transaction
 

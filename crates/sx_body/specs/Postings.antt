@@ -1,7 +1,8 @@
 -- A table of what is debited and credited, row after row.
 use Rattle.std.specs.Prelude.{◌≡◌, ◌≢◌, ℕ, ◌+◌, ◌<◌, ◌≤◌, ◌^◌, ◌⊎◌, List, length, slice_index, slice_get, Option, Some}
-use Rattle.std.specs.Prelude.{◌==◌, ◌&&◌, if◌then◌else◌, All, slice_index_or}
+use Rattle.std.specs.Prelude.{◌==◌, ◌&&◌, [], if◌then◌else◌, All, slice_index_or}
 use Rattle.std.specs.List.{sum_by}
+use Rattle.sx_body.specs.declared.pending.Pending.{Pending}
 use Rattle.sx_body.specs.declared.postings.Entry.{Entry}
 use Rattle.sx_body.specs.declared.postings.Postings.{Postings}
 use Rattle.sx_ledger.specs.declared.parts.Parts.{Parts}
@@ -66,17 +67,17 @@ AreRowsOpen postings entries rows =
     (k : ℕ) (entry : Entry) → k < length entries
     → (slice_index rows k ≢ 0) × (slice_index rows k ≡ start_of postings (slice_index_or entries k entry).place)
 
--- one amount more can be debited anywhere
-abbrev pub HasRoom : Postings → Type 0
-HasRoom postings =
-    (p x : ℕ) → p < length postings.starts.items → x < postings.assets → debit_at postings p x + 2 ^ 62 < 2 ^ 128
-
--- these entries can be credited
-pub record CanCredit (postings : Postings) (entries : List Entry) : Type 0 where
+-- These entries can be added to the sums that `sum_at` tells.
+pub record CanPost (postings : Postings) (sum_at : Postings → ℕ → ℕ → ℕ) (entries : List Entry) : Type 0 where
   pub rows : HasRows postings (length postings.starts.items) postings.assets
   pub within : AreWithin (length postings.starts.items) postings.assets entries
   pub room : (p x : ℕ) → p < length postings.starts.items → x < postings.assets
-      → credit_at postings p x + units_in entries p x < 2 ^ 128
+      → sum_at postings p x + units_in entries p x < 2 ^ 128
+
+-- nothing is pending
+pub record IsNonePending (pending : Pending) : Type 0 where
+  pub debits : pending.debits.items ≡ []
+  pub credits : pending.credits.items ≡ []
 
 -- the debits and credits of the accounts of a ledger, at their places
 pub record HasPostings (parts : Parts) (txs : List Tx) (postings : Postings) : Type 0 where
@@ -85,12 +86,15 @@ pub record HasPostings (parts : Parts) (txs : List Tx) (postings : Postings) : T
   pub credits : (place account asset : ℕ) → slice_get (ids parts.accounts) place ≡ Some account
       → asset < assets_of parts → credit_at postings place asset ≡ credits parts.offers txs account asset
 
--- the same, where these credits are still to be posted
-pub record HasPostingsWithPending (parts : Parts) (txs : List Tx) (pending : List Entry) (postings : Postings)
+-- the same, where what is pending is still to be posted
+pub record HasPostingsWithPending (parts : Parts) (txs : List Tx) (pending : Pending) (postings : Postings)
     : Type 0 where
-  pub within : AreWithin (length parts.accounts) (assets_of parts) pending
+  pub debits_within : AreWithin (length parts.accounts) (assets_of parts) pending.debits.items
+  pub credits_within : AreWithin (length parts.accounts) (assets_of parts) pending.credits.items
   pub debits : (place account asset : ℕ) → slice_get (ids parts.accounts) place ≡ Some account
-      → asset < assets_of parts → debit_at postings place asset ≡ debits txs account asset
+      → asset < assets_of parts
+      → debit_at postings place asset + units_in pending.debits.items place asset ≡ debits txs account asset
   pub credits : (place account asset : ℕ) → slice_get (ids parts.accounts) place ≡ Some account
       → asset < assets_of parts
-      → credit_at postings place asset + units_in pending place asset ≡ credits parts.offers txs account asset
+      → credit_at postings place asset + units_in pending.credits.items place asset
+      ≡ credits parts.offers txs account asset

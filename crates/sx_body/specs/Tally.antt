@@ -6,7 +6,7 @@ use Rattle.std.specs.Ordering.{nat_cmp}
 use Rattle.sx_body.specs.declared.cancellations.Cancellations.{Cancellations}
 use Rattle.sx_body.specs.declared.creations.Creations.{Creations}
 use Rattle.sx_body.specs.declared.tally.Tally.{Tally}
-use Rattle.sx_body.specs.declared.postings.Entry.{Entry}
+use Rattle.sx_body.specs.declared.pending.Pending.{Pending}
 use Rattle.sx_body.specs.Postings.{HasPostings, HasPostingsWithPending, HasRows}
 use Rattle.sx_body.specs.Repeats.{IsRepeat, cancels, creates}
 use Rattle.sx_ledger.specs.declared.account.Account.{Account}
@@ -59,8 +59,8 @@ pub record IsTally (parts : Parts) (txs : List Tx) (tally : Tally) : Type 0 wher
   pub created : HasCreated txs tally.creations
   pub made : tally.made.items ≡ made txs
 
--- The same, where these credits of the transactions are still to be posted.
-pub record IsTallyWithPending (parts : Parts) (txs : List Tx) (pending : List Entry) (tally : Tally) : Type 0 where
+-- The same, where debits and credits that are pending are still to be posted.
+pub record IsTallyWithPending (parts : Parts) (txs : List Tx) (pending : Pending) (tally : Tally) : Type 0 where
   pub shape : IsTallyFor parts tally
   pub passes : All (λ tx. static_of parts tx ≡ Ok tt) txs
   pub in_range : All IsTx txs

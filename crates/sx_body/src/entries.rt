@@ -3,8 +3,8 @@
 ghost use Rattle.std.specs.Prelude.{◌≡◌, ℕ, Ok, ◌++◌, [], ◌∷◌, List, ◌+◌, ◌<◌, ◌^◌, length, slice_get, Some};
 ghost use Rattle.std.specs.Prelude.{IfSome, IfNone, None, OnOk};
 ghost use Rattle.std.specs.List.Sorted.{IsStrictlyIncreasing};
-ghost use Rattle.sx_body.specs.Postings.{AreWithin, HasPostingsWithPending, HasRoom, HasRows, IsEntry, credit_at};
-ghost use Rattle.sx_body.specs.Postings.{debit_at, units_in};
+ghost use Rattle.sx_body.specs.Postings.{AreWithin, HasPostingsWithPending, IsEntry, units_in};
+ghost use Rattle.sx_body.specs.declared.postings.Postings.{Postings as AnyPostings};
 ghost use Rattle.sx_ledger.specs.Effects.{credit as credit_by, debit as debit_by, posted};
 ghost use Rattle.sx_ledger.specs.Ledger.{assets_of, ids};
 ghost use Rattle.sx_ledger.specs.Places.{ArePlaces};
@@ -12,7 +12,7 @@ ghost use Rattle.sx_ledger.specs.Static.{static_of};
 ghost use Rattle.sx_tx.specs.declared.tx.Tx.{Tx as Transaction};
 
 use crate::pending::Pending;
-use crate::postings::{Entry, Postings};
+use crate::postings::Entry;
 use sx_bytes::NoMemory;
 use sx_ledger::{Ledger, Places, Target};
 use sx_tx::{Kind, Tx};
@@ -69,9 +69,9 @@ fn credit_of(ledger: &Ledger, tx: &Tx, places: &Places) -> Option<Entry>
     }
 }
 
-// Adds what a transaction debits, which stands at these places.
-fn post_debit(
-    postings: &mut Postings,
+// Puts what a transaction debits, which stands at these places, behind the debits that are pending.
+fn hold_debit(
+    debits: &mut Vec<Entry>,
     ledger: &Ledger,
     tx: &Tx,
     places: &Places,
@@ -79,48 +79,44 @@ fn post_debit(
     requires passes { static_of ledger.now tx.now ≡ Ok tt }
     requires places { ArePlaces ledger.now tx.now places.now }
     requires by_id { IsStrictlyIncreasing (ids ledger.now.accounts) }
-    requires rows { HasRows postings.old (length ledger.now.accounts) (assets_of ledger.now) }
-    requires room { (p x : ℕ) → p < length ledger.now.accounts → x < assets_of ledger.now
-        → debit_at postings.old p x + 2 ^ 62 < 2 ^ 128 }
-    ensures rows { OnOk result (HasRows postings.new (length ledger.now.accounts) (assets_of ledger.now)) }
+    ensures within { OnOk result (AreWithin (length ledger.now.accounts) (assets_of ledger.now) debits.old.items
+        → AreWithin (length ledger.now.accounts) (assets_of ledger.now) debits.new.items) }
     ensures debits { OnOk result ((p account x : ℕ) → slice_get (ids ledger.now.accounts) p ≡ Some account
         → x < assets_of ledger.now
-        → debit_at postings.new p x ≡ debit_at postings.old p x + posted (debit_by tx.now) account x) }
-    ensures credits { OnOk result ((p x : ℕ) → p < length ledger.now.accounts → x < assets_of ledger.now
-        → credit_at postings.new p x ≡ credit_at postings.old p x) }
+        → units_in debits.new.items p x ≡ units_in debits.old.items p x
+        + posted (debit_by tx.now) account x) }
 {
-    match debit_of(ledger, tx, places) {
-        Some(entry) => postings.debit(&entry),
-        None => Ok(()),
-    }
-}
-
-// Puts what a transaction credits, which stands at these places, behind the credits that are pending.
-fn hold_credit(
-    pending: &mut Pending,
-    ledger: &Ledger,
-    tx: &Tx,
-    places: &Places,
-) -> Result<(), NoMemory>
-    requires passes { static_of ledger.now tx.now ≡ Ok tt }
-    requires places { ArePlaces ledger.now tx.now places.now }
-    requires by_id { IsStrictlyIncreasing (ids ledger.now.accounts) }
-    ensures within { OnOk result (AreWithin (length ledger.now.accounts) (assets_of ledger.now) pending.old.entries.items
-        → AreWithin (length ledger.now.accounts) (assets_of ledger.now) pending.new.entries.items) }
-    ensures credits { OnOk result ((p account x : ℕ) → slice_get (ids ledger.now.accounts) p ≡ Some account
-        → x < assets_of ledger.now
-        → units_in pending.new.entries.items p x ≡ units_in pending.old.entries.items p x
-        + posted (credit_by ledger.now.offers tx.now) account x) }
-{
-    if let Some(entry) = credit_of(ledger, tx, places) {
-        pending.entries.push(entry)?;
+    if let Some(entry) = debit_of(ledger, tx, places) {
+        debits.push(entry)?;
     }
     Ok(())
 }
 
-// Adds what a transaction debits, which stands at these places, and lets what it credits be pending.
-pub fn post(
-    postings: &mut Postings,
+// Puts what a transaction credits, which stands at these places, behind the credits that are pending.
+fn hold_credit(
+    credits: &mut Vec<Entry>,
+    ledger: &Ledger,
+    tx: &Tx,
+    places: &Places,
+) -> Result<(), NoMemory>
+    requires passes { static_of ledger.now tx.now ≡ Ok tt }
+    requires places { ArePlaces ledger.now tx.now places.now }
+    requires by_id { IsStrictlyIncreasing (ids ledger.now.accounts) }
+    ensures within { OnOk result (AreWithin (length ledger.now.accounts) (assets_of ledger.now) credits.old.items
+        → AreWithin (length ledger.now.accounts) (assets_of ledger.now) credits.new.items) }
+    ensures credits { OnOk result ((p account x : ℕ) → slice_get (ids ledger.now.accounts) p ≡ Some account
+        → x < assets_of ledger.now
+        → units_in credits.new.items p x ≡ units_in credits.old.items p x
+        + posted (credit_by ledger.now.offers tx.now) account x) }
+{
+    if let Some(entry) = credit_of(ledger, tx, places) {
+        credits.push(entry)?;
+    }
+    Ok(())
+}
+
+// Puts what a transaction debits and credits, which stands at these places, behind what is pending.
+pub fn hold(
     pending: &mut Pending,
     ledger: &Ledger,
     tx: &Tx,
@@ -129,13 +125,10 @@ pub fn post(
     requires passes { static_of ledger.now tx.now ≡ Ok tt }
     requires places { ArePlaces ledger.now tx.now places.now }
     requires by_id { IsStrictlyIncreasing (ids ledger.now.accounts) }
-    requires rows { HasRows postings.old (length ledger.now.accounts) (assets_of ledger.now) }
-    requires room { HasRoom postings.old }
-    ensures rows { OnOk result (HasRows postings.new (length ledger.now.accounts) (assets_of ledger.now)) }
-    ensures posted { OnOk result ((before : List Transaction)
-        → HasPostingsWithPending ledger.now before pending.old.entries.items postings.old
-        → HasPostingsWithPending ledger.now (before ++ tx.now ∷ []) pending.new.entries.items postings.new) }
+    ensures { OnOk result ((before : List Transaction) (postings : AnyPostings)
+        → HasPostingsWithPending ledger.now before pending.old postings
+        → HasPostingsWithPending ledger.now (before ++ tx.now ∷ []) pending.new postings) }
 {
-    post_debit(postings, ledger, tx, places)?;
-    hold_credit(pending, ledger, tx, places)
+    hold_debit(&mut pending.debits, ledger, tx, places)?;
+    hold_credit(&mut pending.credits, ledger, tx, places)
 }

@@ -1,25 +1,28 @@
-//! Credits that are pending: they are of transactions that are entered, and are posted later, many at once.
+//! Debits and credits that are pending: they are of transactions that are entered, and are posted later, many at once.
 
-ghost use Rattle.std.specs.Prelude.{◌≡◌, [], IfOk};
+ghost use Rattle.std.specs.Prelude.{IfOk};
+ghost use Rattle.sx_body.specs.Postings.{IsNonePending};
 
 use crate::postings::Entry;
 use std::alloc::Global;
 use sx_bytes::NoMemory;
 
-// The credits that are pending, and room for what is worked out when they are posted.
+// The debits and credits that are pending, and room for the rows that are found when they are posted.
 #[derive(Drop)]
 pub struct Pending {
-    pub entries: Vec<Entry>,
+    pub debits: Vec<Entry>,
+    pub credits: Vec<Entry>,
     pub rows: Vec<usize>,
 }
 
 impl Pending {
-    // No credit is pending, with room for so many.
+    // Nothing is pending, with room for what so many transactions debit and credit.
     pub fn none(alloc: Global, room: usize) -> Result<Pending, NoMemory>
-        ensures { IfOk result (λ pending. pending.entries.items ≡ []) }
+        ensures { IfOk result IsNonePending }
     {
         Ok(Pending {
-            entries: Vec::with_capacity(alloc, room)?,
+            debits: Vec::with_capacity(alloc, room)?,
+            credits: Vec::with_capacity(alloc, room)?,
             rows: Vec::with_capacity(alloc, room)?,
         })
     }

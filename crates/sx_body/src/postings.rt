@@ -4,7 +4,7 @@ ghost use Rattle.std.specs.Prelude.{◌≡◌, ℕ, ◌+◌, ◌<◌, ◌≤◌,
 ghost use Rattle.std.specs.Prelude.{◌≢◌, IfOk, OnOk, replicate, slice_index_or};
 ghost use Rattle.std.specs.Bool.{OnFalse};
 ghost use Rattle.sx_body.specs.declared.postings.Entry.{Entry as AnyEntry};
-ghost use Rattle.sx_body.specs.Postings.{AreRowsFound, AreRowsOpen, AreWithin, CanCredit, HasRows, credit_at, debit_at};
+ghost use Rattle.sx_body.specs.Postings.{AreRowsFound, AreRowsOpen, AreWithin, CanPost, HasRows, credit_at, debit_at};
 ghost use Rattle.sx_body.specs.Postings.{start_of, units_at, units_in};
 
 use std::alloc::Global;
@@ -108,23 +108,6 @@ impl Postings {
         Ok(start)
     }
 
-    // Adds to what is debited to an account.
-    pub fn debit(&mut self, entry: &Entry) -> Result<(), NoMemory>
-        requires place { entry.now.place < length self.old.starts.items }
-        requires asset { entry.now.asset < self.old.assets }
-        requires rows { HasRows self.old (length self.old.starts.items) self.old.assets }
-        requires room { debit_at self.old entry.now.place entry.now.asset + 2 ^ 62 < 2 ^ 128 }
-        ensures rows { OnOk result (HasRows self.new (length self.old.starts.items) self.old.assets) }
-        ensures debits { OnOk result ((p x : ℕ) → p < length self.old.starts.items → x < self.old.assets
-            → debit_at self.new p x ≡ debit_at self.old p x + units_at entry.now p x) }
-        ensures credits { OnOk result ((p x : ℕ) → p < length self.old.starts.items → x < self.old.assets
-            → credit_at self.new p x ≡ credit_at self.old p x) }
-    {
-        let at = self.open(entry.place as usize)? + usize::from(entry.asset.get());
-        self.debits[at] += u128::from(entry.amount.get());
-        Ok(())
-    }
-
     // Opens a row for each account of these entries that has none. Where an account has one, it has been found.
     fn open_rows(&mut self, entries: &[Entry], rows: &mut [usize]) -> Result<(), NoMemory>
         requires within { AreWithin (length self.old.starts.items) self.old.assets entries.now }
@@ -147,6 +130,40 @@ impl Postings {
         Ok(())
     }
 
+    // Adds an entry to what is debited to its account, whose row starts here.
+    fn debit(&mut self, row: usize, entry: &Entry)
+        requires place { entry.now.place < length self.old.starts.items }
+        requires asset { entry.now.asset < self.old.assets }
+        requires open { row ≢ 0 }
+        requires row { row ≡ start_of self.old entry.now.place }
+        requires rows { HasRows self.old (length self.old.starts.items) self.old.assets }
+        requires room { debit_at self.old entry.now.place entry.now.asset + entry.now.amount < 2 ^ 128 }
+        ensures starts { self.new.starts ≡ self.old.starts }
+        ensures credits { self.new.credits ≡ self.old.credits }
+        ensures rows { HasRows self.new (length self.old.starts.items) self.old.assets }
+        ensures debits { (p x : ℕ) → p < length self.old.starts.items → x < self.old.assets
+            → debit_at self.new p x ≡ debit_at self.old p x + units_at entry.now p x }
+    {
+        let at = row + usize::from(entry.asset.get());
+        self.debits[at] += u128::from(entry.amount.get());
+    }
+
+    // Adds entries to what is debited to their accounts, whose rows start here.
+    fn debit_rows(&mut self, entries: &[Entry], rows: &[usize])
+        requires entries { CanPost self.old debit_at entries.now }
+        requires one_each { length rows.now ≡ length entries.now }
+        requires open { AreRowsOpen self.old entries.now rows.now }
+        ensures starts { self.new.starts ≡ self.old.starts }
+        ensures credits { self.new.credits ≡ self.old.credits }
+        ensures rows { HasRows self.new (length self.old.starts.items) self.old.assets }
+        ensures debits { (p x : ℕ) → p < length self.old.starts.items → x < self.old.assets
+            → debit_at self.new p x ≡ debit_at self.old p x + units_in entries.now p x }
+    {
+        for k in 0..entries.len() {
+            self.debit(rows[k], &entries[k]);
+        }
+    }
+
     // Adds an entry to what is credited to its account, whose row starts here.
     fn credit(&mut self, row: usize, entry: &Entry)
         requires place { entry.now.place < length self.old.starts.items }
@@ -167,7 +184,7 @@ impl Postings {
 
     // Adds entries to what is credited to their accounts, whose rows start here.
     fn credit_rows(&mut self, entries: &[Entry], rows: &[usize])
-        requires entries { CanCredit self.old entries.now }
+        requires entries { CanPost self.old credit_at entries.now }
         requires one_each { length rows.now ≡ length entries.now }
         requires open { AreRowsOpen self.old entries.now rows.now }
         ensures starts { self.new.starts ≡ self.old.starts }
@@ -181,11 +198,28 @@ impl Postings {
         }
     }
 
-    // Adds entries to what is credited to their accounts: it finds their rows, opens those that are missing, and
-    // then adds the amounts. The body of each of these loops is so short that the processor reads the memory for many
+    // Adds entries to what is debited to their accounts: it finds their rows, opens those that are missing, and then
+    // adds the amounts. The body of each of these loops is so short that the processor reads the memory for many
     // entries at the same time. What `rows` contains before does not matter.
+    pub fn debit_all(&mut self, entries: &[Entry], rows: &mut Vec<usize>) -> Result<(), NoMemory>
+        requires { CanPost self.old debit_at entries.now }
+        ensures rows { OnOk result (HasRows self.new (length self.old.starts.items) self.old.assets) }
+        ensures credits { OnOk result ((p x : ℕ) → p < length self.old.starts.items → x < self.old.assets
+            → credit_at self.new p x ≡ credit_at self.old p x) }
+        ensures debits { OnOk result ((p x : ℕ) → p < length self.old.starts.items → x < self.old.assets
+            → debit_at self.new p x ≡ debit_at self.old p x + units_in entries.now p x) }
+    {
+        rows.resize(entries.len(), 0)?;
+        let rows = rows.as_mut_slice();
+        find_rows(&self.starts, entries, rows);
+        self.open_rows(entries, rows)?;
+        self.debit_rows(entries, rows);
+        Ok(())
+    }
+
+    // The same for what is credited.
     pub fn credit_all(&mut self, entries: &[Entry], rows: &mut Vec<usize>) -> Result<(), NoMemory>
-        requires { CanCredit self.old entries.now }
+        requires { CanPost self.old credit_at entries.now }
         ensures rows { OnOk result (HasRows self.new (length self.old.starts.items) self.old.assets) }
         ensures debits { OnOk result ((p x : ℕ) → p < length self.old.starts.items → x < self.old.assets
             → debit_at self.new p x ≡ debit_at self.old p x) }

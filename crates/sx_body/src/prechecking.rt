@@ -4,6 +4,7 @@ ghost use Rattle.std.specs.Prelude.{◌≡◌, ◌+◌, ◌<◌, ◌≤◌, [], 
 ghost use Rattle.sx_body.specs.declared.prechecking.PrecheckFault.TheVariants as precheck_fault;
 ghost use Rattle.sx_body.specs.Known.{AreKnown, HasPlaces};
 ghost use Rattle.sx_body.specs.Refusal.{IsPrecheckFault};
+ghost use Rattle.sx_body.specs.Postings.{IsNonePending};
 ghost use Rattle.sx_body.specs.Tally.{IsTally, IsTallyWithPending};
 ghost use Rattle.sx_ledger.specs.Ledger.{IsLedger, ids};
 ghost use Rattle.sx_ledger.specs.Static.{static_of};
@@ -26,7 +27,7 @@ const MANY_TRANSACTIONS: usize = 1 << 13;
 // How many transactions threads look up before they are entered. Their places stay in a processor's cache meanwhile.
 const PIECE: usize = 1 << 16;
 
-// How many transactions are entered before what they credit is posted. They stay in a processor's first cache
+// How many transactions are entered before what they debit and credit is posted. It stays in a processor's first cache
 // meanwhile.
 const RUN: usize = 1 << 8;
 
@@ -69,7 +70,7 @@ fn places_of(
 }
 
 // Enters the transaction at an index, whose places may be known, where all those before it are entered. What it
-// credits is pending afterwards.
+// debits and credits is pending afterwards.
 fn enter_one(
     ledger: &Ledger,
     index: &AccountIndex,
@@ -83,9 +84,8 @@ fn enter_one(
     requires index { index.now ≡ ids ledger.now.accounts }
     requires at { at < length txs.now }
     requires known { (tx : Transaction) → IfSome known (HasPlaces ledger.now (slice_index_or txs.now at tx)) }
-    requires tally { IsTallyWithPending ledger.now (take at txs.now) pending.old.entries.items tally.old }
-    ensures tally { OnOk result (IsTallyWithPending ledger.now (take (at + 1) txs.now) pending.new.entries.items
-        tally.new) }
+    requires tally { IsTallyWithPending ledger.now (take at txs.now) pending.old tally.old }
+    ensures tally { OnOk result (IsTallyWithPending ledger.now (take (at + 1) txs.now) pending.new tally.new) }
     ensures refused { IfErr result (IsPrecheckFault ledger.now txs.now) }
 {
     let tx = &txs[at];
@@ -99,7 +99,7 @@ fn enter_one(
 }
 
 // Enters a run of transactions from an index on, whose places may be known, where all those before them are entered.
-// It posts what they credit when all are entered.
+// It posts what they debit and credit when all are entered.
 fn enter_run(
     ledger: &Ledger,
     index: &AccountIndex,
@@ -113,9 +113,9 @@ fn enter_run(
     requires index { index.now ≡ ids ledger.now.accounts }
     requires within { from + length known.now ≤ length txs.now }
     requires known { AreKnown ledger.now txs.now from known.now }
-    requires none { pending.old.entries.items ≡ [] }
+    requires none { IsNonePending pending.old }
     requires tally { IsTally ledger.now (take from txs.now) tally.old }
-    ensures none { OnOk result (pending.new.entries.items ≡ []) }
+    ensures none { OnOk result (IsNonePending pending.new) }
     ensures tally { OnOk result (IsTally ledger.now (take (from + length known.now) txs.now) tally.new) }
     ensures refused { IfErr result (IsPrecheckFault ledger.now txs.now) }
 {
@@ -141,9 +141,9 @@ fn enter_known(
     requires index { index.now ≡ ids ledger.now.accounts }
     requires within { from + length known.now ≤ length txs.now }
     requires known { AreKnown ledger.now txs.now from known.now }
-    requires none { pending.old.entries.items ≡ [] }
+    requires none { IsNonePending pending.old }
     requires tally { IsTally ledger.now (take from txs.now) tally.old }
-    ensures none { OnOk result (pending.new.entries.items ≡ []) }
+    ensures none { OnOk result (IsNonePending pending.new) }
     ensures tally { OnOk result (IsTally ledger.now (take (from + length known.now) txs.now) tally.new) }
     ensures refused { IfErr result (IsPrecheckFault ledger.now txs.now) }
 {
@@ -170,7 +170,7 @@ fn enter_alone(
     requires ledger { IsLedger ledger.now }
     requires index { index.now ≡ ids ledger.now.accounts }
     requires some_slot { 1 ≤ length slots.old }
-    requires none { pending.old.entries.items ≡ [] }
+    requires none { IsNonePending pending.old }
     requires tally { IsTally ledger.now [] tally.old }
     ensures tally { OnOk result (IsTally ledger.now txs.now tally.new) }
     ensures refused { IfErr result (IsPrecheckFault ledger.now txs.now) }
@@ -224,7 +224,7 @@ fn enter_pieces<R: Threads + Sync>(
     requires index { index.now ≡ ids ledger.now.accounts }
     requires some_worker { 1 ≤ workers }
     requires some_slot { 1 ≤ length slots.old }
-    requires none { pending.old.entries.items ≡ [] }
+    requires none { IsNonePending pending.old }
     requires tally { IsTally ledger.now [] tally.old }
     ensures tally { OnOk result (IsTally ledger.now txs.now tally.new) }
     ensures refused { IfErr result (IsPrecheckFault ledger.now txs.now) }

@@ -2,7 +2,7 @@
 
 ghost use Rattle.std.specs.Prelude.{◌≡◌, ◌++◌, [], ◌∷◌, List, Ok, nat_eq, length, IfNone, IfOk, IfSome, OnOk};
 ghost use Rattle.std.specs.List.{IsDistinct};
-ghost use Rattle.sx_body.specs.Postings.{CanCredit, HasRoom};
+ghost use Rattle.sx_body.specs.Postings.{CanPost, IsNonePending, credit_at, debit_at};
 ghost use Rattle.sx_body.specs.Repeats.{IsFirstRepeat, cancels, creates};
 ghost use Rattle.sx_body.specs.Tally.{IsTally, IsTallyFor, IsTallyWithPending};
 ghost use Rattle.sx_ledger.specs.declared.parts.Parts.{Parts as Ledgers};
@@ -15,7 +15,7 @@ ghost use Rattle.sx_tx.specs.declared.tx.Tx.{Tx as Transaction};
 
 use crate::cancellations::Cancellations;
 use crate::creations::Creations;
-use crate::entries::post;
+use crate::entries::hold;
 use crate::kinds::made_offer;
 use crate::pending::Pending;
 use crate::postings::Postings;
@@ -69,8 +69,8 @@ impl Tally {
         })
     }
 
-    // Enters a transaction, which is the one at this index and stands at these places. What it credits is pending
-    // afterwards.
+    // Enters a transaction, which is the one at this index and stands at these places. What it debits and credits is
+    // pending afterwards.
     pub(crate) fn enter(
         &mut self,
         ledger: &Ledger,
@@ -82,30 +82,32 @@ impl Tally {
         requires passes { static_of ledger.now tx.now ≡ Ok tt }
         requires places { ArePlaces ledger.now tx.now places.now }
         requires shape { IsTallyFor ledger.now self.old }
-        requires room { HasRoom self.old.postings }
         ensures { OnOk result ((before : List Transaction) → length before ≡ index
-            → IsTallyWithPending ledger.now before pending.old.entries.items self.old
-            → IsTallyWithPending ledger.now (before ++ tx.now ∷ []) pending.new.entries.items self.new) }
+            → IsTallyWithPending ledger.now before pending.old self.old
+            → IsTallyWithPending ledger.now (before ++ tx.now ∷ []) pending.new self.new) }
     {
         tx_ranges(tx);
         let last = ledger.account(places.account).window.last;
-        post(&mut self.postings, pending, ledger, tx, places)?;
+        hold(pending, ledger, tx, places)?;
         mark(&mut self.used, places.account, last, tx.seq);
         self.cancellations.enter(index, &places.target);
         self.creations.enter(index, tx)?;
         push_made(&mut self.made, tx)
     }
 
-    // Posts the credits that are pending. None is pending afterwards.
+    // Posts what is pending. Nothing is pending afterwards.
     pub(crate) fn post_pending(&mut self, pending: &mut Pending) -> Result<(), NoMemory>
-        requires { CanCredit self.old.postings pending.old.entries.items }
-        ensures none { OnOk result (pending.new.entries.items ≡ []) }
+        requires debits { CanPost self.old.postings debit_at pending.old.debits.items }
+        requires credits { CanPost self.old.postings credit_at pending.old.credits.items }
+        ensures none { OnOk result (IsNonePending pending.new) }
         ensures tally { OnOk result ((parts : Ledgers) (txs : List Transaction)
-            → IsTallyWithPending parts txs pending.old.entries.items self.old → IsTally parts txs self.new) }
+            → IsTallyWithPending parts txs pending.old self.old → IsTally parts txs self.new) }
     {
+        self.postings.debit_all(&pending.debits, &mut pending.rows)?;
         self.postings
-            .credit_all(&pending.entries, &mut pending.rows)?;
-        pending.entries.clear();
+            .credit_all(&pending.credits, &mut pending.rows)?;
+        pending.debits.clear();
+        pending.credits.clear();
         Ok(())
     }
 

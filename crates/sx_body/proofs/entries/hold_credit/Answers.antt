@@ -12,6 +12,6 @@ returns-in_ok-push-clause-credits c = λ p account x there lt.
     omega (
       arith,
       ap (λ (entries : List Entry). units_in entries p x) c.in_ok-push.ensures.items,
-      units_more c.args.pending.now.entries.items c.in-Some.entry p x,
+      units_more c.args.credits.now.items c.in-Some.entry p x,
       entered_units parts c.requires.by_id (credit parts.offers c.args.tx.now) c.in-Some.entry c.in-Some.ensures.some p account x there,
     )

@@ -1,4 +1,5 @@
-use Rattle.std.proofs.Common.{◌≡◌, ◌≤◌, ◌-◌, [], length, take}
+use Rattle.std.proofs.Common.{◌≤◌, ◌-◌, length, take}
+use Rattle.sx_body.specs.Postings.{IsNonePending}
 use Rattle.sx_body.specs.Tally.{IsTally}
 use Rattle.sx_body.proofs.prechecking.enter_alone.Given as goal
 
@@ -6,7 +7,7 @@ abbrev pub invariant-loop-from : goal.invariant-loop-from
 invariant-loop-from l = record {
   within : l.from ≤ length l.txs;
   some_slot : 1 ≤ length l.slots;
-  none : l.pending.entries.items ≡ [];
+  none : IsNonePending l.pending;
   tally : IsTally l.ledger (take l.from l.txs) l.tally;
 }
 

@@ -1,11 +1,12 @@
-use Rattle.std.proofs.Common.{◌≡◌, ◌≤◌, ◌+◌, ◌-◌, [], length, take}
+use Rattle.std.proofs.Common.{◌≤◌, ◌+◌, ◌-◌, length, take}
+use Rattle.sx_body.specs.Postings.{IsNonePending}
 use Rattle.sx_body.specs.Tally.{IsTally}
 use Rattle.sx_body.proofs.prechecking.enter_known.Given as goal
 
 abbrev pub invariant-loop-done : goal.invariant-loop-done
 invariant-loop-done l = record {
   within : l.done ≤ length l.known;
-  none : l.pending.entries.items ≡ [];
+  none : IsNonePending l.pending;
   tally : IsTally l.ledger (take (l.from + l.done) l.txs) l.tally;
 }
 

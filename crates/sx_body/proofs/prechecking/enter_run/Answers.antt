@@ -1,7 +1,7 @@
 use Rattle.std.proofs.Common.{◌≡◌, ◌+◌, ℕ, length, subst, take, arith}
 use Rattle.std.proofs.lemmas.List.{length-take-le}
 use Rattle.sx_body.specs.Tally.{IsTally}
-use Rattle.sx_body.proofs.Entered.{can_credit, none_pending}
+use Rattle.sx_body.proofs.Entered.{can_credit, can_debit, none_pending}
 use Rattle.sx_body.proofs.prechecking.enter_run.Goals as goal
 
 pub loop-k-init : goal.loop-k-init
@@ -9,14 +9,21 @@ loop-k-init c =
     let txs = c.args.txs.now in
     let first : c.args.from + 0 ≡ c.args.from = omega arith in
     rw first
-    (none_pending c.args.ledger.now (take c.args.from txs) c.args.pending.now.entries.items c.args.tally.now
-    c.requires.none c.requires.tally)
+    (none_pending c.args.ledger.now (take c.args.from txs) c.args.pending.now c.args.tally.now c.requires.none
+    c.requires.tally)
 
-pub post_pending-requires : goal.post_pending-requires
-post_pending-requires c =
+pub post_pending-requires-clause-debits : goal.post_pending-requires-clause-debits
+post_pending-requires-clause-debits c =
     let txs = c.args.txs.now in
     let all = c.args.from + c.loop-k.k in
-    can_credit c.args.ledger.now c.requires.ledger (take all txs) c.loop-k.pending.entries.items c.loop-k.tally
+    can_debit c.args.ledger.now c.requires.ledger (take all txs) c.loop-k.pending c.loop-k.tally
+    (omega (arith, length-take-le all txs (omega arith))) c.loop-k.invariant
+
+pub post_pending-requires-clause-credits : goal.post_pending-requires-clause-credits
+post_pending-requires-clause-credits c =
+    let txs = c.args.txs.now in
+    let all = c.args.from + c.loop-k.k in
+    can_credit c.args.ledger.now c.requires.ledger (take all txs) c.loop-k.pending c.loop-k.tally
     (omega (arith, length-take-le all txs (omega arith))) c.loop-k.invariant
 
 pub returns-clause-tally : goal.returns-clause-tally

@@ -7,19 +7,18 @@ use Rattle.sx_body.proofs.postings.Postings.debit.Goals as goal
 
 pub returns : goal.returns
 returns c =
-    let mid = c.open.new.self in
-    let opened = c.in_ok-at.ensures in
-    let rows = opened.rows in
+    let old = c.args.self.now in
+    let rows = c.requires.rows in
     let place = c.args.entry.now.place in
     let asset = c.args.entry.now.asset in
     let units = c.args.entry.now.amount in
-    let cells = mid.debits.items in
-    let at = c.in_ok-at.field-0 + c.from.result in
+    let cells = old.debits.items in
+    let at = c.args.row + c.from.result in
     let after = c.index_mut.result.now + c.from-2.result in
-    let some : start_of mid place ≢ 0 = λ e. absurd (omega (arith, opened.start, opened.own)) in
-    let at_is : at ≡ start_of mid place + asset =
-    omega (arith, opened.start, c.from.ensures, c.get.ensures.value) in
-    let long : at < length cells = omega (arith, rows.within place c.requires.place, rows.even, c.requires.asset) in
+    let some : start_of old place ≢ 0 = λ e. c.requires.open (c.requires.row ∙ e) in
+    let at_is : at ≡ start_of old place + asset =
+    omega (arith, c.requires.row, c.from.ensures, c.get.ensures.value) in
+    let long : at < length cells = omega (arith, rows.within place c.requires.place, c.requires.asset) in
     let after_is : after ≡ get_or cells at 0 + units =
     omega (
       arith,
@@ -28,12 +27,14 @@ returns c =
       c.from-2.ensures,
       c.get-2.ensures.value,
     ) in
-    let many = length c.args.self.now.starts.items in
-    let width = c.args.self.now.assets in
-    let added = added_cell mid many width place asset rows c.requires.place some c.requires.asset cells at after at_is
+    let many = length old.starts.items in
+    let width = old.assets in
+    let added = added_cell old many width place asset rows c.requires.place some c.requires.asset cells at after at_is
     units in
-    let stay = zeros_stay mid many width place asset rows c.requires.place some c.requires.asset cells at after at_is in
+    let stay = zeros_stay old many width place asset rows c.requires.place some c.requires.asset cells at after at_is in
     record {
+      starts = refl;
+      credits = refl;
       rows = record {
         assets = rows.assets;
         as_many = rows.as_many;
@@ -45,11 +46,5 @@ returns c =
         behind = rows.behind;
         apart = rows.apart;
       };
-      debits = λ p x p_there x_there.
-          omega (
-            arith,
-            added refl after_is p x p_there x_there,
-            opened.debits p x p_there x_there,
-          );
-      credits = opened.credits;
+      debits = λ p x p_there x_there. added refl after_is p x p_there x_there;
     }

@@ -47,8 +47,8 @@ enter-requires c = record {
       omega (arith, lt, length-map parts.offers key_of, c.requires.shape.flags);
 }
 
-pub post-requires-clause-by_id : goal.post-requires-clause-by_id
-post-requires-clause-by_id c = c.account.ensures.kept.by_id
+pub hold-requires-clause-by_id : goal.hold-requires-clause-by_id
+hold-requires-clause-by_id c = c.account.ensures.kept.by_id
 
 pub returns : goal.returns
 returns c =
@@ -65,7 +65,7 @@ returns c =
     (λ made before index was.
     record {
       shape = record {
-        rows = c.in_ok-post.ensures.rows;
+        rows = c.requires.shape.rows;
         maps =
             ap length c.mark.ensures
             ∙ length-set maps at (bit_or (get_or maps at 0) (2 ^ (tx.seq - own.window.last - 1)))
@@ -74,7 +74,7 @@ returns c =
       };
       passes = All-append passes before (tx ∷ []) was.passes (one_passes passes tx c.requires.passes);
       in_range = All-append IsTx before (tx ∷ []) was.in_range (one_passes IsTx tx c.tx_ranges.ensures);
-      postings = c.in_ok-post.ensures.posted before was.postings;
+      postings = c.in_ok-hold.ensures before c.args.self.now.postings was.postings;
       used = subst (HasUsed parts (before ++ tx ∷ [])) (sym c.mark.ensures)
           (used_more parts keeps before tx at own there is_open maps c.requires.shape.maps was.used);
       cancelled = c.enter.ensures.entered parts tx before keeps c.requires.shape.flags c.requires.places.target index

@@ -1,40 +1,36 @@
 use Rattle.std.proofs.Common.{◌≡◌, ℕ, ◌+◌, ◌<◌, length, Some, arith}
 use Rattle.std.specs.Prelude.{slice_get}
-use Rattle.std.proofs.lemmas.List.{length-map}
-use Rattle.std.proofs.lemmas.Option.{slice_get_within}
 use Rattle.sx_body.specs.Postings.{AreWithin, units_in}
 use Rattle.sx_body.proofs.PostedUnits.{both_ok, credits_more, debits_more}
-use Rattle.sx_body.proofs.entries.post.Goals as goal
+use Rattle.sx_body.proofs.entries.hold.Goals as goal
 use Rattle.sx_ledger.specs.Effects.{credit, posted}
 use Rattle.sx_ledger.specs.Ledger.{assets_of, ids}
-use Rattle.sx_ledger.proofs.Insertion.{id_of}
 
-pub returns-clause-posted : goal.returns-clause-posted
-returns-clause-posted c =
+pub returns : goal.returns
+returns c =
     let parts = c.args.ledger.now in
     let tx = c.args.tx.now in
-    let old = c.args.pending.now.entries.items in
-    let new = c.hold_credit.new.pending.entries.items in
+    let old = c.args.pending.now.credits.items in
+    let new = c.hold_credit.new.credits.items in
     both_ok c.hold_credit.result
     (λ (within : AreWithin (length parts.accounts) (assets_of parts) old
     → AreWithin (length parts.accounts) (assets_of parts) new)
     (held : (p account x : ℕ) → slice_get (ids parts.accounts) p ≡ Some account → x < assets_of parts →
-    units_in new p x ≡ units_in old p x + posted (credit parts.offers tx) account x) before was.
+    units_in new p x ≡ units_in old p x + posted (credit parts.offers tx) account x) before postings was.
     record {
-      within = within was.within;
+      debits_within = c.in_ok-hold_debit.ensures.within was.debits_within;
+      credits_within = within was.credits_within;
       debits = λ p account x there lt.
           omega (
             arith,
-            c.in_ok-post_debit.ensures.debits p account x there lt,
+            c.in_ok-hold_debit.ensures.debits p account x there lt,
             was.debits p account x there lt,
             debits_more before tx account x,
           );
       credits = λ p account x there lt.
-          let at = slice_get_within (ids parts.accounts) p account there in
           omega (
             arith,
             held p account x there lt,
-            c.in_ok-post_debit.ensures.credits p x (omega (arith, at, length-map parts.accounts id_of)) lt,
             was.credits p account x there lt,
             credits_more parts.offers before tx account x,
           );
