@@ -3,8 +3,8 @@
 //! A [`Block`] is what one batch decided: the prices, the value that each pair of assets trades, the
 //! potentials that show that no more could be traded, what rounding keeps, the digests that chain it to
 //! the ledgers before and after it, and the transactions. [`read_block`] answers the block exactly
-//! where a payload is the encoding of one, and else the first fault from left to right; [`write_block`]
-//! appends the one encoding. [`block_laws`] says that no two blocks share an encoding and that each
+//! where a payload is the encoding of one, and else the first fault from left to right, and
+//! [`par_read_block`] has several threads decode the transactions; [`write_block`] appends the one encoding. [`block_laws`] says that no two blocks share an encoding and that each
 //! fits a record. [`ledger_digest`] and [`body_digest`] are the two digests of a header, by SHA-256;
 //! [`header_length`] tells where in a payload the bytes begin of which the second is made. [`par_written_body`] answers
 //! these bytes with their digest, and [`write_header`] appends those before them. A [`StateDigest`] is the

@@ -6,7 +6,8 @@
 //! encoding, and else the first fault from left to right, with the reader back where it was.
 //! [`read_id`], [`read_seq`], [`read_asset`], [`read_amount`] and [`read_limit`] do the same for one
 //! field. [`read_candidates`] reads a whole payload of candidates: a count and that many
-//! transactions, in any order and with repeats; [`par_read_candidates`] does so by several threads.
+//! transactions, in any order and with repeats; [`par_read_candidates`] does so by several threads, and
+//! [`par_read_list`] reads such a list from a place of a payload on.
 //! [`write_tx`] and [`write_candidates`] append the encoding, or nothing where memory runs out.
 //! [`tx_laws`] and [`list_laws`] say that decoding inverts encoding, that no two values share an
 //! encoding, and that none is a prefix of another.
