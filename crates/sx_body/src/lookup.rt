@@ -1,4 +1,4 @@
-//! The places of transactions, looked up by several threads before one thread enters them.
+//! The places of transactions, looked up by one thread or by several before they are entered.
 
 ghost use Rattle.std.specs.Prelude.{◌≡◌, ◌+◌, ◌≤◌, IfSome, length};
 ghost use Rattle.sx_body.specs.Known.{AreKnown, HasPlaces};

@@ -14,7 +14,8 @@ use crate::lookup::{look_up, look_up_part};
 use crate::pending::Pending;
 use crate::tally::Tally;
 use std::alloc::Global;
-use std::thread::Threads;
+use std::mem;
+use std::thread::{Threads, join_mut};
 use sx_bytes::NoMemory;
 use sx_ledger::{AccountIndex, Ledger, Places, Static};
 use sx_tx::Tx;
@@ -24,7 +25,8 @@ use thiserror::Error;
 // thread a small part of one.
 const MANY_TRANSACTIONS: usize = 1 << 13;
 
-// How many transactions threads look up before they are entered. Their places stay in a processor's cache meanwhile.
+// How many transactions are in a piece. While one piece is entered, threads look up what the next one names. The places
+// of both stay in a processor's cache.
 const PIECE: usize = 1 << 16;
 
 // How many transactions are entered before what they debit and credit is posted. It stays in a processor's first cache
@@ -208,42 +210,106 @@ pub fn precheck(alloc: Global, ledger: &Ledger, txs: &[Tx]) -> Result<Tally, Pre
     Ok(tally)
 }
 
-// Goes over the transactions piece by piece: threads look up what a piece names, and then its transactions are entered.
-// A piece has as many transactions as there are slots for their places.
+// Enters a piece of transactions from an index on, whose places may be known, where all those before them are entered.
+// Meanwhile threads look up what the piece behind it names.
+fn enter_piece<R: Threads + Sync>(
+    rt: &R,
+    ledger: &Ledger,
+    index: &AccountIndex,
+    txs: &[Tx],
+    from: usize,
+    workers: u32,
+    known: &[Option<Places>],
+    ahead: &mut [Option<Places>],
+    tally: &mut Tally,
+    pending: &mut Pending,
+) -> Result<(), PrecheckFault>
+    requires ledger { IsLedger ledger.now }
+    requires index { index.now ≡ ids ledger.now.accounts }
+    requires some_workers { 2 ≤ workers }
+    requires within { from + length known.now + length ahead.old ≤ length txs.now }
+    requires known { AreKnown ledger.now txs.now from known.now }
+    requires none { IsNonePending pending.old }
+    requires tally { IsTally ledger.now (take from txs.now) tally.old }
+    ensures one_each { length ahead.new ≡ length ahead.old }
+    ensures ahead { AreKnown ledger.now txs.now (from + length known.now) ahead.new }
+    ensures none { OnOk result (IsNonePending pending.new) }
+    ensures tally { OnOk result (IsTally ledger.now (take (from + length known.now) txs.now) tally.new) }
+    ensures refused { IfErr result (IsPrecheckFault ledger.now txs.now) }
+{
+    if ahead.is_empty() {
+        return enter_known(ledger, index, txs, from, known, tally, pending);
+    }
+    let next = from + known.len();
+    let others = workers - 1;
+    let (_, entered) = join_mut(
+        rt,
+        &mut ||
+            requires index { index.now ≡ ids ledger.now.accounts }
+            requires some_worker { 1 ≤ others }
+            requires some { 1 ≤ length ahead.now }
+            requires within { next + length ahead.now ≤ length txs.now }
+            ensures one_each { length ahead.exit.now ≡ length ahead.entry.now }
+            ensures known { AreKnown ledger.entry.now txs.entry.now next ahead.exit.now }
+        { look_up(rt, ledger, index, txs, next, others, ahead) },
+        &mut || -> Result<(), PrecheckFault>
+            requires ledger { IsLedger ledger.now }
+            requires index { index.now ≡ ids ledger.now.accounts }
+            requires within { from + length known.now ≤ length txs.now }
+            requires known { AreKnown ledger.now txs.now from known.now }
+            requires none { IsNonePending pending.now }
+            requires tally { IsTally ledger.now (take from txs.now) tally.now }
+            ensures none { OnOk result (IsNonePending pending.exit.now) }
+            ensures tally { OnOk result (IsTally ledger.entry.now (take (from + length known.entry.now) txs.entry.now)
+                tally.exit.now) }
+            ensures refused { IfErr result (IsPrecheckFault ledger.entry.now txs.entry.now) }
+        { enter_known(ledger, index, txs, from, known, tally, pending) },
+    );
+    entered
+}
+
+// Goes over the transactions piece by piece: while one is entered, threads look up what the next one names. The first
+// piece has as many transactions as there are slots in `known`, and no other has more.
 fn enter_pieces<R: Threads + Sync>(
     rt: &R,
     ledger: &Ledger,
     index: &AccountIndex,
     txs: &[Tx],
     workers: u32,
-    slots: &mut [Option<Places>],
+    known: &mut Vec<Option<Places>>,
+    ahead: &mut Vec<Option<Places>>,
     tally: &mut Tally,
     pending: &mut Pending,
 ) -> Result<(), PrecheckFault>
     requires ledger { IsLedger ledger.now }
     requires index { index.now ≡ ids ledger.now.accounts }
-    requires some_worker { 1 ≤ workers }
-    requires some_slot { 1 ≤ length slots.old }
+    requires some_workers { 2 ≤ workers }
+    requires some_slot { 1 ≤ length known.old.items }
+    requires as_many { length ahead.old.items ≡ length known.old.items }
+    requires within { length known.old.items ≤ length txs.now }
     requires none { IsNonePending pending.old }
     requires tally { IsTally ledger.now [] tally.old }
     ensures tally { OnOk result (IsTally ledger.now txs.now tally.new) }
     ensures refused { IfErr result (IsPrecheckFault ledger.now txs.now) }
 {
+    look_up(rt, ledger, index, txs, 0, workers, known);
     let mut from = 0;
     while from < txs.len() {
-        let count = slots.len().min(txs.len() - from);
-        let known = &mut slots[..count];
-        look_up(rt, ledger, index, txs, from, workers, known);
-        enter_known(ledger, index, txs, from, known, tally, pending)?;
-        from += count;
+        let next = from + known.len();
+        ahead.truncate(txs.len() - next);
+        enter_piece(
+            rt, ledger, index, txs, from, workers, known, ahead, tally, pending,
+        )?;
+        mem::swap(known, ahead);
+        from = next;
     }
     Ok(())
 }
 
-/// The same as [`precheck`], with threads that look places up. It goes over the transactions in pieces: at most so
-/// many threads look up what a piece names, and then one thread enters its transactions in their order. So the
-/// answer is that of [`precheck`], and the same for every number of workers. With one worker, or for few
-/// transactions, no thread is started.
+/// The same as [`precheck`], with threads that look places up. It goes over the transactions in pieces: threads look up
+/// what the first piece names; then one thread enters the transactions of a piece in their order, while others look up
+/// what the next piece names. At most so many threads work at the same time. So the answer is that of [`precheck`],
+/// and the same for every number of workers. With one worker, or for few transactions, no thread is started.
 pub fn par_precheck<R: Threads + Sync>(
     rt: &R,
     alloc: Global,
@@ -260,7 +326,8 @@ pub fn par_precheck<R: Threads + Sync>(
     }
     let index = ledger.index()?;
     let mut tally = Tally::none(alloc, ledger, txs.len())?;
-    let mut slots = empty_slots(alloc, PIECE.min(txs.len()))?;
+    let mut known = empty_slots(alloc, PIECE.min(txs.len()))?;
+    let mut ahead = empty_slots(alloc, known.len())?;
     let mut pending = Pending::none(alloc, RUN)?;
     enter_pieces(
         rt,
@@ -268,7 +335,8 @@ pub fn par_precheck<R: Threads + Sync>(
         &index,
         txs,
         workers,
-        &mut slots,
+        &mut known,
+        &mut ahead,
         &mut tally,
         &mut pending,
     )?;

@@ -1,12 +1,15 @@
-use Rattle.std.proofs.Common.{◌≤◌, ◌-◌, length, take}
+use Rattle.std.proofs.Common.{◌<◌, ◌≤◌, ◌+◌, ◌-◌, length, take}
+use Rattle.sx_body.specs.Known.{AreKnown}
 use Rattle.sx_body.specs.Postings.{IsNonePending}
 use Rattle.sx_body.specs.Tally.{IsTally}
 use Rattle.sx_body.proofs.prechecking.enter_pieces.Given as goal
 
 abbrev pub invariant-loop-from : goal.invariant-loop-from
 invariant-loop-from g l = record {
-  within : l.from ≤ length l.txs;
-  some_slot : 1 ≤ length l.slots;
+  within : l.from + length l.known.items ≤ length l.txs;
+  some_slot : l.from < length l.txs → 1 ≤ length l.known.items;
+  more_slots : l.from + length l.known.items < length l.txs → 1 ≤ length l.ahead.items;
+  known : AreKnown l.ledger l.txs l.from l.known.items;
   none : IsNonePending l.pending;
   tally : IsTally l.ledger (take l.from l.txs) l.tally;
 }
