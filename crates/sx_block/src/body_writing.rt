@@ -17,9 +17,9 @@ use std::thread::{Threads, join_mut};
 use sx_bytes::{NoMemory, Writer};
 use sx_tx::Tx;
 
-// How many transactions are written while those before them are hashed: some half a megabyte, which takes two
-// milliseconds to hash. To start a thread takes a small part of one.
-const A_PIECE: usize = 1 << 14;
+// How many transactions are written while those before them are hashed: some two megabytes, which take several
+// milliseconds to hash. To start a thread takes up to one on a busy machine.
+const A_PIECE: usize = 1 << 16;
 
 // How many bytes the number of transactions takes.
 const COUNT_BYTES: usize = 4;
@@ -100,7 +100,7 @@ fn write_and_hash<R: Threads>(
 }
 
 /// The encoding of a list of transactions, their number included, and its digest. The memory for it and for `more` bytes
-/// after it is taken at once. Where there are more than 16,384 transactions, threads hash what is written while this one
+/// after it is taken at once. Where there are more than 65,536 transactions, threads hash what is written while this one
 /// writes on, one after the other, and the call waits for each of them. Where no thread can be started, it hashes as well.
 pub fn par_written_body<R: Threads>(
     rt: &R,

@@ -19,9 +19,9 @@ use sx_bytes::{Bytes, Form, NoMemory};
 // The memory that is taken for a payload before any of it has come, in bytes.
 const FIRST_PIECE: usize = 65_536;
 
-// How many bytes of a payload are read at a time. They are still in a processor's cache from being zeroed then, and are
-// enough for a thread beside the reading.
-const MOST_AT_ONCE: usize = 1 << 20;
+// How many bytes of a payload are read at a time: so many that it is worth starting a thread beside the reading, which
+// takes up to a millisecond on a busy machine.
+const MOST_AT_ONCE: usize = 1 << 22;
 
 /// Reads the next record. `at` is the offset of its tag, and `tags` are those that are allowed here.
 ///
