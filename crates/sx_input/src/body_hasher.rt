@@ -14,9 +14,9 @@ use sx_base::Source;
 use sx_block::Digest;
 use sx_record::{Beside, RecordFault, fill};
 
-// From how many bytes at a time on a thread hashes beside the reading. Reading them takes a part of a millisecond, and
-// to start a thread a small part of one.
-const MANY_BYTES: usize = 1 << 19;
+// From how many bytes at a time on a thread hashes beside the reading. Reading them takes a millisecond, and to start a
+// thread a part of one.
+const MANY_BYTES: usize = 1 << 20;
 
 // Of so many bytes one is hashed while they are read, since hashing takes a few times as long.
 const SHARE: usize = 4;
