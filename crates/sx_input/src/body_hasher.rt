@@ -18,8 +18,9 @@ use sx_record::{Beside, RecordFault, fill};
 // thread a part of one.
 const MANY_BYTES: usize = 1 << 20;
 
-// Of so many bytes one is hashed while they are read, since hashing takes a few times as long.
-const SHARE: usize = 4;
+// Of so many bytes one is hashed while they are read. Hashing takes three to eight times as long as reading, by how fast
+// memory is.
+const SHARE: usize = 8;
 
 /// The digest of what a payload has from some place on, as far as it is made: where the transactions of a block begin,
 /// if it is one.
