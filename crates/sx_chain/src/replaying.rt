@@ -5,10 +5,8 @@ ghost use Rattle.std.specs.Prelude.{◌≡◌, ◌+◌, ◌^◌, ◌≤◌, ℕ,
 ghost use Rattle.sx_base.specs.Outside.{Rose};
 ghost use Rattle.sx_chain.specs.Replaying.{IsNext, MayGoOn, Steps};
 ghost use Rattle.sx_input.specs.Found.{Found};
-ghost use Rattle.sx_input.specs.Hashing.{Hashes, IsHashed};
 ghost use Rattle.sx_input.specs.Stream.{UnlessReadFault};
 ghost use Rattle.sx_meaning.specs.Replays.{tags_after};
-ghost use Rattle.sx_record.specs.Beside.{KnowsFirst};
 ghost use Rattle.sx_record.specs.Tags.{block_tag, outcomes_tag};
 
 use crate::advancing::advance;
@@ -17,9 +15,7 @@ use std::thread::Threads;
 use sx_base::Source;
 use sx_bytes::{Form, FormFault, Writer};
 use sx_check::CheckFault;
-use sx_input::{
-    BodyHasher, Hashed, Head, Stop, decoded, decoded_block, end_of, next_hashed, take_head,
-};
+use sx_input::{Head, Stop, decoded, decoded_block, end_of, next, take_head};
 use sx_layout::Outcomes;
 use sx_record::{Record, tag};
 use sx_words::Command;
@@ -48,13 +44,12 @@ pub fn tags(after_block: bool) -> &'static [u8]
     }
 }
 
-// A block, of which some was hashed, judged on the ledger so far and applied by so many workers.
+// A block, judged on the ledger so far and applied by so many workers.
 fn step_block<R: Threads + Sync>(
     rt: &R,
     alloc: Global,
     place: Place,
     found: &Record,
-    body: BodyHasher,
     workers: u32,
 ) -> Result<Place, Stop>
     requires some_worker { 1 ≤ workers }
@@ -62,7 +57,6 @@ fn step_block<R: Threads + Sync>(
     requires place { MayGoOn place }
     requires found { IsNext place found.now }
     requires tag { found.now.tag ≡ block_tag }
-    requires hashed { KnowsFirst (Hashes body) found.now.payload }
     ensures { Steps place found.now result }
 {
     if place.blocks >= MOST_BLOCKS {
@@ -71,7 +65,7 @@ fn step_block<R: Threads + Sync>(
             fault: Form::TooMany,
         }));
     }
-    let incoming = decoded_block(rt, alloc, &place.head.ledger, found, body, workers)?;
+    let incoming = decoded_block(rt, alloc, &place.head.ledger, found, workers)?;
     match advance(rt, alloc, place.head, incoming, workers, true) {
         Ok(advanced) => Ok(Place {
             head: advanced.head,
@@ -113,21 +107,19 @@ fn step<R: Threads + Sync>(
     rt: &R,
     alloc: Global,
     place: Place,
-    next: Hashed,
+    found: &Record,
     workers: u32,
 ) -> Result<Place, Stop>
     requires some_worker { 1 ≤ workers }
     requires few_workers { workers ≤ 64 }
     requires place { MayGoOn place }
-    requires found { IsNext place next.found }
-    requires hashed { IsHashed next }
-    ensures { Steps place next.found result }
+    requires found { IsNext place found.now }
+    ensures { Steps place found.now result }
 {
-    let Hashed { found, body } = next;
     if found.tag == tag::OUTCOMES {
-        step_outcomes(rt, alloc, place, &found)
+        step_outcomes(rt, alloc, place, found)
     } else {
-        step_block(rt, alloc, place, &found, body, workers)
+        step_block(rt, alloc, place, found, workers)
     }
 }
 
@@ -152,8 +144,8 @@ pub fn replay<R: Threads + Sync, S: Source>(
         blocks: 0,
         after_block: false,
     };
-    while let Some(found) = next_hashed(rt, alloc, source, place.at, tags(place.after_block))? {
-        place = step(rt, alloc, place, found, workers)?;
+    while let Some(found) = next(alloc, source, place.at, tags(place.after_block))? {
+        place = step(rt, alloc, place, &found, workers)?;
     }
     Ok(place.head.into_state(alloc)?)
 }

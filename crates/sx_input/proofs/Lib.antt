@@ -2,4 +2,3 @@ pub mod PayloadItems
 pub mod Faults
 pub mod TakenRecords
 pub mod Readings
-pub mod Hashing

@@ -2,4 +2,3 @@ pub mod Stream
 pub mod Head
 pub mod Found
 pub mod Incoming
-pub mod Hashing

@@ -1,28 +1,24 @@
 //! Blocks as they come, with the digests of their transactions and what those do to a ledger.
 
-ghost use Rattle.std.specs.Prelude.{◌≡◌, ◌+◌, ◌^◌, ◌≤◌, [], ◌∷◌, Some, drop, length, IfErr, IfOk, IfSome, IsErrOf, IsTrue};
+ghost use Rattle.std.specs.Prelude.{◌≡◌, ◌+◌, ◌^◌, ◌≤◌, drop, length, IfErr, IfOk, IsErrOf, IsTrue};
 ghost use Rattle.sha2.specs.Sha256.{sha256};
 ghost use Rattle.sx_base.specs.Outside.{Rose};
 ghost use Rattle.sx_block.specs.Block.{IsBlock};
 ghost use Rattle.sx_block.specs.Encoding.{block_bytes};
 ghost use Rattle.sx_check.specs.Surveys.{IsSurveyed};
-ghost use Rattle.sx_input.specs.Hashing.{Hashes, IsHashed, record_in};
 ghost use Rattle.sx_input.specs.Incoming.{HasDigest, IsReady, item_of};
-ghost use Rattle.sx_input.specs.Stream.{Holds, Reads, Stops, TakesRecord, UnlessReadFault};
+ghost use Rattle.sx_input.specs.Stream.{Holds, Stops, UnlessReadFault};
 ghost use Rattle.sx_meaning.specs.Expected.{item_at, needed};
 ghost use Rattle.sx_meaning.specs.Items.{IsItem, item_record, payload_at, payload_of};
 ghost use Rattle.sx_meaning.specs.Items as item;
-ghost use Rattle.sx_record.specs.Beside.{KnowsFirst};
-ghost use Rattle.sx_record.specs.Decoding.{record_at};
-ghost use Rattle.sx_record.specs.Frame.{MayStand, frame_bytes, most_bytes, record_bytes};
+ghost use Rattle.sx_record.specs.Frame.{frame_bytes, most_bytes};
 ghost use Rattle.sx_record.specs.Stream.{Took};
 ghost use Rattle.sx_record.specs.Tags.{block_tag};
 ghost use Rattle.sx_tx.specs.Transactions.{list_bytes};
 
-use crate::body_hasher::{BodyHasher, HashingBeside};
 use crate::payloads::decoded;
 use crate::stop::Stop;
-use crate::stream::{Taken, end_of, next_beside, required_beside};
+use crate::stream::{Taken, end_of, required};
 use std::alloc::Global;
 use std::thread::{Threads, join};
 use sx_base::Source;
@@ -35,6 +31,20 @@ use sx_record::{Record, tag};
 // From how many bytes on transactions are hashed on a thread of their own. Hashing takes a millisecond there, and to
 // start a thread a small part of one.
 const WORTH_A_THREAD: usize = 1 << 18;
+
+// Where a block's payload has the number of its assets.
+const ASSETS_AT: usize = 74;
+
+// How many bytes a block has of each asset before its trades, and after them.
+const PRICE_BYTES: usize = 8;
+
+const OUTCOME_BYTES: usize = 12;
+
+const TRADE_BYTES: usize = 18;
+
+const CUT_BYTES: usize = 4;
+
+const DIGEST_BYTES: usize = 32;
 
 /// A block that was read, the digest of its transactions, and the survey of them on the ledger that it comes to.
 #[derive(Debug, Drop)]
@@ -49,6 +59,34 @@ pub struct Incoming {
 struct Surveyed {
     block: Block,
     found: Result<Survey, PrecheckFault>,
+}
+
+// The byte at a place, or 0 where there is none.
+fn byte_at(payload: &[u8], at: usize) -> usize
+    ensures { result ≤ 255 }
+{
+    match payload.get(at) {
+        Some(byte) => *byte as usize,
+        None => 0,
+    }
+}
+
+// Where the transactions begin in the payload of a block, found by the counts in its header before it is decoded. In
+// other bytes it is some place. Only time rests on it: a digest from another place is not used.
+fn transactions_begin(payload: &[u8]) -> usize
+    ensures { result ≤ length payload.now }
+{
+    let assets = byte_at(payload, ASSETS_AT);
+    let trades_at = ASSETS_AT + 1 + PRICE_BYTES * assets;
+    let trades = 256 * byte_at(payload, trades_at) + byte_at(payload, trades_at + 1);
+    let cut_at = trades_at + 2 + TRADE_BYTES * trades;
+    let cut = if byte_at(payload, cut_at) == 0 {
+        0
+    } else {
+        CUT_BYTES
+    };
+    let begin = cut_at + 1 + cut + OUTCOME_BYTES * assets + DIGEST_BYTES;
+    begin.min(payload.len())
 }
 
 // The block that the payload of a record encodes, and the survey of its transactions on a ledger, by so many workers.
@@ -73,40 +111,39 @@ fn with_survey<R: Threads + Sync>(
     Ok(Surveyed { block, found })
 }
 
-// Where hashing of a payload began, the digest of what it has from there on, and the block that the payload encodes with
-// its survey. Where many bytes are not hashed yet, a thread of its own hashes them.
+// The digest of the bytes of a payload from a place on, and the block that the payload encodes with its survey. Where
+// there are many such bytes, a thread of its own makes the digest.
 fn digest_and_block<R: Threads + Sync>(
     rt: &R,
     alloc: Global,
     ledger: &Ledger,
     found: &Record,
-    hashed: BodyHasher,
+    from: usize,
     workers: u32,
-) -> ((usize, Digest), Result<Surveyed, Stop>)
+) -> (Digest, Result<Surveyed, Stop>)
     requires some_worker { 1 ≤ workers }
     requires few_workers { workers ≤ 64 }
     requires place { found.now.at ≤ 2 ^ 63 + 5 }
     requires fits { length found.now.payload ≤ most_bytes }
-    requires hashed { KnowsFirst (Hashes hashed) found.now.payload }
-    ensures within { result.0.0 ≤ length found.now.payload }
-    ensures digest { result.0.1 ≡ sha256 (drop result.0.0 found.now.payload) }
+    requires within { from ≤ length found.now.payload }
+    ensures digest { result.0 ≡ sha256 (drop from found.now.payload) }
     ensures exact { Holds (λ said. item.block said.block) found.now.at (payload_at block_tag found.now.payload) result.1 }
     ensures form { IfOk result.1 (λ said. IsBlock said.block) }
     ensures encoded { IfOk result.1 (λ said. found.now.payload ≡ block_bytes said.block) }
     ensures survey { IfOk result.1 (λ said. IsSurveyed ledger.now said.block.txs said.found) }
 {
-    let payload = found.payload.items();
-    if payload.len() < WORTH_A_THREAD {
-        let digest = hashed.finish(payload);
-        return (digest, with_survey(rt, alloc, ledger, found, workers));
+    let transactions = &found.payload.items()[from..];
+    if transactions.len() < WORTH_A_THREAD {
+        return (
+            digest_of(transactions),
+            with_survey(rt, alloc, ledger, found, workers),
+        );
     }
     join(
         rt,
-        move || -> (usize, Digest)
-            requires { KnowsFirst (Hashes hashed) payload.now }
-            ensures within { result.0 ≤ length payload.entry.now }
-            ensures digest { result.1 ≡ sha256 (drop result.0 payload.entry.now) }
-        { hashed.finish(payload) },
+        || -> Digest
+            ensures { result ≡ sha256 transactions.entry.now }
+        { digest_of(transactions) },
         || -> Result<Surveyed, Stop>
             requires some_worker { 1 ≤ workers }
             requires few_workers { workers ≤ 64 }
@@ -136,22 +173,20 @@ fn transactions_digest(payload: &[u8], block: &Block, from: usize, digest: Diges
 
 /// The block that the payload of a record encodes, with the digest of its transactions, which is made of the payload's
 /// own bytes, and the survey of them on the ledger that the block comes to, for which 1 to 64 workers look accounts and
-/// offers up. `hashed` is what was hashed of the payload while it was read. What is left of many transactions is hashed
-/// on a thread of its own while the block is decoded and surveyed, and the call returns where that thread returns. Where
-/// no thread can be started, the two are done in turn. The answer is the same for every number of workers.
+/// offers up. Many transactions are hashed on a thread of their own while the block is decoded and surveyed, and the
+/// call returns where that thread returns. Where no thread can be started, the two are done in turn. The answer is the
+/// same for every number of workers.
 pub fn decoded_block<R: Threads + Sync>(
     rt: &R,
     alloc: Global,
     ledger: &Ledger,
     found: &Record,
-    hashed: BodyHasher,
     workers: u32,
 ) -> Result<Incoming, Stop>
     requires some_worker { 1 ≤ workers }
     requires few_workers { workers ≤ 64 }
     requires place { found.now.at ≤ 2 ^ 63 + 5 }
     requires fits { length found.now.payload ≤ most_bytes }
-    requires hashed { KnowsFirst (Hashes hashed) found.now.payload }
     ensures exact { Holds item_of found.now.at (payload_at block_tag found.now.payload) result }
     ensures form { IfOk result (λ incoming. IsItem (item_of incoming)) }
     ensures encoded { IfOk result (λ incoming. found.now.payload ≡ payload_of (item_of incoming)) }
@@ -159,81 +194,11 @@ pub fn decoded_block<R: Threads + Sync>(
     ensures survey { IfOk result (IsReady ledger.now) }
 {
     let payload = found.payload.items();
-    let ((from, digest), said) = digest_and_block(rt, alloc, ledger, found, hashed, workers);
+    let from = transactions_begin(payload);
+    let (digest, said) = digest_and_block(rt, alloc, ledger, found, from, workers);
     let Surveyed { block, found } = said?;
     let body = transactions_digest(payload, &block, from, digest);
     Ok(Incoming { block, body, found })
-}
-
-/// A record, and what was hashed of its payload while it was read.
-#[derive(Drop)]
-pub struct Hashed {
-    pub found: Record,
-    pub body: BodyHasher,
-}
-
-/// The next record, whose tag is at this offset and one of these, or none at the end of the input. A thread hashes the
-/// first bytes of a long payload while the next ones are read.
-pub fn next_hashed<R: Threads + Sync, S: Source>(
-    rt: &R,
-    alloc: Global,
-    source: &mut S,
-    at: u64,
-    tags: &[u8],
-) -> Result<Option<Hashed>, Stop>
-    requires { at ≤ 2 ^ 63 }
-    ensures reads { IfOk result (λ next. Reads (record_at tags.now at) (S.left source.old) (S.left source.new) (record_in next)) }
-    ensures stops { IfErr result (Stops (record_at tags.now at) (S.left source.old) (S.left source.new)) }
-    ensures encoded { IfOk result (λ next. TakesRecord (S.left source.old) (S.left source.new) (record_in next)) }
-    ensures known { IfOk result (λ next. IfSome (record_in next) (MayStand tags.now at)) }
-    ensures hashed { IfOk result (λ next. IfSome next IsHashed) }
-    ensures steady { UnlessReadFault result (IsTrue (S.strict source.old) → S.faults source.new ≡ S.faults source.old) }
-    ensures read_fault { IsErrOf result Stop.ReadFault → Rose (S.faults source.old) (S.faults source.new) }
-    ensures falls_never { S.faults source.old ≤ S.faults source.new }
-    ensures kept { S.strict source.new ≡ S.strict source.old }
-{
-    let mut beside = HashingBeside {
-        rt,
-        body: BodyHasher::new(),
-    };
-    match next_beside(alloc, source, at, tags, &mut beside)? {
-        Some(found) => Ok(Some(Hashed {
-            found,
-            body: beside.body,
-        })),
-        None => Ok(None),
-    }
-}
-
-// The next record, which has to be there and to have the tag of a block.
-fn required_hashed<R: Threads + Sync, S: Source>(
-    rt: &R,
-    alloc: Global,
-    source: &mut S,
-    at: u64,
-) -> Result<Hashed, Stop>
-    requires { at ≤ 2 ^ 63 }
-    ensures reads { IfOk result (λ next. Reads (record_at (block_tag ∷ []) at) (S.left source.old) (S.left source.new) (Some next.found)) }
-    ensures stops { IfErr result (Stops (item_at (needed block_tag) at) (S.left source.old) (S.left source.new)) }
-    ensures encoded { IfOk result (λ next. Took (S.left source.old) (S.left source.new) (record_bytes block_tag next.found.payload)) }
-    ensures tag { IfOk result (λ next. next.found.tag ≡ block_tag) }
-    ensures place { IfOk result (λ next. next.found.at ≡ at + frame_bytes) }
-    ensures fits { IfOk result (λ next. length next.found.payload ≤ most_bytes) }
-    ensures hashed { IfOk result IsHashed }
-    ensures steady { UnlessReadFault result (IsTrue (S.strict source.old) → S.faults source.new ≡ S.faults source.old) }
-    ensures read_fault { IsErrOf result Stop.ReadFault → Rose (S.faults source.old) (S.faults source.new) }
-    ensures falls_never { S.faults source.old ≤ S.faults source.new }
-    ensures kept { S.strict source.new ≡ S.strict source.old }
-{
-    let mut beside = HashingBeside {
-        rt,
-        body: BodyHasher::new(),
-    };
-    let found = required_beside(alloc, source, at, tag::BLOCK, &mut beside)?;
-    Ok(Hashed {
-        found,
-        body: beside.body,
-    })
 }
 
 /// The block that the next record holds, which has to be there and to have the tag of a block, with its survey on
@@ -261,8 +226,8 @@ pub fn take_block<R: Threads + Sync, S: Source>(
     ensures falls_never { S.faults source.old ≤ S.faults source.new }
     ensures kept { S.strict source.new ≡ S.strict source.old }
 {
-    let Hashed { found, body } = required_hashed(rt, alloc, source, at)?;
-    let held = decoded_block(rt, alloc, ledger, &found, body, workers)?;
+    let found = required(alloc, source, at, tag::BLOCK)?;
+    let held = decoded_block(rt, alloc, ledger, &found, workers)?;
     let end = end_of(&found);
     Ok(Taken { held, end })
 }

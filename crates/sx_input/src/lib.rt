@@ -9,8 +9,7 @@
 //!
 //! Threads share what takes long. Several read the payload of a large state or of many candidates. A thread makes the
 //! digest of a large state while the state is read, and goes on until the digest is needed ([`StateDigest`]). Another
-//! makes that of many transactions: it hashes the first ones while a block is read ([`BodyHasher`]), and the rest while the
-//! block is decoded and surveyed.
+//! makes that of many transactions while these are decoded and surveyed.
 //!
 //! ```text
 //!     source -> next -> record -> decoded -> ledger, candidates, block, outcomes or script
@@ -25,8 +24,6 @@
 //! Not here: what a command does with what was read, and writing, but for [`written`], the record of a ledger.
 #![tactic(auto)]
 
-mod beginning;
-mod body_hasher;
 mod head;
 mod incoming;
 mod opening;
@@ -34,9 +31,8 @@ mod payloads;
 mod stop;
 mod stream;
 
-pub use body_hasher::BodyHasher;
 pub use head::{Head, written};
-pub use incoming::{Hashed, Incoming, decoded_block, next_hashed, take_block};
+pub use incoming::{Incoming, decoded_block, take_block};
 pub use opening::take_head;
 pub use payloads::{Payload, decoded};
 pub use stop::Stop;

@@ -5,7 +5,6 @@ ghost use Rattle.sx_base.specs.Outside.{Rose};
 ghost use Rattle.sx_input.specs.Stream.{Reads, Stops, TakesRecord, UnlessReadFault, WasAtEnd};
 ghost use Rattle.sx_meaning.specs.Expected.{end_only, item_at, needed};
 ghost use Rattle.sx_meaning.specs.Items.{IsItem, item_record, tag_of};
-ghost use Rattle.sx_record.specs.Beside.{KnowsFirst};
 ghost use Rattle.sx_record.specs.Decoding.{record_at};
 ghost use Rattle.sx_record.specs.Frame.{MayStand, frame_bytes, most_bytes, record_bytes};
 ghost use Rattle.sx_record.specs.Stream.{Took};
@@ -16,7 +15,7 @@ use std::alloc::Global;
 use std::thread::Threads;
 use sx_base::Source;
 use sx_bytes::{Form, FormFault};
-use sx_record::{Alone, Beside, Record, RecordFault, next_record_beside};
+use sx_record::{Record, RecordFault, next_record};
 
 /// A fault of form at this offset.
 pub fn stop_at(at: u64, fault: Form) -> Stop
@@ -34,39 +33,7 @@ pub fn end_of(found: &Record) -> u64
     found.at + found.payload.items().len() as u64
 }
 
-/// The next record, whose tag is at this offset and one of these, or none at the end of the input. The first bytes of its
-/// payload are handed to `beside` while the next ones are read.
-pub fn next_beside<S: Source, B: Beside>(
-    alloc: Global,
-    source: &mut S,
-    at: u64,
-    tags: &[u8],
-    beside: &mut B,
-) -> Result<Option<Record>, Stop>
-    requires place { at ≤ 2 ^ 63 }
-    requires nothing { B.knows beside.old [] }
-    ensures beside { IfOk result (λ found. IfSome found (λ r. KnowsFirst (B.knows beside.new) r.payload)) }
-    ensures reads { IfOk result (Reads (record_at tags.now at) (S.left source.old) (S.left source.new)) }
-    ensures stops { IfErr result (Stops (record_at tags.now at) (S.left source.old) (S.left source.new)) }
-    ensures encoded { IfOk result (TakesRecord (S.left source.old) (S.left source.new)) }
-    ensures known { IfOk result (λ found. IfSome found (MayStand tags.now at)) }
-
-    // The count of faults rises where the answer is ReadFault. At each other answer the count of a
-    // strict source does not change.
-    ensures steady { UnlessReadFault result (IsTrue (S.strict source.old) → S.faults source.new ≡ S.faults source.old) }
-    ensures read_fault { IsErrOf result Stop.ReadFault → Rose (S.faults source.old) (S.faults source.new) }
-    ensures falls_never { S.faults source.old ≤ S.faults source.new }
-    ensures kept { S.strict source.new ≡ S.strict source.old }
-{
-    match next_record_beside(alloc, source, at, tags, beside) {
-        Ok(found) => Ok(found),
-        Err(RecordFault::Form(fault)) => Err(Stop::Malformed(fault)),
-        Err(RecordFault::Failed) => Err(Stop::ReadFault),
-        Err(RecordFault::NoMemory) => Err(Stop::NoMemory),
-    }
-}
-
-/// The same, with nothing beside the reading.
+/// The next record, whose tag is at this offset and one of these, or none at the end of the input.
 pub fn next<S: Source>(
     alloc: Global,
     source: &mut S,
@@ -86,38 +53,15 @@ pub fn next<S: Source>(
     ensures falls_never { S.faults source.old ≤ S.faults source.new }
     ensures kept { S.strict source.new ≡ S.strict source.old }
 {
-    next_beside(alloc, source, at, tags, &mut Alone)
-}
-
-// The next record, which has to be there and to have this tag. The first bytes of its payload are handed to `beside`.
-pub fn required_beside<S: Source, B: Beside>(
-    alloc: Global,
-    source: &mut S,
-    at: u64,
-    wanted: u8,
-    beside: &mut B,
-) -> Result<Record, Stop>
-    requires place { at ≤ 2 ^ 63 }
-    requires nothing { B.knows beside.old [] }
-    ensures beside { IfOk result (λ found. KnowsFirst (B.knows beside.new) found.payload) }
-    ensures reads { IfOk result (λ found. Reads (record_at (wanted ∷ []) at) (S.left source.old) (S.left source.new) (Some found)) }
-    ensures stops { IfErr result (Stops (item_at (needed wanted) at) (S.left source.old) (S.left source.new)) }
-    ensures encoded { IfOk result (λ found. Took (S.left source.old) (S.left source.new) (record_bytes wanted found.payload)) }
-    ensures tag { IfOk result (λ found. found.tag ≡ wanted) }
-    ensures place { IfOk result (λ found. found.at ≡ at + frame_bytes) }
-    ensures fits { IfOk result (λ found. length found.payload ≤ most_bytes) }
-    ensures steady { UnlessReadFault result (IsTrue (S.strict source.old) → S.faults source.new ≡ S.faults source.old) }
-    ensures read_fault { IsErrOf result Stop.ReadFault → Rose (S.faults source.old) (S.faults source.new) }
-    ensures falls_never { S.faults source.old ≤ S.faults source.new }
-    ensures kept { S.strict source.new ≡ S.strict source.old }
-{
-    match next_beside(alloc, source, at, &[wanted], beside)? {
-        Some(found) => Ok(found),
-        None => Err(stop_at(at, Form::Short)),
+    match next_record(alloc, source, at, tags) {
+        Ok(found) => Ok(found),
+        Err(RecordFault::Form(fault)) => Err(Stop::Malformed(fault)),
+        Err(RecordFault::Failed) => Err(Stop::ReadFault),
+        Err(RecordFault::NoMemory) => Err(Stop::NoMemory),
     }
 }
 
-// The same, with nothing beside the reading.
+// The next record, which has to be there and to have this tag.
 pub fn required<S: Source>(
     alloc: Global,
     source: &mut S,
@@ -136,7 +80,10 @@ pub fn required<S: Source>(
     ensures falls_never { S.faults source.old ≤ S.faults source.new }
     ensures kept { S.strict source.new ≡ S.strict source.old }
 {
-    required_beside(alloc, source, at, wanted, &mut Alone)
+    match next(alloc, source, at, &[wanted])? {
+        Some(found) => Ok(found),
+        None => Err(stop_at(at, Form::Short)),
+    }
 }
 
 /// What a record holds, and the offset after it.

@@ -1,4 +1,3 @@
-pub mod Beside
 pub mod Tags
 pub mod Frame
 pub mod Decoding

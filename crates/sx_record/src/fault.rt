@@ -5,7 +5,7 @@ ghost use Rattle.sx_record.specs.declared.fault.RecordFault.TheVariants as recor
 
 use std::alloc::{AllocError, AllocFailed};
 use sx_base::Failed;
-use sx_bytes::{Form, FormFault, NoMemory};
+use sx_bytes::{FormFault, NoMemory};
 use thiserror::Error;
 
 /// Why [`next_record`](crate::next_record) answers no record.
@@ -60,11 +60,4 @@ impl From<FormFault> for RecordFault {
     fn from(fault: FormFault) -> RecordFault {
         RecordFault::Form(fault)
     }
-}
-
-// A fault of form at this offset.
-pub(crate) fn fault_at(at: u64, fault: Form) -> RecordFault
-    ensures { result ≡ RecordFault.Form (record { at = at; fault = fault }) }
-{
-    RecordFault::Form(FormFault { at, fault })
 }

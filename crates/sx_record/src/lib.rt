@@ -7,7 +7,7 @@
 //! length is above the limit. The tag is tested before the length is read, and the length before
 //! the payload. A source may give its bytes in any pieces, and memory grows with the bytes that
 //! have really come: at most 64 KiB or as much again as has come is taken before the bytes are
-//! there. [`next_record_beside`] hands what has come to a [`Beside`] while it reads on.
+//! there.
 //! [`write_record`] appends the one encoding of a record, and [`write_frame`] its first five bytes,
 //! for a caller that appends the payload itself. [`record_laws`] ties reading and writing: encoding
 //! inverts decoding, decoding inverts encoding, and no record is a prefix of another.
@@ -16,7 +16,6 @@
 //! which.
 #![tactic(auto)]
 
-mod beside;
 mod fault;
 mod frame;
 mod laws;
@@ -24,9 +23,8 @@ mod reading;
 pub mod tag;
 mod writing;
 
-pub use beside::{Alone, Beside, fill};
 pub use fault::RecordFault;
 pub use frame::{FRAME_BYTES, MOST_BYTES, Record};
 pub use laws::record_laws;
-pub use reading::{next_record, next_record_beside};
+pub use reading::next_record;
 pub use writing::{write_frame, write_record};

@@ -3,44 +3,37 @@
 ghost use Rattle.std.specs.Prelude.{◌≡◌, ◌+◌, ◌-◌, ◌^◌, ◌<◌, ◌≤◌, ◌∷◌, [], length, Contains, IfOk, OnOk, IfSome, IsErrOf, IsTrue, vec_len};
 ghost use Rattle.byteorder.specs.Endian.{big_bytes, big_number};
 ghost use Rattle.sx_base.specs.Outside.{Rose};
-ghost use Rattle.sx_record.specs.Beside.{KnowsFirst};
 ghost use Rattle.sx_record.specs.Frame.{most_bytes, frame_bytes, record_bytes, MayStand};
 ghost use Rattle.sx_record.specs.Decoding.{length_at, record_at};
 ghost use Rattle.sx_record.specs.Stream.{Took, Adds, EndsShort, DecodesStream, HasTag, UnlessFailed, IfForm};
 
-use crate::beside::{Alone, Beside, fill};
-use crate::fault::{RecordFault, fault_at};
+use crate::fault::RecordFault;
 use crate::frame::{FRAME_BYTES, MOST_BYTES, Record};
 use byteorder::{BigEndian, ByteOrder};
 use std::alloc::Global;
-use sx_base::Source;
-use sx_bytes::{Bytes, Form, NoMemory};
+use sx_base::{Source, TakeFault, take_exact};
+use sx_bytes::{Bytes, Form, FormFault, NoMemory};
 
 // The memory that is taken for a payload before any of it has come, in bytes.
 const FIRST_PIECE: usize = 65_536;
 
-// How many bytes of a payload are read at a time: so many that it is worth starting a thread beside the reading, which
-// takes up to a millisecond on a busy machine.
-const MOST_AT_ONCE: usize = 1 << 22;
+// How many bytes of a payload are read at a time. They are still in a processor's cache from being zeroed then.
+const MOST_AT_ONCE: usize = 1 << 18;
 
 /// Reads the next record. `at` is the offset of its tag, and `tags` are those that are allowed here.
-///
-/// The first bytes of its payload are handed to `beside` while the next ones are read.
 ///
 /// `None` comes exactly where the input ends before the record begins. `RecordFault::Form` is the
 /// first fault: Short at the first byte that is missing inside the record, Tag at a tag that is not
 /// in `tags`, TooLong at a length above 67,108,864. The tag is tested before the length is read.
 /// `RecordFault::Failed` comes only where the source's count of faults rose in the call. Where it
 /// comes, or where memory ran out, the source may have been read further.
-pub fn next_record_beside<S: Source, B: Beside>(
+pub fn next_record<S: Source>(
     alloc: Global,
     source: &mut S,
     at: u64,
     tags: &[u8],
-    beside: &mut B,
 ) -> Result<Option<Record>, RecordFault>
-    requires place { at ≤ 2 ^ 63 }
-    requires nothing { B.knows beside.old [] }
+    requires { at ≤ 2 ^ 63 }
 
     // What is answered, and what is left of a source that tells its bytes.
     ensures exact { DecodesStream (record_at tags.now at) (S.left source.old) (S.left source.new) result }
@@ -51,9 +44,6 @@ pub fn next_record_beside<S: Source, B: Beside>(
 
     // What is known of a record from any source.
     ensures known { IfOk result (λ found. IfSome found (MayStand tags.now at)) }
-
-    // What was done with the first bytes of the payload.
-    ensures beside { IfOk result (λ found. IfSome found (λ r. KnowsFirst (B.knows beside.new) r.payload)) }
 
     // The count of faults rises where the answer is Failed. At each other answer, NoMemory among
     // them, the count of a strict source does not change.
@@ -69,7 +59,7 @@ pub fn next_record_beside<S: Source, B: Beside>(
         return Err(fault_at(at, Form::Tag));
     }
     let size = next_length(source, at + 1)?;
-    let payload = next_payload(alloc, source, at + FRAME_BYTES, size, beside)?;
+    let payload = next_payload(alloc, source, at + FRAME_BYTES, size)?;
     Ok(Some(Record {
         tag,
         at: at + FRAME_BYTES,
@@ -77,24 +67,28 @@ pub fn next_record_beside<S: Source, B: Beside>(
     }))
 }
 
-/// The same, with nothing beside the reading.
-pub fn next_record<S: Source>(
-    alloc: Global,
-    source: &mut S,
-    at: u64,
-    tags: &[u8],
-) -> Result<Option<Record>, RecordFault>
-    requires { at ≤ 2 ^ 63 }
-    ensures exact { DecodesStream (record_at tags.now at) (S.left source.old) (S.left source.new) result }
-    ensures encoded { IfOk result (λ found. IfSome found (λ r.
-        Took (S.left source.old) (S.left source.new) (record_bytes r.tag r.payload))) }
-    ensures known { IfOk result (λ found. IfSome found (MayStand tags.now at)) }
+fn fault_at(at: u64, fault: Form) -> RecordFault
+    ensures { result ≡ RecordFault.Form (record { at = at; fault = fault }) }
+{
+    RecordFault::Form(FormFault { at, fault })
+}
+
+// Fills a slice with the next bytes, of which the first is at this offset.
+fn fill<S: Source>(source: &mut S, at: u64, into: &mut [u8]) -> Result<(), RecordFault>
+    requires { at + length into.old < 2 ^ 64 }
+    ensures ok { OnOk result (Took (S.left source.old) (S.left source.new) into.new) }
+    ensures form { IfForm result (λ fault.
+        EndsShort (S.left source.old) (S.left source.new) (length into.old) at fault) }
     ensures steady { UnlessFailed result (IsTrue (S.strict source.old) → S.faults source.new ≡ S.faults source.old) }
     ensures failed { IsErrOf result RecordFault.Failed → Rose (S.faults source.old) (S.faults source.new) }
     ensures falls_never { S.faults source.old ≤ S.faults source.new }
     ensures kept { S.strict source.new ≡ S.strict source.old }
 {
-    next_record_beside(alloc, source, at, tags, &mut Alone)
+    match take_exact(source, into) {
+        Ok(()) => Ok(()),
+        Err(TakeFault::Failed) => Err(RecordFault::Failed),
+        Err(TakeFault::Ended { got }) => Err(fault_at(at + got as u64, Form::Short)),
+    }
 }
 
 // The tag of the next record, if there is one.
@@ -143,16 +137,13 @@ fn length_in(field: &[u8]) -> u32
 }
 
 // The next `size` bytes, of which the first is at this offset.
-fn next_payload<S: Source, B: Beside>(
+fn next_payload<S: Source>(
     alloc: Global,
     source: &mut S,
     at: u64,
     size: u32,
-    beside: &mut B,
 ) -> Result<Vec<u8>, RecordFault>
-    requires place { at ≤ 2 ^ 63 + 5 }
-    requires nothing { B.knows beside.old [] }
-    ensures beside { IfOk result (λ payload. KnowsFirst (B.knows beside.new) payload.items) }
+    requires { at ≤ 2 ^ 63 + 5 }
     ensures ok { IfOk result (λ payload. Took (S.left source.old) (S.left source.new) payload.items) }
     ensures whole { IfOk result (λ payload. length payload.items ≡ size) }
     ensures form { IfForm result (λ fault.
@@ -164,7 +155,7 @@ fn next_payload<S: Source, B: Beside>(
 {
     let mut payload = Vec::new(alloc);
     while payload.len() < size as usize {
-        take_piece(source, at, size as usize, &mut payload, beside)?;
+        take_piece(source, at, size as usize, &mut payload)?;
     }
     Ok(payload)
 }
@@ -183,17 +174,14 @@ fn make_room(payload: &mut Vec<u8>, size: usize, piece: usize) -> Result<(), NoM
 }
 
 // Appends the next bytes of the payload to those that have come.
-fn take_piece<S: Source, B: Beside>(
+fn take_piece<S: Source>(
     source: &mut S,
     at: u64,
     size: usize,
     payload: &mut Vec<u8>,
-    beside: &mut B,
 ) -> Result<(), RecordFault>
     requires missing { vec_len payload.old < size }
     requires room { at + size < 2 ^ 64 }
-    requires knows { KnowsFirst (B.knows beside.old) payload.old.items }
-    ensures knows { OnOk result (KnowsFirst (B.knows beside.new) payload.new.items) }
     ensures ok { OnOk result (Adds (S.left source.old) (S.left source.new) payload.old.items payload.new.items) }
     ensures more { OnOk result (vec_len payload.old < vec_len payload.new) }
     ensures within { OnOk result (vec_len payload.new ≤ size) }
@@ -208,6 +196,5 @@ fn take_piece<S: Source, B: Beside>(
     let piece = come.clamp(FIRST_PIECE, MOST_AT_ONCE).min(size - come);
     make_room(payload, size, piece)?;
     payload.resize(come + piece, 0)?;
-    let (front, back) = payload.split_at_mut(come);
-    beside.fill(source, at + come as u64, front, back)
+    fill(source, at + come as u64, &mut payload[come..])
 }

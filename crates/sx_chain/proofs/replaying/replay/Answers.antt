@@ -27,14 +27,14 @@ returns-in_err-found-clause-found g c =
 pub returns-in_err-place-clause-found : goal.returns-in_err-place-clause-found
 returns-in_err-place-clause-found g c =
     let p = err_from_is_err_and c.from_residual-in_err-place.result c.from_residual-in_err-place.ensures.1 in
-    rw (p.1, p.2) (fails _ _ _ c.loop-place.place c.in-Some.found.found c.in_err-place.field-0.0
+    rw (p.1, p.2) (fails _ _ _ c.loop-place.place c.in-Some.found c.in_err-place.field-0.0
     c.loop-place.invariant.replayed
     (rw (c.tags.ensures, c.in-Some.is) at c.in_ok-found.ensures.reads)
     (rw c.in-Some.is at c.in_ok-found.ensures.encoded) c.in_err-place.ensures)
 
 pub loop-place-preserved : goal.loop-place-preserved
 loop-place-preserved g c = record {
-  replayed = goes_on _ _ _ c.loop-place.place c.in_ok-place.place c.in-Some.found.found c.loop-place.invariant.replayed
+  replayed = goes_on _ _ _ c.loop-place.place c.in_ok-place.place c.in-Some.found c.loop-place.invariant.replayed
       (rw c.in-Some.is at c.in_ok-found.ensures.encoded)
       (rw (c.tags.ensures, c.in-Some.is) at c.in_ok-found.ensures.known) c.in_ok-place.ensures;
   falls_never = search rules;

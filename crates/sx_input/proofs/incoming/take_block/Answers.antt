@@ -9,15 +9,15 @@ use Rattle.sx_record.specs.Tags.{block_tag}
 pub returns-in_err-held-clause-stops : goal.returns-in_err-held-clause-stops
 returns-in_err-held-clause-stops g c =
     let p = err_from_is_err_and c.from_residual-in_err-held.result c.from_residual-in_err-held.ensures.1 in
-    rw (p.1, p.2) (payload_stops block_tag c.args.at _ _ c.in_ok-found.field-0.found c.in_err-held.field-0.0
+    rw (p.1, p.2) (payload_stops block_tag c.args.at _ _ c.in_ok-found.found c.in_err-held.field-0.0
     c.in_ok-found.ensures.reads c.in_ok-found.ensures.tag c.in_err-held.ensures.exact)
 
 pub returns-clause-took : goal.returns-clause-took
 returns-clause-took g c =
-    took_item block_tag c.in_ok-found.field-0.found.payload (item_of c.in_ok-held.held) refl c.in_ok-held.ensures.encoded _ _
+    took_item block_tag c.in_ok-found.found.payload (item_of c.in_ok-held.held) refl c.in_ok-held.ensures.encoded _ _
     c.in_ok-found.ensures.encoded
 
 pub returns-clause-end : goal.returns-clause-end
 returns-clause-end g c =
-    ends_after block_tag c.in_ok-found.field-0.found.payload (item_of c.in_ok-held.held) refl c.in_ok-held.ensures.encoded
-    c.args.at c.in_ok-found.field-0.found.at c.end_of-end.result c.in_ok-found.ensures.place c.end_of-end.ensures
+    ends_after block_tag c.in_ok-found.found.payload (item_of c.in_ok-held.held) refl c.in_ok-held.ensures.encoded
+    c.args.at c.in_ok-found.found.at c.end_of-end.result c.in_ok-found.ensures.place c.end_of-end.ensures

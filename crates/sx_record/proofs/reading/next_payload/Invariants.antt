@@ -1,6 +1,5 @@
 use Rattle.std.proofs.Common.{◌≡◌, ◌-◌, ◌≤◌, vec_len}
 use Rattle.std.specs.Prelude.{IsTrue}
-use Rattle.sx_record.specs.Beside.{KnowsFirst}
 use Rattle.sx_record.specs.Stream.{Took}
 use Rattle.sx_record.proofs.reading.next_payload.Given as goal
 
@@ -10,7 +9,6 @@ invariant-loop-source g l = record {
   took : Took (g.S.Source.left l.fn.source) (g.S.Source.left l.source) l.payload.items;
   kept : g.S.Source.strict l.source ≡ g.S.Source.strict l.fn.source;
   steady : IsTrue (g.S.Source.strict l.fn.source) → g.S.Source.faults l.source ≡ g.S.Source.faults l.fn.source;
-  knows : KnowsFirst (g.B.Beside.knows l.beside) l.payload.items;
   rises : g.S.Source.faults l.fn.source ≤ g.S.Source.faults l.source;
 }
 

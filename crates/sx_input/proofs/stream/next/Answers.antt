@@ -1,5 +1,5 @@
 use Rattle.sx_input.proofs.Faults.{takes_record}
-use Rattle.sx_input.proofs.stream.next_beside.Goals as goal
+use Rattle.sx_input.proofs.stream.next.Goals as goal
 
 pub returns-in-Ok-clause-encoded : goal.returns-in-Ok-clause-encoded
 returns-in-Ok-clause-encoded g c =

@@ -1,7 +1,7 @@
 use Rattle.std.proofs.Common.{sym, ◌∙◌}
 use Rattle.std.proofs.lemmas.Result.{err_from_is_err_and}
 use Rattle.sx_record.proofs.Framing.{none_read, tag_refused, length_fails, payload_fails, record_read}
-use Rattle.sx_record.proofs.reading.next_record_beside.Goals as goal
+use Rattle.sx_record.proofs.reading.next_record.Goals as goal
 
 pub returns-in_default-clause-exact : goal.returns-in_default-clause-exact
 returns-in_default-clause-exact g c =
