@@ -33,6 +33,7 @@ pub mod RunningTotals
 pub mod TotalsInRange
 pub mod EntriesInOrder
 pub mod OwnersLater
+pub mod SoundOffers
 pub mod DependentParts
 pub mod WindowFields
 pub mod AccountLaws

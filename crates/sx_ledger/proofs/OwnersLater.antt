@@ -1,6 +1,6 @@
 -- Offers whose owners are looked up once all are read.
-use Rattle.std.proofs.Common.{◌≡◌, ℕ, zero, suc, Bool, true, List, [], ◌∷◌, length, Option, Some, Result, Ok, Err, refl, ap}
-use Rattle.std.proofs.Common.{◌∙◌, arith}
+use Rattle.std.proofs.Common.{◌≡◌, ℕ, zero, suc, true, List, ◌∷◌, Option, Some, Result, Ok, Err, refl, ap}
+use Rattle.std.proofs.Common.{◌∙◌}
 use Rattle.std.specs.List.{list_all}
 use Rattle.sx_bytes.specs.declared.fault.Form.TheVariants as form
 use Rattle.sx_bytes.specs.Cursor.{Cursor}
@@ -14,7 +14,6 @@ use Rattle.sx_ledger.specs.declared.offer.Offer.{Offer}
 use Rattle.sx_ledger.specs.Decoding.{each_at, guarded, next_offer_at, offer_at, offers_at, placed_offer_at}
 use Rattle.sx_ledger.specs.Decoding.{placed_offers_at}
 use Rattle.sx_ledger.specs.Ledger.{has_owner}
-use Rattle.sx_ledger.specs.Owners.{AreOwned}
 use Rattle.sx_ledger.specs.Order.{key_before, key_of}
 use Rattle.sx_ledger.proofs.EntriesInOrder.{each_more}
 
@@ -60,15 +59,3 @@ all_owned accounts assets (suc n) before c next offers e owned =
     let others : offers_at accounts assets n (Some (key_of a.0.0)) a.0.1 ≡ Ok (b.0.0, b.0.1) =
     all_owned accounts assets n (Some (key_of a.0.0)) a.0.1 b.0.1 b.0.0 b.1 both.1 in
     each_more (next_offer_at accounts assets) key_of n before c a.0.1 b.0.1 a.0.0 b.0.0 first others ∙ b.2
-
--- all are told to have owners where all have
-pub told_all : (accounts : List Account) (offers : List Offer) (owned : List Bool) → length owned ≡ length offers
-    → AreOwned accounts offers owned → list_all (λ b. b) owned ≡ list_all (has_owner accounts) offers
-told_all accounts [] [] same are = refl
-told_all accounts [] (b ∷ owned) same are = absurd (omega arith)
-told_all accounts (offer ∷ offers) [] same are = absurd (omega arith)
-told_all accounts (offer ∷ offers) (b ∷ owned) same are =
-    let first : b ≡ has_owner accounts offer = are 0 true (omega arith) offer refl in
-    let others : list_all (λ b. b) owned ≡ list_all (has_owner accounts) offers =
-    told_all accounts offers owned (omega arith) (λ place d lt. are (suc place) d (omega arith)) in
-    rw (first, others) refl

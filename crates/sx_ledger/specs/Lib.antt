@@ -1,5 +1,5 @@
 pub mod Order
-pub mod Owners
+pub mod SoundOffers
 pub mod Ledger
 pub mod Encoding
 pub mod Decoding

@@ -1,10 +1,11 @@
 //! Reading the offers of a state.
 
 ghost use Rattle.std.specs.Prelude.{◌≡◌, ◌≤◌, None, Ok, IfOk, IfSome, length};
+ghost use Rattle.std.specs.List.{list_all};
 ghost use Rattle.std.specs.List.Sorted.{IsStrictlyIncreasing};
 ghost use Rattle.sx_base.specs.Ranges.{most_assets};
 ghost use Rattle.sx_bytes.specs.Grammar.{DecodesOrStrays, MayDecodeOrStray, may_follow};
-ghost use Rattle.sx_ledger.specs.Ledger.{ids, most_accounts};
+ghost use Rattle.sx_ledger.specs.Ledger.{has_owner as is_owned, ids, most_accounts};
 ghost use Rattle.sx_ledger.specs.Order.{key_before};
 ghost use Rattle.sx_ledger.specs.Decoding.{sell_at, buy_at, offer_at, placed_offer_at, placed_offers_at};
 ghost use Rattle.sx_ledger.specs.Decoding.{next_offer_at, offers_at, offer_list_at};
@@ -15,7 +16,7 @@ use crate::index::AccountIndex;
 use crate::key::Key;
 use crate::ledger::Ledger;
 use crate::offer::{Offer, Offers};
-use crate::owners::Owners;
+use crate::offer_readers::OfferReader;
 use crate::reading::refusal;
 use crate::sizes::OFFER_BYTES;
 use std::alloc::Global;
@@ -56,7 +57,7 @@ fn buy(from: &mut Reader, assets: u8, sell: AssetId) -> Result<AssetId, FormFaul
 
 #[inline]
 #[tactic(auto, unfolding(crate::specs::Decoding::offer_at))]
-fn offer(from: &mut Reader, assets: u8) -> Result<Offer, FormFault>
+pub fn offer(from: &mut Reader, assets: u8) -> Result<Offer, FormFault>
     requires some { 1 ≤ assets }
     requires few { assets ≤ most_assets }
     ensures exact { DecodesOrStrays (λ x. x) (offer_at assets from.old) from.new result }
@@ -80,7 +81,8 @@ fn offer(from: &mut Reader, assets: u8) -> Result<Offer, FormFault>
 }
 
 // Whether an offer of this key may stand after the one before it.
-fn follows(before: Option<Key>, key: &Key) -> bool
+#[inline]
+pub fn follows(before: Option<Key>, key: &Key) -> bool
     ensures { result ≡ may_follow key_before before key.now }
 {
     match before {
@@ -153,10 +155,16 @@ fn placed_offers(
     Ok(Offers::of(offers))
 }
 
+fn all_owned(index: &AccountIndex, accounts: &[Account], offers: &[Offer]) -> bool
+    requires { index.now ≡ ids accounts.now }
+    ensures { result ≡ list_all (is_owned accounts.now) offers.now }
+{
+    offers.iter().all(|offer| has_owner(index, accounts, offer))
+}
+
 // The offers at the place, or none where anything is amiss. All are read before their owners are looked up.
 #[tactic(auto, using(crate::proofs::OwnersLater::all_owned))]
-fn sound_offers<O: Owners>(
-    owners: &O,
+pub fn sound_offers(
     alloc: Global,
     from: &mut Reader,
     assets: u8,
@@ -164,7 +172,6 @@ fn sound_offers<O: Owners>(
     accounts: &[Account],
     count: u32,
 ) -> Result<Option<Offers>, NoMemory>
-    requires ready { O.is_ready }
     requires some { 1 ≤ assets }
     requires few { assets ≤ most_assets }
     requires indexed { index.now ≡ ids accounts.now }
@@ -177,7 +184,7 @@ fn sound_offers<O: Owners>(
         Err(ReadError::NoMemory) => return Err(NoMemory),
         Err(ReadError::Form(_)) => return Ok(None),
     };
-    if !owners.are_there(alloc, index, accounts, offers.items())? {
+    if !all_owned(index, accounts, offers.items()) {
         return Ok(None);
     }
     Ok(Some(offers))
@@ -211,8 +218,8 @@ fn offers(
 // The offers at the place, by these accounts: how many there are, and each of them. What is amiss is found by reading
 // them once more.
 #[tactic(auto, unfolding(crate::specs::Decoding::offer_list_at))]
-pub fn offer_list<O: Owners>(
-    owners: &O,
+pub fn offer_list<O: OfferReader>(
+    offer_reader: &O,
     alloc: Global,
     from: &mut Reader,
     assets: u8,
@@ -228,7 +235,7 @@ pub fn offer_list<O: Owners>(
     let count = from.field_u32(0, Ledger::MOST_OFFERS, Form::TooMany)?;
     let index = AccountIndex::of(alloc, accounts)?;
     let place = from.place();
-    if let Some(offers) = sound_offers(owners, alloc, from, assets, &index, accounts, count)? {
+    if let Some(offers) = offer_reader.sound_offers(alloc, from, assets, &index, accounts, count)? {
         return Ok(offers);
     }
     from.back(place);

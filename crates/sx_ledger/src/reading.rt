@@ -13,8 +13,8 @@ ghost use Rattle.sx_ledger.specs.Decoding.{price_at, units_field_at, head_at, pa
 use crate::account::Accounts;
 use crate::account_reading::account_list;
 use crate::ledger::Ledger;
+use crate::offer_readers::{Alone, OfferReader, Spread};
 use crate::offer_reading::offer_list;
-use crate::owners::{Alone, Owners, Spread};
 use crate::parts::Parts;
 use crate::totals::totals_fit;
 use std::alloc::Global;
@@ -110,7 +110,11 @@ fn read_head(alloc: Global, from: &mut Reader) -> Result<Head, ReadError>
 }
 
 #[tactic(auto, unfolding(crate::specs::Decoding::parts_at))]
-fn parts<O: Owners>(owners: &O, alloc: Global, from: &mut Reader) -> Result<Parts, ReadError>
+fn parts<O: OfferReader>(
+    offer_reader: &O,
+    alloc: Global,
+    from: &mut Reader,
+) -> Result<Parts, ReadError>
     requires { O.is_ready }
     ensures { MayDecodeOrStray (λ parts. parts) (parts_at from.old) from.new result }
 {
@@ -122,7 +126,7 @@ fn parts<O: Owners>(owners: &O, alloc: Global, from: &mut Reader) -> Result<Part
     } = read_head(alloc, from)?;
     let assets = prices.items().len() as u8;
     let accounts = account_list(alloc, from, version, assets)?;
-    let offers = offer_list(owners, alloc, from, assets, &accounts)?;
+    let offers = offer_list(offer_reader, alloc, from, assets, &accounts)?;
     Ok(Parts {
         version,
         height,
@@ -134,12 +138,16 @@ fn parts<O: Owners>(owners: &O, alloc: Global, from: &mut Reader) -> Result<Part
 }
 
 #[tactic(auto, unfolding(crate::specs::Decoding::state_at))]
-fn whole<O: Owners>(owners: &O, alloc: Global, payload: &[u8]) -> Result<Parts, ReadError>
+fn whole<O: OfferReader>(
+    offer_reader: &O,
+    alloc: Global,
+    payload: &[u8],
+) -> Result<Parts, ReadError>
     requires { O.is_ready }
     ensures { Gives (λ parts. parts) result (state_at payload.now) }
 {
     let mut from = Reader::new(payload);
-    let parts = parts(owners, alloc, &mut from)?;
+    let parts = parts(offer_reader, alloc, &mut from)?;
     if !totals_fit(&parts) {
         return Err(refusal(0, Form::Total));
     }
@@ -149,14 +157,18 @@ fn whole<O: Owners>(owners: &O, alloc: Global, payload: &[u8]) -> Result<Parts, 
     Ok(parts)
 }
 
-fn read_ledger<O: Owners>(owners: &O, alloc: Global, payload: &[u8]) -> Result<Ledger, ReadError>
+fn read_ledger<O: OfferReader>(
+    offer_reader: &O,
+    alloc: Global,
+    payload: &[u8],
+) -> Result<Ledger, ReadError>
     requires { O.is_ready }
     ensures found { IfOk result (λ ledger. IsLedger ledger × (payload.now ≡ state_bytes ledger)) }
     ensures only { (parts : Parts) → IsLedger parts → payload.now ≡ state_bytes parts →
         Gives (λ ledger. ledger) result (Ok parts) }
     ensures exact { Gives (λ ledger. ledger) result (state_at payload.now) }
 {
-    let parts = whole(owners, alloc, payload)?;
+    let parts = whole(offer_reader, alloc, payload)?;
     Ok(Ledger::of(parts))
 }
 
@@ -183,7 +195,8 @@ pub fn read_state(alloc: Global, payload: &[u8]) -> Result<Ledger, ReadError>
     read_ledger(&Alone, alloc, payload)
 }
 
-/// The same as [`read_state`], but that so many workers look up the owners of the offers.
+/// The same as [`read_state`], but that as many as `workers` threads decode the offers of a long state and look up
+/// their owners.
 pub fn par_read_state<R: Threads + Sync>(
     rt: &R,
     alloc: Global,
