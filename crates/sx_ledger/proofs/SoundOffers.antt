@@ -1,20 +1,21 @@
 -- Offers that are decoded first and tested then.
-use Rattle.std.proofs.Common.{◌≡◌, ℕ, zero, suc, ◌-◌, ◌≤◌, Bool, true, List, [], ◌∷◌, length, Option, Some}
-use Rattle.std.proofs.Common.{Ok, refl, sym, ap, ◌∙◌, arith}
+use Rattle.std.proofs.Common.{◌≡◌, ℕ, zero, suc, ◌-◌, ◌≤◌, Bool, true, List, [], ◌∷◌, length, Option, Some, None}
+use Rattle.std.proofs.Common.{Ok, refl, sym, ap, subst, ◌∙◌, arith}
 use Rattle.std.specs.Prelude.{slice_get}
 use Rattle.std.specs.List.{list_all}
 use Rattle.sx_bytes.specs.Cursor.{Cursor}
-use Rattle.sx_bytes.specs.Grammar.{◌>>=◌, many_at, may_follow}
+use Rattle.sx_bytes.specs.declared.fault.Form.TheVariants as form
+use Rattle.sx_bytes.specs.Grammar.{between, field_at, ◌>>=◌, many_at, may_follow}
 use Rattle.sx_bytes.proofs.Grammar.{bind_ok}
 use Rattle.sx_bytes.proofs.Ordered.{and_parts}
 use Rattle.sx_bytes.proofs.Parts.{made_is}
 use Rattle.sx_ledger.specs.declared.account.Account.{Account}
 use Rattle.sx_ledger.specs.declared.key.Key.{Key}
 use Rattle.sx_ledger.specs.declared.offer.Offer.{Offer}
-use Rattle.sx_ledger.specs.Decoding.{each_at, next_offer_at, offer_at, offers_at}
-use Rattle.sx_ledger.specs.Ledger.{has_owner}
+use Rattle.sx_ledger.specs.Decoding.{offer_list_at, each_at, next_offer_at, offer_at, offers_at}
+use Rattle.sx_ledger.specs.Ledger.{has_owner, most_offers}
 use Rattle.sx_ledger.specs.Order.{key_before, key_of}
-use Rattle.sx_ledger.specs.SoundOffers.{AreTold, all_stand, key_ahead, may_stand}
+use Rattle.sx_ledger.specs.SoundOffers.{AreAhead, AreOffersAt, listed_at, AreTold, all_stand, key_ahead, may_stand}
 use Rattle.sx_ledger.proofs.EntriesInOrder.{each_more}
 
 -- an offer that may stand at its place is the next one
@@ -45,6 +46,34 @@ all_sound accounts assets (suc n) before c next offers e stand =
     let others : offers_at accounts assets n (Some (key_of a.0.0)) a.0.1 ≡ Ok (b.0.0, b.0.1) =
     all_sound accounts assets n (Some (key_of a.0.0)) a.0.1 b.0.1 b.0.0 b.1 both.1 in
     each_more (next_offer_at accounts assets) key_of n before c a.0.1 b.0.1 a.0.0 b.0.0 first others ∙ b.2
+
+-- the same with their number before them
+pub all_listed : (accounts : List Account) (assets : ℕ) (c next : Cursor) (offers : List Offer)
+    → listed_at assets c ≡ Ok (offers, next) → all_stand accounts None offers ≡ true
+    → offer_list_at accounts assets c ≡ Ok (offers, next)
+unfolding listed_at offer_list_at
+all_listed accounts assets c next offers e stand =
+    let a = bind_ok (field_at 4 (between 0 most_offers) form.TooMany c)
+    (λ count. many_at (offer_at assets) count.0 count.1) (offers, next) e in
+    rw a.1 (all_sound accounts assets a.0.0 None a.0.1 next offers a.2 stand)
+
+-- the number of offers, and so many offers after it
+pub listed_is : (payload : List ℕ) (from mid : Cursor) (assets count place begin end : ℕ) (offers : List Offer)
+    → from ≡ record { bytes = payload; place = begin }
+    → field_at 4 (between 0 most_offers) form.TooMany from ≡ Ok (count, mid) → mid.bytes ≡ from.bytes
+    → place ≡ mid.place → AreOffersAt payload assets place count offers end
+    → AreAhead assets (record { bytes = payload; place = begin }) offers end
+unfolding listed_at
+listed_is payload from mid assets count place begin end offers from_is read same place_is decoded =
+    let bytes : payload ≡ mid.bytes = sym (same ∙ ap (λ (c : Cursor). c.bytes) from_is) in
+    let begins : record { bytes = payload; place = place } ≡ mid =
+    ap (λ (xs : List ℕ). record { bytes = xs; place = place }) bytes
+    ∙ ap (λ (p : ℕ). record { bytes = mid.bytes; place = p }) place_is in
+    let many : many_at (offer_at assets) count mid ≡ Ok (offers, record { bytes = payload; place = end }) =
+    subst (λ (c : Cursor). many_at (offer_at assets) count c ≡ Ok (offers, record { bytes = payload; place = end }))
+    begins decoded in
+    subst (λ (c : Cursor). listed_at assets c ≡ Ok (offers, record { bytes = payload; place = end })) from_is
+    (rw read many)
 
 -- all are told to stand where all may
 pub told_all : (accounts : List Account) (before : Option Key) (offers : List Offer) (told : List Bool)

@@ -1,13 +1,16 @@
 -- Offers that are decoded first, and of which it is tested then whether each stands after the one before it and has an
 -- owner, place by place.
-use Rattle.std.specs.Prelude.{◌≡◌, ℕ, zero, suc, ◌<◌, Bool, true, ◌&&◌, List, [], ◌∷◌, length, Option, Some, None, Ok}
-use Rattle.std.specs.Prelude.{slice_get, slice_index_or}
-use Rattle.sx_bytes.specs.Grammar.{many_at, may_follow}
+use Rattle.std.specs.Prelude.{◌≡◌, ℕ, zero, suc, ◌<◌, Bool, true, ◌&&◌, List, [], ◌∷◌, length, Option, Some, None, Result}
+use Rattle.std.specs.Prelude.{Ok, slice_get, slice_index_or}
+use Rattle.sx_bytes.specs.declared.fault.Form.TheVariants as form
+use Rattle.sx_bytes.specs.declared.fault.FormFault.{FormFault}
+use Rattle.sx_bytes.specs.Cursor.{Cursor}
+use Rattle.sx_bytes.specs.Grammar.{◌>>=◌, between, field_at, many_at, may_follow}
 use Rattle.sx_ledger.specs.declared.account.Account.{Account}
 use Rattle.sx_ledger.specs.declared.key.Key.{Key}
 use Rattle.sx_ledger.specs.declared.offer.Offer.{Offer}
 use Rattle.sx_ledger.specs.Decoding.{offer_at}
-use Rattle.sx_ledger.specs.Ledger.{has_owner}
+use Rattle.sx_ledger.specs.Ledger.{has_owner, most_offers}
 use Rattle.sx_ledger.specs.Order.{key_before, key_of}
 
 -- so many offers at a place of the bytes, whatever order they stand in and whoever they are of, and where they end
@@ -15,6 +18,16 @@ abbrev pub AreOffersAt : List ℕ → ℕ → ℕ → ℕ → List Offer → ℕ
 AreOffersAt bytes assets place count offers end =
     many_at (offer_at assets) count (record { bytes = bytes; place = place })
     ≡ Ok (offers, record { bytes = bytes; place = end })
+
+-- the number of offers, and so many of them, whatever order they stand in and whoever they are of
+unfoldable pub listed_at : ℕ → Cursor → Result (List Offer × Cursor) FormFault
+listed_at assets c = do
+  count ← field_at 4 (between 0 most_offers) form.TooMany c
+  many_at (offer_at assets) count.0 count.1
+
+-- these are the offers at a place, and they end there
+abbrev pub AreAhead : ℕ → Cursor → List Offer → ℕ → Type 0
+AreAhead assets c offers end = listed_at assets c ≡ Ok (offers, record { bytes = c.bytes; place = end })
 
 -- the key before the offer at a place, where the first one has this key before it
 unfoldable pub key_ahead : Option Key → List Offer → ℕ → Option Key

@@ -82,10 +82,12 @@ fn next_account(
     assets: u8,
     before: Option<u64>,
 ) -> Result<Account, ReadError>
-    ensures { MayDecodeOrStray (λ account. account) (next_account_at version assets before from.old) from.new result }
+    ensures exact { MayDecodeOrStray (λ account. account) (next_account_at version assets before from.old) from.new result }
+    ensures same { from.new.bytes ≡ from.old.bytes }
+    ensures onward { from.old.place ≤ from.new.place }
 {
     let at = from.place();
-    let account = read_account(alloc, from, version, assets)?;
+    let account = account(alloc, from, version, assets)?;
     if let Some(before) = before {
         if account.id.0 <= before {
             return Err(refusal(at, Form::Order));
@@ -102,7 +104,9 @@ fn accounts(
     assets: u8,
     count: u32,
 ) -> Result<Vec<Account>, ReadError>
-    ensures { MayDecodeOrStray (λ v. v.items) (accounts_at version assets count None from.old) from.new result }
+    ensures exact { MayDecodeOrStray (λ v. v.items) (accounts_at version assets count None from.old) from.new result }
+    ensures same { from.new.bytes ≡ from.old.bytes }
+    ensures onward { from.old.place ≤ from.new.place }
 {
     let room = from.left() / ACCOUNT_BYTES as usize;
     let mut accounts = Vec::with_capacity(alloc, room.min(count as usize))?;
@@ -123,7 +127,9 @@ pub fn account_list(
     version: u8,
     assets: u8,
 ) -> Result<Vec<Account>, ReadError>
-    ensures { MayDecodeOrStray (λ v. v.items) (account_list_at version assets from.old) from.new result }
+    ensures exact { MayDecodeOrStray (λ v. v.items) (account_list_at version assets from.old) from.new result }
+    ensures same { from.new.bytes ≡ from.old.bytes }
+    ensures onward { from.old.place ≤ from.new.place }
 {
     let count = from.field_u32(0, Ledger::MOST_ACCOUNTS, Form::TooMany)?;
     accounts(alloc, from, version, assets, count)

@@ -9,8 +9,8 @@
 //! [`read_state`] answers a ledger exactly where the bytes are the encoding of one, and else the
 //! first fault from left to right, and [`par_read_state`] the same, with threads that decode the
 //! offers and look up their owners; [`Ledger::write_state`] writes the one encoding, and
-//! [`read_prices`] reads a price for each asset. [`read_account`] and [`write_account`] do the same for one account. A
-//! ledger is of version 1, in which the sequence numbers that a block skipped are lost, or of
+//! [`read_prices`] reads a price for each asset. [`read_account`] and [`write_account`] do the same
+//! for one account. A ledger is of version 1, in which the sequence numbers that a block skipped are lost, or of
 //! version 2, in which they stay open; [`Ledger::migrate`] makes a ledger one of version 2.
 //! [`Ledger::static_check`] answers the first reason,
 //! a [`Static`], why the ledger refuses a transaction by itself, and [`Ledger::places_of`] the same
@@ -34,6 +34,7 @@ mod account;
 mod account_reading;
 mod copying;
 mod effect_laws;
+mod entry_readers;
 mod fill;
 mod finding;
 mod index;
@@ -42,8 +43,8 @@ mod laws;
 mod ledger;
 mod offer;
 mod offer_decoding;
-mod offer_readers;
 mod offer_reading;
+mod offer_standing;
 mod parts;
 mod places;
 mod reading;

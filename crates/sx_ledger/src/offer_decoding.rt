@@ -1,22 +1,34 @@
-//! Decoding the offers of a long state by several threads, whatever order they stand in.
+//! Decoding the offers of a long state by several threads, while another one reads the accounts before them.
 //!
-//! Each offer takes the same number of bytes, so half of the threads decode each half of the offers, in the same way,
-//! into its part of one vector. Where the front half ends where the back half was begun, both side by side are what the
-//! bytes say. An error says nothing of the bytes: one thread reads them then, and so finds the first fault.
+//! Each account takes as many bytes as the other ones, so where the offers begin follows from the number of accounts. An
+//! offer takes the same number of bytes always, so that the offers are cut into parts, which the threads decode each into
+//! its part of one vector, whatever order the offers stand in. Where one part ends where the next one was begun, all side
+//! by side are what the bytes say, and where the accounts end where the offers were begun, these are the offers of the
+//! state. Where anything is amiss, one thread reads the offers, and so finds the first fault.
 
-ghost use Rattle.std.specs.Prelude.{◌≡◌, ◌*◌, ◌≤◌, length, IfOk, IfSome, Ok};
+ghost use Rattle.std.specs.Prelude.{◌≡◌, ◌*◌, ◌≤◌, true, length, IfOk, IfSome};
 ghost use Rattle.std.specs.Thread.{IsSync};
 ghost use Rattle.sx_base.specs.Ranges.{most_assets};
-ghost use Rattle.sx_bytes.specs.Grammar.{many_at};
-ghost use Rattle.sx_ledger.specs.Decoding.{offer_at};
-ghost use Rattle.sx_ledger.specs.SoundOffers.{AreOffersAt};
+ghost use Rattle.sx_bytes.specs.Grammar.{MayDecodeOrStray};
+ghost use Rattle.sx_ledger.specs.Decoding.{account_list_at};
+ghost use Rattle.sx_ledger.specs.SoundOffers.{AreAhead, AreOffersAt};
 
+use crate::account::Account;
+use crate::account_reading::account_list;
+use crate::ledger::Ledger;
 use crate::offer::{Offer, Offers};
 use crate::offer_reading::offer;
-use crate::sizes::OFFER_BYTES;
+use crate::sizes::{ACCOUNT_BYTES, OFFER_BYTES, map_bytes};
 use std::alloc::Global;
 use std::thread::{Threads, join_mut};
-use sx_bytes::{Form, FormFault, NoMemory, ReadError, Reader, Short};
+use sx_bytes::{Form, FormFault, ReadError, Reader, Short};
+
+// Offers that are decoded before it is known whether they stand in order and have owners, and where they end.
+#[derive(Drop)]
+pub struct Ahead {
+    pub offers: Offers,
+    pub end: usize,
+}
 
 // A reader at a place of the payload.
 fn reader_at(payload: &[u8], place: usize) -> Result<Reader<'_>, Short>
@@ -71,7 +83,8 @@ fn fill_by<R: Threads + Sync>(
         return fill(payload, place, assets, offers);
     }
     let less = threads / 2;
-    let half = offers.len() / 2;
+    let share = (offers.len() / threads).saturating_mul(less);
+    let half = share.min(offers.len());
     let middle = place.saturating_add(half.saturating_mul(OFFER_BYTES as usize));
     let (front, back) = offers.split_at_mut(half);
     let (one, other) = join_mut(
@@ -116,31 +129,85 @@ fn offers_by<R: Threads + Sync>(
     Ok((Offers::of(offers), end))
 }
 
-// The offers at the place, decoded by so many threads, or none where they cannot be. Memory grows with what the bytes
-// left can hold, and not with what the count claims.
-pub fn decoded_offers<R: Threads + Sync>(
+// The offers at a place of the payload: how many there are, and each of them. Memory grows with what the bytes left can
+// hold, and not with what the count claims.
+fn offers_ahead<R: Threads + Sync>(
+    rt: &R,
+    threads: usize,
+    alloc: Global,
+    payload: &[u8],
+    begin: usize,
+    assets: u8,
+) -> Result<Ahead, ReadError>
+    requires some_thread { 1 ≤ threads }
+    requires some { 1 ≤ assets }
+    requires few { assets ≤ most_assets }
+    ensures { IfOk result (λ ahead. AreAhead assets (record { bytes = payload.now; place = begin }) ahead.offers ahead.end) }
+{
+    let mut from = reader_at(payload, begin)?;
+    let count = from.field_u32(0, Ledger::MOST_OFFERS, Form::TooMany)?;
+    let place = from.place();
+    from.raw(count as usize * OFFER_BYTES as usize)?;
+    let (offers, end) = offers_by(rt, threads, alloc, payload, place, assets, count)?;
+    Ok(Ahead { offers, end })
+}
+
+// Where the offers seem to begin after the accounts at the place, and how many there seem to be, as the number of
+// accounts says.
+pub fn offers_seen(from: &mut Reader, version: u8, assets: u8) -> Result<(usize, u32), Short>
+    ensures { from.new ≡ from.old }
+{
+    let payload = payload_of(from);
+    let mut seen = reader_at(payload, from.place())?;
+    let accounts = seen.get_u32()?;
+    let each = ACCOUNT_BYTES + map_bytes(version) + 8 * u32::from(assets);
+    seen.raw(accounts as usize * each as usize)?;
+    let begin = seen.place();
+    Ok((begin, seen.get_u32()?))
+}
+
+// The accounts at the place, and the offers after them, which so many threads decode meanwhile, where they begin at the
+// place given.
+pub fn accounts_and_ahead<R: Threads + Sync>(
     rt: &R,
     threads: usize,
     alloc: Global,
     from: &mut Reader,
+    begin: usize,
+    version: u8,
     assets: u8,
-    count: u32,
-) -> Result<Option<Offers>, NoMemory>
+) -> Result<(Vec<Account>, Option<Ahead>), ReadError>
     requires some_thread { 1 ≤ threads }
     requires some { 1 ≤ assets }
     requires few { assets ≤ most_assets }
-    ensures sound { IfOk result (λ read. IfSome read (λ offers. many_at (offer_at assets) count from.old ≡ Ok (offers, from.new))) }
+    ensures exact { MayDecodeOrStray (λ read. read.0.items) (account_list_at version assets from.old) from.new result }
+    ensures ahead { IfOk result (λ read. IfSome read.1 (λ ahead. AreAhead assets from.new ahead.offers ahead.end)) }
+{
+    let payload = payload_of(from);
+    let (ahead, accounts) = join_mut(
+        rt,
+        &mut || -> Result<Ahead, ReadError>
+            requires { IsSync R.row × (1 ≤ threads) × (1 ≤ assets) × (assets ≤ most_assets) }
+            ensures { IfOk result (λ ahead. AreAhead assets (record { bytes = payload.entry.now; place = begin }) ahead.offers ahead.end) }
+        { offers_ahead(rt, threads, alloc, payload, begin, assets) },
+        &mut || -> Result<Vec<Account>, ReadError>
+            ensures exact { MayDecodeOrStray (λ v. v.items) (account_list_at version assets from.entry.now) from.exit.now result }
+            ensures same { from.exit.now.bytes ≡ from.entry.now.bytes }
+        { account_list(alloc, from, version, assets) },
+    );
+    let accounts = accounts?;
+    if from.place() != begin {
+        return Ok((accounts, None));
+    }
+    Ok((accounts, ahead.ok()))
+}
+
+// Moves a reader on to a later place. Whether it is there then.
+pub fn move_to(from: &mut Reader, place: usize) -> bool
+    ensures there { result ≡ true → from.new ≡ record { bytes = from.old.bytes; place = place } }
     ensures same { from.new.bytes ≡ from.old.bytes }
     ensures onward { from.old.place ≤ from.new.place }
 {
-    let payload = payload_of(from);
-    let begin = from.place();
-    if from.raw(count as usize * OFFER_BYTES as usize).is_err() {
-        return Ok(None);
-    }
-    match offers_by(rt, threads, alloc, payload, begin, assets, count) {
-        Ok((offers, end)) if end == from.place() => Ok(Some(offers)),
-        Err(ReadError::NoMemory) => Err(NoMemory),
-        _ => Ok(None),
-    }
+    let more = place.saturating_sub(from.place());
+    from.raw(more).is_ok() && from.place() == place
 }

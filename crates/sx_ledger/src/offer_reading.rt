@@ -9,14 +9,16 @@ ghost use Rattle.sx_ledger.specs.Ledger.{has_owner as is_owned, ids, most_accoun
 ghost use Rattle.sx_ledger.specs.Order.{key_before};
 ghost use Rattle.sx_ledger.specs.Decoding.{sell_at, buy_at, offer_at, placed_offer_at, placed_offers_at};
 ghost use Rattle.sx_ledger.specs.Decoding.{next_offer_at, offers_at, offer_list_at};
+ghost use Rattle.sx_ledger.specs.SoundOffers.{AreAhead};
 
 use crate::account::Account;
+use crate::entry_readers::EntryReader;
 use crate::finding::has_owner;
 use crate::index::AccountIndex;
 use crate::key::Key;
 use crate::ledger::Ledger;
 use crate::offer::{Offer, Offers};
-use crate::offer_readers::OfferReader;
+use crate::offer_decoding::Ahead;
 use crate::reading::refusal;
 use crate::sizes::OFFER_BYTES;
 use std::alloc::Global;
@@ -164,7 +166,7 @@ fn all_owned(index: &AccountIndex, accounts: &[Account], offers: &[Offer]) -> bo
 
 // The offers at the place, or none where anything is amiss. All are read before their owners are looked up.
 #[tactic(auto, using(crate::proofs::OwnersLater::all_owned))]
-pub fn sound_offers(
+fn sound_offers(
     alloc: Global,
     from: &mut Reader,
     assets: u8,
@@ -188,6 +190,28 @@ pub fn sound_offers(
         return Ok(None);
     }
     Ok(Some(offers))
+}
+
+// The number of offers at the place, and the offers, or none where anything is amiss.
+#[tactic(auto, unfolding(crate::specs::Decoding::offer_list_at))]
+pub fn sound_list(
+    alloc: Global,
+    from: &mut Reader,
+    assets: u8,
+    index: &AccountIndex,
+    accounts: &[Account],
+) -> Result<Option<Offers>, NoMemory>
+    requires some { 1 ≤ assets }
+    requires few { assets ≤ most_assets }
+    requires indexed { index.now ≡ ids accounts.now }
+    ensures sound { IfOk result (λ read. IfSome read (λ offers. offer_list_at accounts.now assets from.old ≡ Ok (offers, from.new))) }
+    ensures same { from.new.bytes ≡ from.old.bytes }
+    ensures onward { from.old.place ≤ from.new.place }
+{
+    match from.field_u32(0, Ledger::MOST_OFFERS, Form::TooMany) {
+        Ok(count) => sound_offers(alloc, from, assets, index, accounts, count),
+        Err(_) => Ok(None),
+    }
 }
 
 // The offers at the place one by one, each with its owner, up to the first fault. Memory grows as above.
@@ -215,29 +239,31 @@ fn offers(
     Ok(Offers::of(offers))
 }
 
-// The offers at the place, by these accounts: how many there are, and each of them. What is amiss is found by reading
-// them once more.
+// The offers at the place, by these accounts: how many there are, and each of them. They may be decoded already. What
+// is amiss is found by reading them once more.
 #[tactic(auto, unfolding(crate::specs::Decoding::offer_list_at))]
-pub fn offer_list<O: OfferReader>(
-    offer_reader: &O,
+pub fn offer_list<E: EntryReader>(
+    entry_reader: &E,
     alloc: Global,
     from: &mut Reader,
     assets: u8,
     accounts: &[Account],
+    ahead: Option<Ahead>,
 ) -> Result<Offers, ReadError>
-    requires ready { O.is_ready }
+    requires ready { E.is_ready }
     requires some { 1 ≤ assets }
     requires few { assets ≤ most_assets }
     requires by_id { IsStrictlyIncreasing (ids accounts.now) }
     requires few_accounts { length accounts.now ≤ most_accounts }
+    requires ahead { IfSome ahead (λ ahead. AreAhead assets from.old ahead.offers ahead.end) }
     ensures { MayDecodeOrStray (λ x. x) (offer_list_at accounts.now assets from.old) from.new result }
 {
-    let count = from.field_u32(0, Ledger::MOST_OFFERS, Form::TooMany)?;
     let index = AccountIndex::of(alloc, accounts)?;
     let place = from.place();
-    if let Some(offers) = offer_reader.sound_offers(alloc, from, assets, &index, accounts, count)? {
+    if let Some(offers) = entry_reader.sound_offers(alloc, from, assets, &index, accounts, ahead)? {
         return Ok(offers);
     }
     from.back(place);
+    let count = from.field_u32(0, Ledger::MOST_OFFERS, Form::TooMany)?;
     offers(alloc, from, assets, &index, accounts, count)
 }

@@ -11,9 +11,8 @@ ghost use Rattle.sx_ledger.specs.Encoding.{state_bytes};
 ghost use Rattle.sx_ledger.specs.Decoding.{price_at, units_field_at, head_at, parts_at, state_at};
 
 use crate::account::Accounts;
-use crate::account_reading::account_list;
+use crate::entry_readers::{Alone, EntryReader, Spread};
 use crate::ledger::Ledger;
-use crate::offer_readers::{Alone, OfferReader, Spread};
 use crate::offer_reading::offer_list;
 use crate::parts::Parts;
 use crate::totals::totals_fit;
@@ -110,12 +109,12 @@ fn read_head(alloc: Global, from: &mut Reader) -> Result<Head, ReadError>
 }
 
 #[tactic(auto, unfolding(crate::specs::Decoding::parts_at))]
-fn parts<O: OfferReader>(
-    offer_reader: &O,
+fn parts<E: EntryReader>(
+    entry_reader: &E,
     alloc: Global,
     from: &mut Reader,
 ) -> Result<Parts, ReadError>
-    requires { O.is_ready }
+    requires { E.is_ready }
     ensures { MayDecodeOrStray (λ parts. parts) (parts_at from.old) from.new result }
 {
     let Head {
@@ -125,8 +124,8 @@ fn parts<O: OfferReader>(
         rounding,
     } = read_head(alloc, from)?;
     let assets = prices.items().len() as u8;
-    let accounts = account_list(alloc, from, version, assets)?;
-    let offers = offer_list(offer_reader, alloc, from, assets, &accounts)?;
+    let (accounts, ahead) = entry_reader.accounts(alloc, from, version, assets)?;
+    let offers = offer_list(entry_reader, alloc, from, assets, &accounts, ahead)?;
     Ok(Parts {
         version,
         height,
@@ -138,16 +137,16 @@ fn parts<O: OfferReader>(
 }
 
 #[tactic(auto, unfolding(crate::specs::Decoding::state_at))]
-fn whole<O: OfferReader>(
-    offer_reader: &O,
+fn whole<E: EntryReader>(
+    entry_reader: &E,
     alloc: Global,
     payload: &[u8],
 ) -> Result<Parts, ReadError>
-    requires { O.is_ready }
+    requires { E.is_ready }
     ensures { Gives (λ parts. parts) result (state_at payload.now) }
 {
     let mut from = Reader::new(payload);
-    let parts = parts(offer_reader, alloc, &mut from)?;
+    let parts = parts(entry_reader, alloc, &mut from)?;
     if !totals_fit(&parts) {
         return Err(refusal(0, Form::Total));
     }
@@ -157,18 +156,18 @@ fn whole<O: OfferReader>(
     Ok(parts)
 }
 
-fn read_ledger<O: OfferReader>(
-    offer_reader: &O,
+fn read_ledger<E: EntryReader>(
+    entry_reader: &E,
     alloc: Global,
     payload: &[u8],
 ) -> Result<Ledger, ReadError>
-    requires { O.is_ready }
+    requires { E.is_ready }
     ensures found { IfOk result (λ ledger. IsLedger ledger × (payload.now ≡ state_bytes ledger)) }
     ensures only { (parts : Parts) → IsLedger parts → payload.now ≡ state_bytes parts →
         Gives (λ ledger. ledger) result (Ok parts) }
     ensures exact { Gives (λ ledger. ledger) result (state_at payload.now) }
 {
-    let parts = whole(offer_reader, alloc, payload)?;
+    let parts = whole(entry_reader, alloc, payload)?;
     Ok(Ledger::of(parts))
 }
 

@@ -3,7 +3,7 @@ use Rattle.std.specs.Prelude.{slice_get}
 use Rattle.std.proofs.lemmas.Option.{slice_get_read}
 use Rattle.sx_ledger.specs.SoundOffers.{key_ahead}
 use Rattle.sx_ledger.proofs.SoundOffers.{key_at, key_first}
-use Rattle.sx_ledger.proofs.offer_readers.key_ahead_of.Goals as goal
+use Rattle.sx_ledger.proofs.offer_standing.key_ahead_of.Goals as goal
 
 pub returns-then-place-eq0 : goal.returns-then-place-eq0
 returns-then-place-eq0 c =

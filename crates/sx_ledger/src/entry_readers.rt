@@ -1,0 +1,152 @@
+//! What reads the accounts and the offers of a state: this thread alone, or several.
+
+ghost use Rattle.std.specs.Prelude.{◌≡◌, ◌≤◌, IfOk, IfSome, Ok};
+ghost use Rattle.sx_base.specs.Ranges.{most_assets};
+ghost use Rattle.sx_bytes.specs.Grammar.{MayDecodeOrStray};
+ghost use Rattle.sx_ledger.specs.Decoding.{account_list_at, offer_list_at};
+ghost use Rattle.sx_ledger.specs.Ledger.{ids};
+ghost use Rattle.sx_ledger.specs.SoundOffers.{AreAhead};
+
+use crate::account::Account;
+use crate::account_reading::account_list;
+use crate::index::AccountIndex;
+use crate::offer::Offers;
+use crate::offer_decoding::{Ahead, accounts_and_ahead, move_to, offers_seen};
+use crate::offer_reading::sound_list;
+use crate::offer_standing::all_stand_by;
+use std::alloc::Global;
+use std::thread::Threads;
+use sx_bytes::{NoMemory, ReadError, Reader};
+
+// How many offers are worth a thread of their own. To decode them and to look their owners up takes half a millisecond
+// or more, and to start a thread a small part of that.
+const WORTH_A_THREAD: usize = 8_192;
+
+// What reads the accounts and the offers of a state.
+pub trait EntryReader {
+    // What a call takes for granted: of threads, that they may share what makes them.
+    ghost is_ready: { Type 0 };
+
+    // The accounts at the place, and the offers after them where these were decoded meanwhile.
+    fn accounts(
+        &self,
+        alloc: Global,
+        from: &mut Reader,
+        version: u8,
+        assets: u8,
+    ) -> Result<(Vec<Account>, Option<Ahead>), ReadError>
+        requires ready { is_ready }
+        requires some { 1 ≤ assets }
+        requires few { assets ≤ most_assets }
+        ensures exact { MayDecodeOrStray (λ read. read.0.items) (account_list_at version assets from.old) from.new result }
+        ensures ahead { IfOk result (λ read. IfSome read.1 (λ ahead. AreAhead assets from.new ahead.offers ahead.end)) };
+
+    // The offers at the place, by these accounts, of which the ids are given, or none where anything is amiss. They may
+    // be decoded already.
+    fn sound_offers(
+        &self,
+        alloc: Global,
+        from: &mut Reader,
+        assets: u8,
+        index: &AccountIndex,
+        accounts: &[Account],
+        ahead: Option<Ahead>,
+    ) -> Result<Option<Offers>, NoMemory>
+        requires ready { is_ready }
+        requires some { 1 ≤ assets }
+        requires few { assets ≤ most_assets }
+        requires indexed { index.now ≡ ids accounts.now }
+        requires ahead { IfSome ahead (λ ahead. AreAhead assets from.old ahead.offers ahead.end) }
+        ensures sound { IfOk result (λ read. IfSome read (λ offers. offer_list_at accounts.now assets from.old ≡ Ok (offers, from.new))) }
+        ensures same { from.new.bytes ≡ from.old.bytes }
+        ensures onward { from.old.place ≤ from.new.place };
+}
+
+// This thread alone.
+#[derive(Drop)]
+pub struct Alone;
+
+impl EntryReader for Alone {
+    ghost is_ready = { Unit {0} };
+
+    fn accounts(
+        &self,
+        alloc: Global,
+        from: &mut Reader,
+        version: u8,
+        assets: u8,
+    ) -> Result<(Vec<Account>, Option<Ahead>), ReadError> {
+        Ok((account_list(alloc, from, version, assets)?, None))
+    }
+
+    fn sound_offers(
+        &self,
+        alloc: Global,
+        from: &mut Reader,
+        assets: u8,
+        index: &AccountIndex,
+        accounts: &[Account],
+        _: Option<Ahead>,
+    ) -> Result<Option<Offers>, NoMemory> {
+        sound_list(alloc, from, assets, index, accounts)
+    }
+}
+
+// At most so many threads, each with a part of the entries.
+#[derive(Drop)]
+pub struct Spread<'a, R> {
+    pub rt: &'a R,
+    pub workers: u32,
+}
+
+// How many of so many workers are worth starting for so many offers.
+fn threads_for(offers: usize, workers: u32) -> usize
+    ensures { 1 ≤ result }
+{
+    (offers / WORTH_A_THREAD).clamp(1, (workers as usize).max(1))
+}
+
+impl<'a, R: Threads + Sync> EntryReader for Spread<'a, R> {
+    ghost use Rattle.std.specs.Thread.{IsSync};
+
+    ghost is_ready = { IsSync R.row };
+
+    fn accounts(
+        &self,
+        alloc: Global,
+        from: &mut Reader,
+        version: u8,
+        assets: u8,
+    ) -> Result<(Vec<Account>, Option<Ahead>), ReadError> {
+        let (begin, offers) = offers_seen(from, version, assets).unwrap_or((0, 0));
+        let threads = threads_for(offers as usize, self.workers);
+        if threads < 2 {
+            return Ok((account_list(alloc, from, version, assets)?, None));
+        }
+        accounts_and_ahead(self.rt, threads - 1, alloc, from, begin, version, assets)
+    }
+
+    #[tactic(auto, using(crate::proofs::SoundOffers::all_listed))]
+    fn sound_offers(
+        &self,
+        alloc: Global,
+        from: &mut Reader,
+        assets: u8,
+        index: &AccountIndex,
+        accounts: &[Account],
+        ahead: Option<Ahead>,
+    ) -> Result<Option<Offers>, NoMemory> {
+        let Some(Ahead { offers, end }) = ahead else {
+            return sound_list(alloc, from, assets, index, accounts);
+        };
+        if !move_to(from, end) {
+            return Ok(None);
+        }
+        let threads = threads_for(offers.items().len(), self.workers);
+        let mut told = vec![in alloc; false; offers.items().len()]?;
+        if !all_stand_by(self.rt, threads, index, accounts, offers.items(), &mut told) {
+            return Ok(None);
+        }
+        Ok(Some(offers))
+    }
+}
