@@ -1,19 +1,20 @@
 //! What reads the accounts and the offers of a state: this thread alone, or several.
 
-ghost use Rattle.std.specs.Prelude.{◌≡◌, ◌≤◌, IfOk, IfSome, Ok};
+ghost use Rattle.std.specs.Prelude.{◌≡◌, ℕ, ◌*◌, ◌<◌, ◌≤◌, ◌^◌, All, IfOk, IfSome, Ok, length, slice_index, sum_by};
 ghost use Rattle.sx_base.specs.Ranges.{most_assets};
 ghost use Rattle.sx_bytes.specs.Grammar.{MayDecodeOrStray};
 ghost use Rattle.sx_ledger.specs.Decoding.{account_list_at, offer_list_at};
-ghost use Rattle.sx_ledger.specs.Ledger.{ids};
+ghost use Rattle.sx_ledger.specs.Ledger.{ids, most_offers, offered};
 ghost use Rattle.sx_ledger.specs.SoundOffers.{AreAhead};
 
 use crate::account::Account;
 use crate::account_reading::account_list;
 use crate::index::AccountIndex;
-use crate::offer::Offers;
+use crate::offer::{Offer, Offers};
 use crate::offer_decoding::{Ahead, accounts_and_ahead, move_to, offers_seen};
 use crate::offer_reading::sound_list;
 use crate::offer_standing::all_stand_by;
+use crate::offer_sums::{MOST_ASSETS, sums_by, sums_of};
 use std::alloc::Global;
 use std::thread::Threads;
 use sx_bytes::{NoMemory, ReadError, Reader};
@@ -60,6 +61,13 @@ pub trait EntryReader {
         ensures sound { IfOk result (λ read. IfSome read (λ offers. offer_list_at accounts.now assets from.old ≡ Ok (offers, from.new))) }
         ensures same { from.new.bytes ≡ from.old.bytes }
         ensures onward { from.old.place ≤ from.new.place };
+
+    // What is on offer of each asset.
+    fn sums_of(&self, offers: &[Offer]) -> [u128; MOST_ASSETS]
+        requires ready { is_ready }
+        requires few { length offers.now ≤ most_offers }
+        ensures sums { (asset : ℕ) → asset < most_assets → slice_index result asset ≡ sum_by (offered asset) offers.now }
+        ensures small { All (λ sum. sum ≤ length offers.now * 2 ^ 62) result };
 }
 
 // This thread alone.
@@ -89,6 +97,10 @@ impl EntryReader for Alone {
         _: Option<Ahead>,
     ) -> Result<Option<Offers>, NoMemory> {
         sound_list(alloc, from, assets, index, accounts)
+    }
+
+    fn sums_of(&self, offers: &[Offer]) -> [u128; MOST_ASSETS] {
+        sums_of(offers)
     }
 }
 
@@ -148,5 +160,9 @@ impl<'a, R: Threads + Sync> EntryReader for Spread<'a, R> {
             return Ok(None);
         }
         Ok(Some(offers))
+    }
+
+    fn sums_of(&self, offers: &[Offer]) -> [u128; MOST_ASSETS] {
+        sums_by(self.rt, threads_for(offers.len(), self.workers), offers)
     }
 }

@@ -45,6 +45,7 @@ mod offer;
 mod offer_decoding;
 mod offer_reading;
 mod offer_standing;
+mod offer_sums;
 mod parts;
 mod places;
 mod reading;

@@ -147,7 +147,7 @@ fn whole<E: EntryReader>(
 {
     let mut from = Reader::new(payload);
     let parts = parts(entry_reader, alloc, &mut from)?;
-    if !totals_fit(&parts) {
+    if !totals_fit(entry_reader, &parts) {
         return Err(refusal(0, Form::Total));
     }
     if from.left() != 0 {

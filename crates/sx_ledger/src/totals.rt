@@ -7,13 +7,12 @@ ghost use Rattle.sx_ledger.specs.Ledger.{assets_of, balance_at, most_accounts, m
 ghost use Rattle.sx_ledger.specs.Decoding.{totals_fit as all_fit};
 
 use crate::account::Account;
+use crate::entry_readers::EntryReader;
 use crate::ledger::Ledger;
 use crate::offer::Offer;
+use crate::offer_sums::{MOST_ASSETS, add_sums};
 use crate::parts::Parts;
 use sx_base::{Amount, AssetId};
-
-// The most assets that there are.
-const MOST_ASSETS: usize = AssetId::LIMIT as usize;
 
 // Adds the balances of one account.
 fn add_balances(totals: &mut [u128], balances: &[u64])
@@ -42,36 +41,24 @@ fn add_accounts(totals: &mut [u128], accounts: &[Account])
     }
 }
 
-// Adds what is on offer.
-fn add_offers(totals: &mut [u128], offers: &[Offer])
-    requires sold { All (λ offer. offer.sell < length totals.old) offers.now }
-    requires room { All (λ total. total ≤ 2 ^ 101) totals.old }
-    requires few { length offers.now ≤ most_offers }
-    ensures as_many { length totals.new ≡ length totals.old }
-    ensures added { (asset : ℕ) → asset < length totals.old → slice_index totals.new asset ≡ slice_index totals.old asset + sum_by (offered asset) offers.now }
-{
-    for offer in offers {
-        totals[usize::from(offer.sell.get())] += u128::from(offer.amount.get());
-    }
-}
-
 // Adds up what there is of each asset.
-fn add_all(totals: &mut [u128], parts: &Parts)
+fn add_all<E: EntryReader>(entry_reader: &E, totals: &mut [u128], parts: &Parts)
+    requires ready { E.is_ready }
     requires zero { All (λ total. total ≡ 0) totals.old }
     requires assets { length totals.old ≡ assets_of parts.now }
+    requires few_assets { assets_of parts.now ≤ most_assets }
     requires rounding { length parts.now.rounding ≡ assets_of parts.now }
     requires kept { All (λ units. units ≤ most_amount) parts.now.rounding }
     requires balances { All (λ account. length account.balances ≡ assets_of parts.now) parts.now.accounts }
     requires small { All (λ account. All (λ balance. balance ≤ most_amount) account.balances) parts.now.accounts }
     requires few_accounts { length parts.now.accounts ≤ most_accounts }
-    requires sold { All (λ offer. offer.sell < assets_of parts.now) parts.now.offers }
     requires few_offers { length parts.now.offers ≤ most_offers }
     ensures as_many { length totals.new ≡ length totals.old }
     ensures totals { (asset : ℕ) → asset < assets_of parts.now → slice_index totals.new asset ≡ total_of parts.now asset }
 {
     add_balances(totals, parts.rounding.items());
     add_accounts(totals, parts.accounts.items());
-    add_offers(totals, parts.offers.items());
+    add_sums(totals, &entry_reader.sums_of(parts.offers.items()));
 }
 
 fn are_in_range(totals: &[u128]) -> bool
@@ -83,20 +70,20 @@ fn are_in_range(totals: &[u128]) -> bool
 }
 
 // Whether the total of each asset is in range: one pass over the accounts, and one over the offers.
-pub fn totals_fit(parts: &Parts) -> bool
+pub fn totals_fit<E: EntryReader>(entry_reader: &E, parts: &Parts) -> bool
+    requires ready { E.is_ready }
     requires few_assets { assets_of parts.now ≤ most_assets }
     requires rounding { length parts.now.rounding ≡ assets_of parts.now }
     requires kept { All (λ units. units ≤ most_amount) parts.now.rounding }
     requires balances { All (λ account. length account.balances ≡ assets_of parts.now) parts.now.accounts }
     requires small { All (λ account. All (λ balance. balance ≤ most_amount) account.balances) parts.now.accounts }
     requires few_accounts { length parts.now.accounts ≤ most_accounts }
-    requires sold { All (λ offer. offer.sell < assets_of parts.now) parts.now.offers }
     requires few_offers { length parts.now.offers ≤ most_offers }
     ensures { result ≡ all_fit parts.now (assets_of parts.now) }
 {
     let mut room = [0; MOST_ASSETS];
     let totals = &mut room[..parts.prices.items().len()];
-    add_all(totals, parts);
+    add_all(entry_reader, totals, parts);
     are_in_range(totals)
 }
 

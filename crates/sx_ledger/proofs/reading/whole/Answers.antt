@@ -44,12 +44,6 @@ totals_fit-requires-clause-few_accounts g c =
     (is_read c.args.payload.now _ _ _ c.new-from.ensures (λ i. omega (arith, c.type_inv.payload i))
     c.in_ok-parts.ensures).accounts_are.few
 
-pub totals_fit-requires-clause-sold : goal.totals_fit-requires-clause-sold
-totals_fit-requires-clause-sold g c =
-    let is = is_read c.args.payload.now _ _ _ c.new-from.ensures (λ i. omega (arith, c.type_inv.payload i))
-    c.in_ok-parts.ensures in
-    λ k d lt. (is.offers_are.are k d lt).sell
-
 pub totals_fit-requires-clause-few_offers : goal.totals_fit-requires-clause-few_offers
 totals_fit-requires-clause-few_offers g c =
     (is_read c.args.payload.now _ _ _ c.new-from.ensures (λ i. omega (arith, c.type_inv.payload i))

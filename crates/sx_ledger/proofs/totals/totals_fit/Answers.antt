@@ -4,7 +4,7 @@ use Rattle.sx_ledger.proofs.TotalsInRange.{totals_fit_is}
 use Rattle.sx_ledger.proofs.totals.totals_fit.Goals as goal
 
 pub returns : goal.returns
-returns c =
+returns g c =
     let as_many : length c.add_all.new.totals ≡ assets_of c.args.parts.now =
     c.add_all.ensures.as_many ∙ search rules in
     c.are_in_range.ensures
