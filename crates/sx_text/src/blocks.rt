@@ -8,6 +8,7 @@ ghost use Rattle.sx_text.specs.Blocks.{block_line, block_text, dropped_line, fro
 ghost use Rattle.sx_text.specs.Pieces.{indexed};
 
 use crate::fields::put_cut;
+use crate::hands::Hands;
 use crate::lines::{put_digest, put_word};
 use crate::transactions::put_transactions;
 use sx_block::{Block, Header};
@@ -120,10 +121,11 @@ fn put_header(to: &mut String, header: &Header) -> Result<(), NoMemory>
 }
 
 /// Appends the text of a block that has the form of one.
-pub fn put_block(to: &mut String, block: &Block) -> Result<(), NoMemory>
-    requires { IsBlock block.now }
+pub fn put_block<H: Hands>(hands: &H, to: &mut String, block: &Block) -> Result<(), NoMemory>
+    requires ready { H.is_ready }
+    requires form { IsBlock block.now }
     ensures { OnOk result (string_bytes to.new ≡ string_bytes to.old ++ block_text block.now) }
 {
     put_header(to, &block.header)?;
-    put_transactions(to, "transactions", block.txs.items())
+    put_transactions(hands, to, "transactions", block.txs.items())
 }

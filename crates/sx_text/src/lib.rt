@@ -24,11 +24,14 @@
 mod blocks;
 mod demonstration;
 mod ending;
+mod entries;
 mod fields;
 mod gathering;
+mod hands;
 mod lines;
 mod reasons;
 mod shown;
+mod spreading;
 mod states;
 mod status;
 mod text;
@@ -38,7 +41,7 @@ mod verdict;
 
 pub use demonstration::demo_lines;
 pub use ending::status_line;
-pub use shown::{Shown, show};
+pub use shown::{Shown, par_show, show};
 pub use status::Status;
 pub use text::Text;
 pub use validity::check_line;

@@ -6,6 +6,8 @@ ghost use Rattle.sx_ledger.specs.Ledger.{IsLedger};
 ghost use Rattle.sx_text.specs.Pieces.{indexed};
 ghost use Rattle.sx_text.specs.States.{account_line, asset_line, offer_line, state_line, state_text, used_text};
 
+use crate::entries::Line;
+use crate::hands::Hands;
 use crate::lines::{put_spaced, put_word};
 use sx_bytes::NoMemory;
 use sx_ledger::{Account, Ledger, Offer, Parts};
@@ -49,66 +51,63 @@ fn put_used(to: &mut String, version: u8, used: u64) -> Result<(), NoMemory>
     Ok(())
 }
 
-fn put_account(to: &mut String, version: u8, account: &Account) -> Result<(), NoMemory>
-    ensures { OnOk result (string_bytes to.new ≡ string_bytes to.old ++ account_line version account.now) }
-{
-    let id = account.id.0;
-    let last = account.window.last;
-    write!(to, "account {id} last {last}")?;
-    put_used(to, version, account.window.used)?;
-    put_word(to, " balances")?;
-    put_spaced(to, account.balances.items())?;
-    put_word(to, "\n")
+/// Accounts, as a state of this version shows them.
+#[derive(Clone, Copy)]
+pub struct AccountLine {
+    pub version: u8,
 }
 
-fn put_accounts(to: &mut String, version: u8, accounts: &[Account]) -> Result<(), NoMemory>
-    ensures { OnOk result
-        (string_bytes to.new ≡ string_bytes to.old ++ flat_map (account_line version) accounts.now) }
-{
-    for account in accounts {
-        put_account(to, version, account)?;
+impl Line<Account> for AccountLine {
+    ghost line = { λ shape. account_line shape.version };
+
+    fn put(&self, to: &mut String, account: &Account) -> Result<(), NoMemory> {
+        let id = account.id.0;
+        let last = account.window.last;
+        write!(to, "account {id} last {last}")?;
+        put_used(to, self.version, account.window.used)?;
+        put_word(to, " balances")?;
+        put_spaced(to, account.balances.items())?;
+        put_word(to, "\n")
     }
-    Ok(())
 }
 
-fn put_offer(to: &mut String, offer: &Offer) -> Result<(), NoMemory>
-    ensures { OnOk result (string_bytes to.new ≡ string_bytes to.old ++ offer_line offer.now) }
-{
-    let sell = offer.sell.get();
-    let buy = offer.buy.get();
-    let limit = offer.limit.get();
-    let account = offer.account.0;
-    let seq = offer.seq.get();
-    let amount = offer.amount.get();
-    write!(
-        to,
-        "offer {sell} {buy} limit {limit} account {account} seq {seq} amount {amount}\n"
-    )?;
-    Ok(())
-}
+/// Offers, as a state shows them.
+#[derive(Clone, Copy)]
+pub struct OfferLine;
 
-fn put_offers(to: &mut String, offers: &[Offer]) -> Result<(), NoMemory>
-    ensures { OnOk result (string_bytes to.new ≡ string_bytes to.old ++ flat_map offer_line offers.now) }
-{
-    for offer in offers {
-        put_offer(to, offer)?;
+impl Line<Offer> for OfferLine {
+    ghost line = { λ _. offer_line };
+
+    fn put(&self, to: &mut String, offer: &Offer) -> Result<(), NoMemory> {
+        let sell = offer.sell.get();
+        let buy = offer.buy.get();
+        let limit = offer.limit.get();
+        let account = offer.account.0;
+        let seq = offer.seq.get();
+        let amount = offer.amount.get();
+        write!(
+            to,
+            "offer {sell} {buy} limit {limit} account {account} seq {seq} amount {amount}\n"
+        )?;
+        Ok(())
     }
-    Ok(())
 }
 
-fn put_parts(to: &mut String, parts: &Parts) -> Result<(), NoMemory>
-    requires { IsLedger parts.now }
+fn put_parts<H: Hands>(hands: &H, to: &mut String, parts: &Parts) -> Result<(), NoMemory>
+    requires ready { H.is_ready }
+    requires ledger { IsLedger parts.now }
     ensures { OnOk result (string_bytes to.new ≡ string_bytes to.old ++ state_text parts.now) }
 {
     put_state_line(to, parts)?;
     put_assets(to, parts.prices.items(), parts.rounding.items())?;
-    put_accounts(to, parts.version, parts.accounts.items())?;
-    put_offers(to, parts.offers.items())
+    hands.put_accounts(to, parts.version, parts.accounts.items())?;
+    hands.put_offers(to, parts.offers.items())
 }
 
 /// Appends the text of a state.
-pub fn put_state(to: &mut String, ledger: &Ledger) -> Result<(), NoMemory>
+pub fn put_state<H: Hands>(hands: &H, to: &mut String, ledger: &Ledger) -> Result<(), NoMemory>
+    requires { H.is_ready }
     ensures { OnOk result (string_bytes to.new ≡ string_bytes to.old ++ state_text ledger.now) }
 {
-    put_parts(to, ledger.parts())
+    put_parts(hands, to, ledger.parts())
 }

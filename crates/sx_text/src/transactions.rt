@@ -1,9 +1,10 @@
 //! The lines of transactions.
 
 ghost use Rattle.std.specs.Prelude.{◌≡◌, ◌++◌, OnOk, string_bytes};
-ghost use Rattle.std.specs.List.{flat_map};
 ghost use Rattle.sx_text.specs.Transactions.{kind_text, transactions_text, tx_line};
 
+use crate::entries::Line;
+use crate::hands::Hands;
 use crate::lines::{put_count, put_word};
 use sx_base::{AccountId, Amount, AssetId, Seq};
 use sx_bytes::NoMemory;
@@ -92,29 +93,32 @@ fn put_kind(to: &mut String, kind: Kind) -> Result<(), NoMemory>
     }
 }
 
-fn put_tx(to: &mut String, tx: &Tx) -> Result<(), NoMemory>
-    ensures { OnOk result (string_bytes to.new ≡ string_bytes to.old ++ tx_line tx.now) }
-{
-    let account = tx.account.0;
-    let seq = tx.seq.get();
-    write!(to, "tx {account} {seq} ")?;
-    put_kind(to, tx.kind)?;
-    put_word(to, "\n")
-}
+/// Transactions, as they are shown.
+#[derive(Clone, Copy)]
+pub struct TxLine;
 
-fn put_txs(to: &mut String, txs: &[Tx]) -> Result<(), NoMemory>
-    ensures { OnOk result (string_bytes to.new ≡ string_bytes to.old ++ flat_map tx_line txs.now) }
-{
-    for tx in txs {
-        put_tx(to, tx)?;
+impl Line<Tx> for TxLine {
+    ghost line = { λ _. tx_line };
+
+    fn put(&self, to: &mut String, tx: &Tx) -> Result<(), NoMemory> {
+        let account = tx.account.0;
+        let seq = tx.seq.get();
+        write!(to, "tx {account} {seq} ")?;
+        put_kind(to, tx.kind)?;
+        put_word(to, "\n")
     }
-    Ok(())
 }
 
 /// Appends transactions under this name, their number first.
-pub fn put_transactions(to: &mut String, name: &str, txs: &[Tx]) -> Result<(), NoMemory>
+pub fn put_transactions<H: Hands>(
+    hands: &H,
+    to: &mut String,
+    name: &str,
+    txs: &[Tx],
+) -> Result<(), NoMemory>
+    requires { H.is_ready }
     ensures { OnOk result (string_bytes to.new ≡ string_bytes to.old ++ transactions_text name.now txs.now) }
 {
     put_count(to, name, txs.len())?;
-    put_txs(to, txs)
+    hands.put_txs(to, txs)
 }

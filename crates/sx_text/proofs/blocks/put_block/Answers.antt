@@ -5,7 +5,7 @@ use Rattle.sx_text.specs.Transactions.{transactions_text}
 use Rattle.sx_text.proofs.blocks.put_block.Goals as goal
 
 pub returns : goal.returns
-returns c =
+returns g c =
     let block = c.args.block.now in
     written_then c.put_transactions.result (string_bytes c.args.to.now) (header_text block.header)
     (string_bytes c.put_header.new.to) (transactions_text (codes "transactions") block.txs)

@@ -1,0 +1,67 @@
+//! The lines of many entries, written by several threads.
+//!
+//! The entries are halved until each thread has a part of them. One thread appends the lines of the front half to the
+//! text, while another writes those of the back half to a text of its own, which is appended then.
+
+ghost use Rattle.std.specs.Prelude.{◌≡◌, ◌*◌, ◌≤◌, ◌++◌, OnOk, string_bytes};
+ghost use Rattle.std.specs.List.{flat_map};
+ghost use Rattle.std.specs.Thread.{IsSync};
+
+use crate::entries::{Line, put_each};
+use std::thread::{Threads, join_mut};
+use sx_bytes::NoMemory;
+
+// How many entries are worth a thread of their own. To write their lines takes half a millisecond or more, and to start
+// a thread a part of that.
+const WORTH_A_THREAD: usize = 4_096;
+
+// Appends the lines of entries, written by so many threads.
+fn put_by<R: Threads + Sync, T: Sync, L: Line<T> + Sync>(
+    rt: &R,
+    threads: usize,
+    shape: &L,
+    to: &mut String,
+    entries: &[T],
+) -> Result<(), NoMemory>
+    ensures { OnOk result
+        (string_bytes to.new ≡ string_bytes to.old ++ flat_map (L.line shape.now) entries.now) }
+{
+    if threads < 2 {
+        return put_each(shape, to, entries);
+    }
+    let few = threads / 2;
+    let (front, back) = entries.split_at(entries.len() / 2);
+    let mut later = String::new(*to.allocator());
+    let (one, other) = join_mut(
+        rt,
+        &mut || -> Result<(), NoMemory>
+            requires { IsSync R.row × IsSync T.row × IsSync L.row × (1 ≤ few) }
+            ensures { OnOk result
+                (string_bytes to.exit.now ≡ string_bytes to.entry.now ++ flat_map (L.line shape.entry.now) front.entry.now) }
+        { put_by(rt, few, shape, to, front) },
+        &mut || -> Result<(), NoMemory>
+            requires { IsSync R.row × IsSync T.row × IsSync L.row × (1 ≤ few) × (few * 2 ≤ threads) }
+            ensures { OnOk result
+                (string_bytes later.exit ≡ string_bytes later.entry ++ flat_map (L.line shape.entry.now) back.entry.now) }
+        { put_by(rt, threads - few, shape, &mut later, back) },
+    );
+    one?;
+    other?;
+    to.push_str(later.as_str())?;
+    Ok(())
+}
+
+/// Appends the lines of entries. As many as `workers` threads write those of many entries.
+pub fn put_spread<R: Threads + Sync, T: Sync, L: Line<T> + Sync>(
+    rt: &R,
+    workers: u32,
+    shape: &L,
+    to: &mut String,
+    entries: &[T],
+) -> Result<(), NoMemory>
+    ensures { OnOk result
+        (string_bytes to.new ≡ string_bytes to.old ++ flat_map (L.line shape.now) entries.now) }
+{
+    let threads = (entries.len() / WORTH_A_THREAD).min(workers as usize);
+    put_by(rt, threads, shape, to, entries)
+}
