@@ -1,18 +1,20 @@
 //! The texts of worked values, beside what is written by hand.
 
+ghost use Rattle.std.specs.Prelude.{◌≤◌};
 ghost use Rattle.sx_text.specs.Shown.{IsShowable};
 
 use std::alloc::{AllocError, Global};
 use std::test::Fail;
+use std::thread::Threads;
 use sx_base::{AccountId, AssetId};
 use sx_block::{Digest, read_block};
-use sx_bytes::{Bytes, Form, FormFault, ListOf};
+use sx_bytes::{Bytes, Form, FormFault, ListOf, NoMemory, Writer};
 use sx_check::{Checked, Invalid};
 use sx_commit::Proof;
 use sx_dual::Cut;
 use sx_layout::{Outcome, Script};
 use sx_ledger::{Account, Static, read_state};
-use sx_text::{Shown, Status, check_line, proof_line, show, status_line};
+use sx_text::{Shown, Status, check_line, par_show, proof_line, show, status_line};
 use sx_tx::{Window, read_candidates};
 
 // One asset. Account 1 has 100 units and account 2 has 5.
@@ -89,6 +91,76 @@ fn states_are_shown_line_by_line(rt: HostRuntime) -> Result<(), Fail> {
         "account 2 last 0 used 0 balances 5",
     ];
     assert!(rt; shows(alloc, &second, lines.as_slice()));
+    Ok(())
+}
+
+// What stands before the accounts in a state of one asset.
+fn put_head(to: &mut Writer) -> Result<(), NoMemory> {
+    to.put_u8(1)?;
+    to.put_u64(0)?;
+    to.put_u8(1)?;
+    to.put_u64(1 << 24)?;
+    to.put_u64(0)?;
+    Ok(())
+}
+
+// The accounts from 1 on, so many of them, as a list of a state has them. Each has as many units as its id says.
+fn put_accounts(to: &mut Writer, count: u32) -> Result<(), NoMemory> {
+    to.put_u32(count)?;
+    for place in 0..u64::from(count) {
+        to.put_u64(place + 1)?;
+        to.put_u64(0)?;
+        to.put_u64(place + 1)?;
+    }
+    Ok(())
+}
+
+// A state of one asset and so many accounts, which has no offers.
+fn wide_state(alloc: Global, count: u32) -> Result<Writer, NoMemory> {
+    let mut payload = Writer::new(alloc);
+    put_head(&mut payload)?;
+    put_accounts(&mut payload, count)?;
+    payload.put_u32(0)?;
+    Ok(payload)
+}
+
+// The text of it.
+fn wide_text(alloc: Global, count: u32) -> Result<String, AllocError> {
+    let mut text = String::new(alloc);
+    text.push_str("state version 1 height 0 assets 1\nasset 0 price 16777216 rounding 0\n")?;
+    for place in 0..u64::from(count) {
+        let id = place + 1;
+        write!(text, "account {id} last 0 balances {id}\n")?;
+    }
+    Ok(text)
+}
+
+// Whether so many workers show it as this text.
+fn show_together<R: Threads + Sync>(
+    rt: &R,
+    alloc: Global,
+    shown: &Shown,
+    workers: u32,
+    wanted: &str,
+) -> bool
+    requires form { IsShowable shown.now }
+    requires some_worker { 1 ≤ workers }
+{
+    match par_show(rt, alloc, shown, workers) {
+        Ok(text) => text.bytes() == wanted.as_bytes(),
+        Err(_) => false,
+    }
+}
+
+#[test]
+fn threads_show_accounts_in_their_order(rt: HostRuntime) -> Result<(), Fail> {
+    let alloc = rt.alloc();
+    let payload = wide_state(alloc, 20_000)?;
+    let wanted = wide_text(alloc, 20_000)?;
+    let shown = Shown::State(read_state(alloc, payload.bytes())?);
+    assert!(rt; show_together(&rt, alloc, &shown, 1, wanted.as_str()));
+    assert!(rt; show_together(&rt, alloc, &shown, 3, wanted.as_str()));
+    assert!(rt; show_together(&rt, alloc, &shown, 4, wanted.as_str()));
     Ok(())
 }
 

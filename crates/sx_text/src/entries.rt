@@ -3,7 +3,11 @@
 ghost use Rattle.std.specs.Prelude.{◌≡◌, ℕ, List, ◌++◌, OnOk, string_bytes};
 ghost use Rattle.std.specs.List.{flat_map};
 
+use std::alloc::Global;
 use sx_bytes::NoMemory;
+
+// How many entries tell how long the lines of all are.
+const A_FEW: usize = 64;
 
 /// How an entry of a kind is shown.
 pub trait Line<T> {
@@ -24,4 +28,15 @@ pub fn put_each<T, L: Line<T>>(shape: &L, to: &mut String, entries: &[T]) -> Res
         shape.put(to, entry)?;
     }
     Ok(())
+}
+
+/// About how many bytes the lines of entries take, by those of the last few, and an eighth more. It is a guess, for which
+/// room is taken at once, so that a long text is moved to a larger place as seldom as can be.
+pub fn room<T, L: Line<T>>(alloc: Global, shape: &L, entries: &[T]) -> Result<usize, NoMemory> {
+    let few = A_FEW.min(entries.len());
+    let (_, last) = entries.split_at(entries.len() - few);
+    let mut lines = String::new(alloc);
+    put_each(shape, &mut lines, last)?;
+    let bytes = lines.len().saturating_mul(entries.len() / few.max(1) + 1);
+    Ok(bytes.saturating_add(bytes / 8))
 }

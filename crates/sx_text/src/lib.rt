@@ -1,7 +1,8 @@
 //! The texts that the program prints, byte for byte.
 //!
 //! [`show`] writes what a record holds, a line for each part of it: a state, candidates, a block,
-//! outcomes or a script. [`check_line`] is the line of a valid block, [`proof_line`] the line of a proof of an
+//! outcomes or a script, and [`par_show`] the same, with threads that write the lines of many accounts,
+//! offers or transactions. [`check_line`] is the line of a valid block, [`proof_line`] the line of a proof of an
 //! account, [`demo_lines`] the summary of the demonstration, and [`status_line`] says how a run ended: a
 //! [`Status`], which also has the code that the program ends with. Each answers a [`Text`], which is
 //! exactly what `specs/` says, or that memory ran out.
@@ -15,8 +16,10 @@
 //! decimal, with a minus before a gain below 0; a digest is 64 hexadecimal digits with small letters,
 //! and a set of assets is 8 of them.
 //!
-//! A text is written from its first byte to its last into one buffer that doubles as it fills, so its
-//! memory is at most twice its length.
+//! A text is one buffer, written from its first byte to its last. A long list has room from the start, as
+//! much as its last few entries let guess; where that is too little, the buffer doubles. Threads write to
+//! buffers of their own, each of which is appended and freed, so the lines of a list are there twice for
+//! a moment.
 //!
 //! Not here: reading a text, other languages, and where a text goes.
 #![tactic(auto)]

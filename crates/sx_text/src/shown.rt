@@ -4,11 +4,12 @@ ghost use Rattle.std.specs.Prelude.{◌≡◌, ◌≤◌, ◌++◌, IfOk, OnOk, 
 ghost use Rattle.sx_text.specs.Shown.{IsShowable, shown_text};
 
 use crate::blocks::put_block;
+use crate::entries::room;
 use crate::gathering::{put_outcomes, put_script};
 use crate::hands::{Alone, Hands, Spread};
-use crate::states::put_state;
+use crate::states::{put_state, room_of_state};
 use crate::text::Text;
-use crate::transactions::put_transactions;
+use crate::transactions::{TxLine, put_transactions};
 use std::alloc::Global;
 use std::thread::Threads;
 use sx_block::Block;
@@ -46,12 +47,22 @@ fn put_shown<H: Hands>(hands: &H, to: &mut String, shown: &Shown) -> Result<(), 
     }
 }
 
+// About how many bytes the text of long lists takes.
+fn room_of(alloc: Global, shown: &Shown) -> Result<usize, NoMemory> {
+    match shown {
+        Shown::State(ledger) => room_of_state(alloc, ledger),
+        Shown::Candidates(txs) => room(alloc, &TxLine, txs.items()),
+        Shown::Block(block) => room(alloc, &TxLine, block.txs.items()),
+        Shown::Outcomes(_) | Shown::Script(_) => Ok(0),
+    }
+}
+
 fn text_by<H: Hands>(hands: &H, alloc: Global, shown: &Shown) -> Result<Text, NoMemory>
     requires ready { H.is_ready }
     requires form { IsShowable shown.now }
     ensures { IfOk result (λ text. text ≡ shown_text shown.now) }
 {
-    let mut text = String::new(alloc);
+    let mut text = String::with_capacity(alloc, room_of(alloc, shown)?)?;
     put_shown(hands, &mut text, shown)?;
     Ok(Text::of(text))
 }

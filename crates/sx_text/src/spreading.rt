@@ -7,7 +7,7 @@ ghost use Rattle.std.specs.Prelude.{◌≡◌, ◌*◌, ◌≤◌, ◌++◌, OnO
 ghost use Rattle.std.specs.List.{flat_map};
 ghost use Rattle.std.specs.Thread.{IsSync};
 
-use crate::entries::{Line, put_each};
+use crate::entries::{Line, put_each, room};
 use std::thread::{Threads, join_mut};
 use sx_bytes::NoMemory;
 
@@ -31,7 +31,8 @@ fn put_by<R: Threads + Sync, T: Sync, L: Line<T> + Sync>(
     }
     let few = threads / 2;
     let (front, back) = entries.split_at(entries.len() / 2);
-    let mut later = String::new(*to.allocator());
+    let alloc = *to.allocator();
+    let mut later = String::with_capacity(alloc, room(alloc, shape, back)?)?;
     let (one, other) = join_mut(
         rt,
         &mut || -> Result<(), NoMemory>

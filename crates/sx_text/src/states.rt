@@ -6,9 +6,10 @@ ghost use Rattle.sx_ledger.specs.Ledger.{IsLedger};
 ghost use Rattle.sx_text.specs.Pieces.{indexed};
 ghost use Rattle.sx_text.specs.States.{account_line, asset_line, offer_line, state_line, state_text, used_text};
 
-use crate::entries::Line;
+use crate::entries::{Line, room};
 use crate::hands::Hands;
 use crate::lines::{put_spaced, put_word};
+use std::alloc::Global;
 use sx_bytes::NoMemory;
 use sx_ledger::{Account, Ledger, Offer, Parts};
 use sx_price::Price;
@@ -91,6 +92,15 @@ impl Line<Offer> for OfferLine {
         )?;
         Ok(())
     }
+}
+
+/// About how many bytes the lines of the accounts and the offers of a state take.
+pub fn room_of_state(alloc: Global, ledger: &Ledger) -> Result<usize, NoMemory> {
+    let parts = ledger.parts();
+    let version = parts.version;
+    let accounts = room(alloc, &AccountLine { version }, parts.accounts.items())?;
+    let offers = room(alloc, &OfferLine, parts.offers.items())?;
+    Ok(accounts.saturating_add(offers))
 }
 
 fn put_parts<H: Hands>(hands: &H, to: &mut String, parts: &Parts) -> Result<(), NoMemory>
