@@ -19,7 +19,7 @@ use sx_bytes::Form;
 use sx_input::{Stop, decoded, end, end_of, next, stop_at};
 use sx_record::{Record, tag};
 use sx_text::{Shown, Text};
-use sx_words::Command;
+use sx_words::{Command, Setting};
 
 // The tags of all records.
 const TAGS: [u8; 5] = [
@@ -66,13 +66,14 @@ fn shown<R: Threads + Sync>(rt: &R, alloc: Global, found: &Record) -> Result<Sho
     }
 }
 
-// The text of it.
-fn text_of(alloc: Global, shown: &Shown) -> Result<Text, Stop>
+// The text of it, by as many workers as where a command is given no number of them.
+fn text_of<R: Threads + Sync>(rt: &R, alloc: Global, shown: &Shown) -> Result<Text, Stop>
     requires { IsItem (item_of shown.now) }
     ensures concludes { ConcludesAs Command.Show (item_of shown.now ∷ []) result }
     ensures calm { IsErrOf result Stop.ReadFault → ⊥ }
 {
-    Ok(sx_text::show(alloc, shown)?)
+    let workers = Setting::Workers.default();
+    Ok(sx_text::par_show(rt, alloc, shown, workers)?)
 }
 
 // The text of what the record of the input holds.
@@ -88,5 +89,5 @@ pub fn show<R: Threads + Sync, S: Source>(
     let found = first(alloc, source)?;
     let shown = shown(rt, alloc, &found)?;
     end(alloc, source, end_of(&found))?;
-    text_of(alloc, &shown)
+    text_of(rt, alloc, &shown)
 }

@@ -4,12 +4,12 @@ use Rattle.sx_run.proofs.Shown.{showable, shown_again}
 use Rattle.sx_run.proofs.showing.text_of.Goals as goal
 use Rattle.sx_text.specs.declared.shown.Shown.{Shown}
 
-pub show-requires : goal.show-requires
-show-requires c = showable c.args.shown.now c.requires
+pub par_show-requires-clause-form : goal.par_show-requires-clause-form
+par_show-requires-clause-form g c _ _ = showable c.args.shown.now c.requires
 
 pub returns-clause-concludes : goal.returns-clause-concludes
-returns-clause-concludes c = (
+returns-clause-concludes g c = (
   record { item = _; are = refl; finds = refl },
-  subst (λ (held : Option Shown). IsShown held c.in_ok-show.field-0) (sym (shown_again c.args.shown.now))
-      c.in_ok-show.ensures,
+  subst (λ (held : Option Shown). IsShown held c.in_ok-par_show.field-0) (sym (shown_again c.args.shown.now))
+      c.in_ok-par_show.ensures,
 )
