@@ -12,5 +12,7 @@ pub mod Holdings
 pub mod NamedAgain
 pub mod KeptSorted
 pub mod Picking
+pub mod Appended
+pub mod Parted
 pub mod Few
 pub mod WholeBodies

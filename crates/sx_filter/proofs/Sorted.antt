@@ -22,12 +22,12 @@ ByNumber txs = IsSortedBy (λ x y. before (number_of x) (number_of y)) txs
 pub by_number : (txs : List Tx) → IsSortedBy tx_before txs → ByNumber txs
 by_number txs sorted k d low lt = sym (before_is (get_or txs (k + 1) d) (get_or txs k d)) ∙ sorted k d low lt
 
-abbrev Far : List Tx → Type 0
+abbrev pub Far : List Tx → Type 0
 Far txs =
     (i j : ℕ) (d : Tx) → i ≤ j → j < length txs
     → before (number_of (get_or txs j d)) (number_of (get_or txs i d)) ≡ false
 
-far : (txs : List Tx) → ByNumber txs → Far txs
+pub far : (txs : List Tx) → ByNumber txs → Far txs
 far txs sorted = sorted_far (λ x y. before (number_of x) (number_of y)) (ranks_by number_total number_of) txs sorted
 
 pub accounts_rise : (txs : List Tx) → IsSortedBy tx_before txs → IsNonDecreasingBy (λ x. x.account.0) txs
@@ -91,11 +91,11 @@ module _ (txs : List Tx) (sorted : IsSortedBy tx_before txs) (place : ℕ) (tx :
 -- ---- what a filter leaves
 
 -- none stands before one that is ahead of it
-abbrev Ranked : List Tx → Type 0
+abbrev pub Ranked : List Tx → Type 0
 Ranked [] = Unit {0}
 Ranked (x ∷ xs) = AllByRecursion (λ z. before (number_of z) (number_of x) ≡ false) xs × Ranked xs
 
-ranked : (xs : List Tx) → Far xs → Ranked xs
+pub ranked : (xs : List Tx) → Far xs → Ranked xs
 ranked [] all = tt
 ranked (x ∷ xs) all = (
   behind xs (λ j d lt. all 0 (suc j) d (omega arith) (omega (arith, lt))),
@@ -123,7 +123,7 @@ ranked_left p (x ∷ xs) is = elim (cases_Bool (p x)) [
   | inr e ↦ rw e (ranked_left p xs is.1)
 ]
 
-beside : (xs : List Tx) → Ranked xs → (k : ℕ) (d : Tx) → k + 1 < length xs
+pub beside : (xs : List Tx) → Ranked xs → (k : ℕ) (d : Tx) → k + 1 < length xs
     → before (number_of (get_or xs (k + 1) d)) (number_of (get_or xs k d)) ≡ false
 beside [] is k d lt = absurd (omega arith)
 beside (x ∷ []) is k d lt = absurd (omega arith)

@@ -5,3 +5,4 @@ pub mod Alone
 pub mod Verdicts
 pub mod Named
 pub mod Runs
+pub mod Ranges

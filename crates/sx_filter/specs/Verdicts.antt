@@ -1,8 +1,5 @@
 -- Verdicts on the elements of a list, place by place.
 use Rattle.std.specs.Prelude.{◌≡◌, ℕ, ◌+◌, ◌<◌, Bool, List, length, Some, slice_get, slice_index_or}
-use Rattle.sx_filter.specs.Kept.{passing}
-use Rattle.sx_ledger.specs.declared.parts.Parts.{Parts}
-use Rattle.sx_tx.specs.declared.tx.Tx.{Tx}
 
 -- whether the element at a place passes
 abbrev pub IsVerdict : {X : Type 0} → (X → Bool) → List X → ℕ → Bool → Type 0
@@ -16,8 +13,3 @@ AreVerdicts passes xs verdicts =
 abbrev pub AreVerdictsFrom : {X : Type 0} → (X → Bool) → List X → ℕ → List Bool → Type 0
 AreVerdictsFrom passes xs first verdicts =
     (k : ℕ) (d : Bool) → k < length verdicts → IsVerdict passes xs (first + k) (slice_index_or verdicts k d)
-
--- these are all that pass of some candidates
-pub record ArePassed (parts : Parts) (txs : List Tx) : Type 0 where
-  pub candidates : List Tx
-  pub are : txs ≡ passing parts candidates

@@ -2,45 +2,43 @@
 
 ghost use Rattle.std.specs.Prelude.{◌≡◌, ◌≤◌, Bool, List, length, vec_len, IfOk, IfErr, Err};
 ghost use Rattle.std.specs.List.{filter as those};
-ghost use Rattle.std.specs.List.Sorted.{IsPermutation, IsSortedBy};
 ghost use Rattle.sx_filter.specs.Fault.{fault_of as the_fault, IsFaultOf};
 ghost use Rattle.std.specs.Thread.{IsSync};
-ghost use Rattle.sx_filter.specs.Kept.{kept_of, passes, passing as passing_of};
-ghost use Rattle.sx_filter.specs.Verdicts.{ArePassed, AreVerdicts};
+ghost use Rattle.sx_filter.specs.Kept.{kept_of};
+ghost use Rattle.sx_filter.specs.Ranges.{AreParted, ArePassed};
+ghost use Rattle.sx_filter.specs.Verdicts.{AreVerdicts};
 ghost use Rattle.sx_layout.specs.declared.space.NoRoom.{NoRoom as WhyNoRoom};
 ghost use Rattle.sx_layout.specs.Room.{room_for};
-ghost use Rattle.sx_ledger.specs.Body.{IsAdmissible, tx_before};
+ghost use Rattle.sx_ledger.specs.Body.{IsAdmissible};
 ghost use Rattle.sx_tx.specs.declared.tx.Tx.{Tx as Transaction};
 ghost use Rattle.sx_tx.specs.Transactions.{most_transactions};
 
 use crate::alone::verdicts_of;
 use crate::fault::FilterFault;
-use crate::passing::passing;
+use crate::parting::{joined, parts_of};
 use std::alloc::Global;
 use std::thread::{Threads, join};
 use sx_bytes::NoMemory;
-use sx_layout::{NoRoom, par_sort_txs, room, sort_txs};
+use sx_layout::{NoRoom, room};
 use sx_ledger::Ledger;
 use sx_tx::{Tx, TxList};
 
-// Whether there is room for candidates, and which of them pass. Several workers test them while a thread counts what
-// they ask for.
-fn room_and_passing<R: Threads + Sync>(
+// Whether there is room for candidates, and those that pass by ranges of accounts. Where there are several workers, a
+// thread of its own counts what the candidates ask for.
+fn room_and_parts<R: Threads + Sync>(
     rt: &R,
     alloc: Global,
     ledger: &Ledger,
     candidates: &[Tx],
     workers: u32,
-) -> (Result<(), NoRoom>, Result<Vec<bool>, NoMemory>)
+) -> (Result<(), NoRoom>, Result<Vec<TxList>, NoMemory>)
     requires few_candidates { length candidates.now ≤ most_transactions }
-    requires some_worker { 1 ≤ workers }
     ensures room { result.0 ≡ room_for ledger.now candidates.now }
-    ensures one_each { IfOk result.1 (λ verdicts. length verdicts.items ≡ length candidates.now) }
-    ensures verdicts { IfOk result.1 (λ verdicts. AreVerdicts (passes ledger.now) candidates.now verdicts.items) }
+    ensures parts { IfOk result.1 (λ parts. AreParted ledger.now candidates.now parts.items) }
 {
     if workers == 1 {
         let space = room(ledger, candidates);
-        return (space, passing(rt, alloc, ledger, candidates, workers));
+        return (space, parts_of(rt, alloc, ledger, candidates, workers));
     }
     join(
         rt,
@@ -48,11 +46,10 @@ fn room_and_passing<R: Threads + Sync>(
             requires { length candidates.now ≤ most_transactions }
             ensures { result ≡ room_for ledger.entry.now candidates.entry.now }
         { room(ledger, candidates) },
-        || -> Result<Vec<bool>, NoMemory>
-            requires { IsSync R.row × (1 ≤ workers) }
-            ensures one_each { IfOk result (λ verdicts. length verdicts.items ≡ length candidates.entry.now) }
-            ensures verdicts { IfOk result (λ verdicts. AreVerdicts (passes ledger.entry.now) candidates.entry.now verdicts.items) }
-        { passing(rt, alloc, ledger, candidates, workers) },
+        || -> Result<Vec<TxList>, NoMemory>
+            requires { IsSync R.row × (length candidates.now ≤ most_transactions) }
+            ensures { IfOk result (λ parts. AreParted ledger.entry.now candidates.entry.now parts.items) }
+        { parts_of(rt, alloc, ledger, candidates, workers) },
     )
 }
 
@@ -76,41 +73,28 @@ fn keep(txs: &mut Vec<Tx>, verdicts: &[bool])
     txs.truncate(kept);
 }
 
-// Puts transactions into the order of a body, by several threads where there are several workers.
-fn sort<R: Threads + Sync>(rt: &R, txs: &mut [Tx], workers: u32)
-    ensures moves { IsPermutation txs.old txs.new }
-    ensures sorted { IsSortedBy tx_before txs.new }
-{
-    if workers == 1 {
-        sort_txs(txs);
-    } else {
-        par_sort_txs(rt, txs);
-    }
-}
-
-// Those of candidates, all of which pass, that nothing stands in the way of, sorted.
-fn alone<R: Threads + Sync>(
+// What is kept of candidates, of which these parts by ranges of accounts pass.
+fn kept_of_parts<R: Threads + Sync>(
     rt: &R,
     alloc: Global,
     ledger: &Ledger,
-    txs: Vec<Tx>,
+    parts: &[TxList],
     workers: u32,
 ) -> Result<TxList, NoMemory>
     requires some { 1 ≤ workers }
-    requires passed { ArePassed ledger.now txs.items }
-    ensures { (candidates : List Transaction) → txs.items ≡ passing_of ledger.now candidates
+    requires passed { ArePassed ledger.now parts.now }
+    ensures { (candidates : List Transaction) → AreParted ledger.now candidates parts.now
         → IfOk result (λ kept. kept ≡ kept_of ledger.now candidates) }
 {
-    let mut txs = txs;
-    sort(rt, &mut txs, workers);
+    let mut txs = joined(alloc, parts)?.into_items();
     let verdicts = verdicts_of(rt, alloc, ledger, &txs, workers)?;
     keep(&mut txs, &verdicts);
     Ok(TxList::of(txs))
 }
 
 /// Chooses of at most 1,000,000 candidates of a ledger those that no other candidate stands in the way of,
-/// sorted by account and then by sequence number. The ledger's test of each is shared among 1 to 64
-/// workers, and where these are several, threads sort those that pass. The answer is the same for every number of them.
+/// sorted by account and then by sequence number. The work is shared among 1 to 64 workers by ranges of accounts. The
+/// answer is the same for every number of them.
 ///
 /// A candidate is kept where it passes that test and, among all that pass, no other has its account and
 /// number, no other cancels its offer, no other creates its account, and its account holds of each asset
@@ -135,12 +119,12 @@ pub fn filter<R: Threads + Sync>(
     ensures no_room { (why : WhyNoRoom) → room_for ledger.now candidates.now ≡ Err why → result ≡ Err (the_fault why) }
     ensures fault { IfErr result (IsFaultOf (room_for ledger.now candidates.now)) }
 {
-    room(ledger, candidates)?;
-    let list = TxList::of(candidates.to_vec(alloc)?);
-    filter_list(rt, alloc, ledger, list, workers)
+    let (space, parts) = room_and_parts(rt, alloc, ledger, candidates, workers);
+    space?;
+    Ok(kept_of_parts(rt, alloc, ledger, &parts?, workers)?)
 }
 
-/// The same of a list that the caller needs no more: those that are kept stay in its memory.
+/// The same of a list that the caller needs no more.
 pub fn filter_list<R: Threads + Sync>(
     rt: &R,
     alloc: Global,
@@ -157,10 +141,5 @@ pub fn filter_list<R: Threads + Sync>(
     ensures no_room { (why : WhyNoRoom) → room_for ledger.now candidates ≡ Err why → result ≡ Err (the_fault why) }
     ensures fault { IfErr result (IsFaultOf (room_for ledger.now candidates)) }
 {
-    let (space, verdicts) = room_and_passing(rt, alloc, ledger, candidates.items(), workers);
-    space?;
-    let verdicts = verdicts?;
-    let mut txs = candidates.into_items();
-    keep(&mut txs, &verdicts);
-    Ok(alone(rt, alloc, ledger, txs, workers)?)
+    filter(rt, alloc, ledger, candidates.items(), workers)
 }

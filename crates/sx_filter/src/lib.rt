@@ -17,21 +17,21 @@
 //! candidates that fall out for another reason. `specs/Kept` says so over plain lists, and the answer is exactly that,
 //! sorted by account and then by number.
 //!
-//! [`filter_list`] does the same in the memory of a list that the caller needs no more.
+//! [`filter_list`] does the same of a list that the caller needs no more.
 //!
 //! So the answer is a function of the ledger and the candidates: it is the same for every number of
 //! workers. [`filter_laws`] says that the order of the candidates is of no account, that what is kept is
 //! the body of a block by the rule of version 1, and that a gathering of what is kept accepts all of it.
 //!
-//! Cost: for n candidates the ledger's test of each, which is shared among the workers, and a sort of those that
-//! pass by several threads. Then two of one number are neighbours, and the candidates of an account are a run, of
-//! which the debits are summed up with one search for the account; the workers share the runs too, and a run that lies
-//! in the parts of several is summed up by each of them. The offers that are cancelled and the ids that are created are
-//! sorted too, and cost nothing where there are none. Where there are several workers, threads of their own see whether
-//! there is room, beside the test, and collect those offers and ids, beside the sums. Those that pass, and later those
-//! that are kept, move to the front of the list, which is a copy for [`filter`] and the caller's own for
-//! [`filter_list`]. No memory is taken for each run or candidate beside these lists and two answers of yes or no for
-//! each candidate.
+//! Cost: the ids of accounts are cut into ranges, one for each worker where there are enough candidates, and a thread
+//! for each selects the candidates of its range, sorts them and puts each to the ledger's test, with next to no search
+//! for an account. So those that pass are sorted as soon as the ranges stand one behind the other. Then two of one
+//! number are neighbours, and the candidates of an account are a run, of which the debits are summed up with one search
+//! for the account; the workers share the runs too, and a run that lies in the parts of several is summed up by each of
+//! them. The offers that are cancelled and the ids that are created are sorted too, and cost nothing where there are
+//! none. Where there are several workers, threads of their own see whether there is room, beside the test, and collect
+//! those offers and ids, beside the sums. No memory is taken for each run or candidate beside the lists of the ranges,
+//! the list of all that pass and two answers of yes or no for each candidate.
 //!
 //! Not here: what is kept is not the most that could be kept, since of two that exclude each other neither is.
 //! Nothing says that workers run at the same time.
@@ -47,7 +47,8 @@ mod filtering;
 mod kinds;
 mod laws;
 mod named;
-mod passing;
+mod parting;
+mod ranges;
 mod runs;
 mod seen;
 

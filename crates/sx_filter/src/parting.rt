@@ -1,0 +1,142 @@
+//! The candidates that pass the ledger's test, sorted, by ranges of accounts: a thread for each range.
+
+ghost use Rattle.std.specs.Prelude.{◌≡◌, ◌+◌, ◌<◌, ◌≤◌, List, Ok, IfOk, length, map};
+ghost use Rattle.std.specs.List.{filter as those, flat_map};
+ghost use Rattle.std.specs.List.Sorted.{IsPermutation, IsSortedBy};
+ghost use Rattle.sx_filter.specs.Kept.{passes, passing};
+ghost use Rattle.sx_filter.specs.Ranges.{AreParted, AreParts, IsPart, is_in};
+ghost use Rattle.sx_ledger.specs.Body.{tx_before};
+ghost use Rattle.sx_ledger.specs.Ledger.{ids};
+ghost use Rattle.sx_tx.specs.declared.tx.Tx.{Tx as Transaction};
+ghost use Rattle.sx_tx.specs.Transactions.{most_transactions};
+
+use crate::ranges::{cuts_of, range_of};
+use std::alloc::Global;
+use std::thread::{Threads, map_indices};
+use sx_bytes::NoMemory;
+use sx_layout::sort_txs;
+use sx_ledger::{AccountIndex, Ledger};
+use sx_tx::{Tx, TxList};
+
+// The candidates of a range. Where the ranges are about even, their list does not grow.
+fn select(alloc: Global, candidates: &[Tx], cuts: &[u64], range: usize) -> Result<Vec<Tx>, NoMemory>
+    requires few { length candidates.now ≤ most_transactions }
+    ensures { IfOk result (λ txs. txs.items ≡ those (is_in cuts.now range) candidates.now) }
+{
+    let share = candidates.len() / (cuts.len() + 1);
+    let mut txs = Vec::with_capacity(alloc, share + share / 8)?;
+    for tx in candidates {
+        if range_of(cuts, tx.account.0) == range {
+            txs.push(*tx)?;
+        }
+    }
+    Ok(txs)
+}
+
+// Sorts transactions by account and then by number.
+fn sort(txs: &mut Vec<Tx>)
+    ensures moves { IsPermutation txs.old.items txs.new.items }
+    ensures sorted { IsSortedBy tx_before txs.new.items }
+{
+    sort_txs(txs);
+}
+
+// Leaves those that the ledger passes, in their order. Each account is looked for near the one before it.
+fn drop_refused(ledger: &Ledger, index: &AccountIndex, txs: &mut Vec<Tx>)
+    requires { index.now ≡ ids ledger.now.accounts }
+    ensures { txs.new.items ≡ passing ledger.now txs.old.items }
+{
+    let mut near = 0;
+    let mut kept = 0;
+    for place in 0..txs.len() {
+        let tx = txs[place];
+        if let Ok(places) = ledger.places_of(index, near, &tx) {
+            near = places.account;
+            txs[kept] = tx;
+            kept += 1;
+        }
+    }
+    txs.truncate(kept);
+}
+
+// The candidates of a range that pass, sorted.
+fn part_of(
+    alloc: Global,
+    ledger: &Ledger,
+    index: &AccountIndex,
+    candidates: &[Tx],
+    cuts: &[u64],
+    range: usize,
+) -> Result<TxList, NoMemory>
+    requires index { index.now ≡ ids ledger.now.accounts }
+    requires few { length candidates.now ≤ most_transactions }
+    ensures { IfOk result (IsPart ledger.now (those (is_in cuts.now range) candidates.now)) }
+{
+    let mut txs = select(alloc, candidates, cuts, range)?;
+    sort(&mut txs);
+    drop_refused(ledger, index, &mut txs);
+    Ok(TxList::of(txs))
+}
+
+// The lists of results, or the first failure.
+fn all_of(alloc: Global, results: Vec<Result<TxList, NoMemory>>) -> Result<Vec<TxList>, NoMemory>
+    ensures { IfOk result (λ lists. results.items ≡ map Ok lists.items) }
+{
+    let mut lists = Vec::new(alloc);
+    for result in results {
+        lists.push(result?)?;
+    }
+    Ok(lists)
+}
+
+// Of each range the candidates that pass, sorted. A thread sees to each range.
+fn parts_between<R: Threads + Sync>(
+    rt: &R,
+    alloc: Global,
+    ledger: &Ledger,
+    index: &AccountIndex,
+    candidates: &[Tx],
+    cuts: &[u64],
+) -> Result<Vec<TxList>, NoMemory>
+    requires index { index.now ≡ ids ledger.now.accounts }
+    requires few { length candidates.now ≤ most_transactions }
+    ensures { IfOk result (λ parts. AreParts ledger.now candidates.now cuts.now parts.items) }
+{
+    let results = map_indices(
+        rt,
+        alloc,
+        cuts.len() + 1,
+        &|range: usize| -> Result<TxList, NoMemory>
+            requires { (index.now ≡ ids ledger.now.accounts) × (length candidates.now ≤ most_transactions) }
+            ensures { IfOk result (IsPart ledger.entry.now (those (is_in cuts.entry.now range) candidates.entry.now)) }
+        { part_of(alloc, ledger, index, candidates, cuts, range) },
+    )?;
+    all_of(alloc, results)
+}
+
+// The same of the ranges that so many workers are worth.
+pub(crate) fn parts_of<R: Threads + Sync>(
+    rt: &R,
+    alloc: Global,
+    ledger: &Ledger,
+    candidates: &[Tx],
+    workers: u32,
+) -> Result<Vec<TxList>, NoMemory>
+    requires few { length candidates.now ≤ most_transactions }
+    ensures { IfOk result (λ parts. AreParted ledger.now candidates.now parts.items) }
+{
+    let index = ledger.index()?;
+    let cuts = cuts_of(alloc, ledger, candidates.len(), workers)?;
+    parts_between(rt, alloc, ledger, &index, candidates, &cuts)
+}
+
+// All the lists, one behind the other.
+pub(crate) fn joined(alloc: Global, lists: &[TxList]) -> Result<TxList, NoMemory>
+    ensures { IfOk result (λ txs. txs ≡ flat_map (λ list. list) lists.now) }
+{
+    let mut txs = Vec::new(alloc);
+    for list in lists {
+        txs.extend_from_slice(list.items())?;
+    }
+    Ok(TxList::of(txs))
+}
