@@ -4,7 +4,7 @@ use Rattle.std.proofs.Common.{append_assoc, inl, inr, ◌⊎◌, refl, sym, ap, 
 use Rattle.std.specs.Prelude.{nat_eq, ◌==◌}
 use Rattle.std.specs.List.{filter, list_any}
 use Rattle.std.proofs.lemmas.Bool.{and_from, cases_Bool, eq-eqb}
-use Rattle.sx_filter.specs.Alone.{is_alone, is_covered, is_twice}
+use Rattle.sx_filter.specs.Alone.{is_alone, is_alone_in, is_covered, is_twice}
 use Rattle.sx_filter.specs.Kept.{both, covers, is_kept, kept_behind, kept_of, passes, passing, same_id, same_number}
 use Rattle.sx_filter.specs.Kept.{same_offer}
 use Rattle.sx_filter.proofs.Counts.{elsewhere}
@@ -101,18 +101,18 @@ kept_is parts candidates = ap in_tx_order (behind_is parts candidates [] candida
 
 -- ---- what stands in the way of one
 
-module _ (parts : Parts) (txs : List Tx) (tx : Tx) where
-  pub by_number : is_twice (same_number tx) txs ≡ true → false ≡ is_alone parts txs tx
+module _ (parts : Parts) (passed txs : List Tx) (tx : Tx) where
+  pub by_number : is_twice (same_number tx) txs ≡ true → false ≡ is_alone_in parts passed txs tx
   by_number e = rw e refl
 
   pub by_offer : is_twice (same_number tx) txs ≡ false → is_twice (same_offer tx) txs ≡ true
-      → false ≡ is_alone parts txs tx
+      → false ≡ is_alone_in parts passed txs tx
   by_offer e f = rw e (rw f refl)
 
   pub by_id : is_twice (same_number tx) txs ≡ false → is_twice (same_offer tx) txs ≡ false
-      → is_twice (same_id tx) txs ≡ true → false ≡ is_alone parts txs tx
+      → is_twice (same_id tx) passed ≡ true → false ≡ is_alone_in parts passed txs tx
   by_id e f g = rw e (rw f (rw g refl))
 
   pub by_debits : is_twice (same_number tx) txs ≡ false → is_twice (same_offer tx) txs ≡ false
-      → is_twice (same_id tx) txs ≡ false → is_covered parts txs tx ≡ is_alone parts txs tx
+      → is_twice (same_id tx) passed ≡ false → is_covered parts txs tx ≡ is_alone_in parts passed txs tx
   by_debits e f g = rw e (rw f (rw g refl))

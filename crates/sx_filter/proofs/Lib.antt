@@ -14,5 +14,7 @@ pub mod KeptSorted
 pub mod Picking
 pub mod Appended
 pub mod Parted
+pub mod Locals
+pub mod KeptParts
 pub mod Few
 pub mod WholeBodies

@@ -1,10 +1,10 @@
 -- The parts by ranges of accounts, one behind the other, are what passes of all candidates, sorted.
-use Rattle.std.proofs.Common.{◌≡◌, ℕ, zero, suc, ◌+◌, ◌<◌, ◌≤◌, Bool, true, false, List, [], ◌∷◌, ◌++◌, length, get_or}
-use Rattle.std.proofs.Common.{All, Ok, Result, map, append-nil, append_assoc, cond, inl, inr, refl, sym, ap, subst, ◌∙◌, arith}
+use Rattle.std.proofs.Common.{◌≡◌, ℕ, suc, ◌+◌, ◌<◌, ◌≤◌, Bool, true, false, List, [], ◌∷◌, ◌++◌, length, get_or}
+use Rattle.std.proofs.Common.{All, Ok, Result, map, append-nil, append_assoc, inl, inr, refl, sym, ap, subst, ◌∙◌, arith}
 use Rattle.std.specs.Prelude.{IfOk, nat_le, nat_lt, ◌==◌, not, ◌&&◌}
 use Rattle.std.specs.List.{filter, flat_map}
 use Rattle.std.specs.List.Sorted.{IsPermutation, IsSortedBy}
-use Rattle.std.proofs.lemmas.Bool.{cases_Bool, cases_lt, cases_order, eq-eqb, eqb-true, le-leb, le-ltb, leb-true, lt-leb}
+use Rattle.std.proofs.lemmas.Bool.{cases_Bool, cases_lt, cases_order, eq-eqb, eqb-true, le-leb, le-ltb, leb-true}
 use Rattle.std.proofs.lemmas.Bool.{lt-ltb, ltb-true, ne_eqb}
 use Rattle.std.proofs.lemmas.List.{get_or-map, length-map}
 use Rattle.std.proofs.lemmas.List.Elements.{filter-append}
@@ -110,7 +110,7 @@ module _ (cuts : List ℕ) (candidates : List Tx) where
       (IsPermutation-filter_both (is_below cuts n) (λ tx. not (is_below cuts n tx)) (λ x. refl) (below (suc n))))
 
   module _ (parts : Parts) where
-    among : (p : Tx → Bool) (part : List Tx) (is : IsPart parts (filter p candidates) part) (x : Tx) → In x is.all
+    pub among : (p : Tx → Bool) (part : List Tx) (is : IsPart parts (filter p candidates) part) (x : Tx) → In x is.all
         → p x ≡ true
     among p part is x there =
         (in_filter p x candidates (in_contains x (filter p candidates)

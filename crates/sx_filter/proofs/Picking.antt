@@ -1,12 +1,15 @@
 -- The elements that pass a test, as a loop finds them.
 use Rattle.std.proofs.Common.{◌≡◌, ℕ, zero, suc, ◌+◌, ◌<◌, Bool, false, List, [], ◌∷◌, length, get_or}
-use Rattle.std.proofs.Common.{All, Ok, Some, refl, sym, ap, ◌∙◌, arith}
+use Rattle.std.proofs.Common.{All, Ok, Some, inl, inr, refl, set, subst, sym, ap, ◌∙◌, arith}
 use Rattle.std.specs.Prelude.{slice_get}
-use Rattle.std.proofs.lemmas.List.{drop_more}
+use Rattle.std.proofs.lemmas.Bool.{cases_lt}
+use Rattle.std.proofs.lemmas.Grind.{get_or-set_at}
+use Rattle.std.proofs.lemmas.List.{drop_more, get_or-set_other}
 use Rattle.std.proofs.lemmas.List.Filters.{FiltersInPlace, FiltersInPlace-more_no}
 use Rattle.std.proofs.lemmas.Option.{slice_get_read}
 use Rattle.std.proofs.lemmas.List.Elements.{Contains-get_or}
 use Rattle.sx_filter.specs.Kept.{passes, passing}
+use Rattle.sx_filter.specs.Verdicts.{IsVerdict}
 use Rattle.sx_filter.proofs.Counts.{in_contains, in_filter}
 use Rattle.sx_filter.proofs.KeptLaws.{passes_is}
 use Rattle.sx_ledger.specs.declared.parts.Parts.{Parts}
@@ -36,3 +39,18 @@ all_pass parts candidates k d lt =
     let x = get_or (passing parts candidates) k d in
     passes_is parts x (in_filter (passes parts) x candidates
     (in_contains x (passing parts candidates) (Contains-get_or (passing parts candidates) k d lt))).1
+
+-- one verdict more
+pub told_more : {X : Type 0} (test : X → Bool) (xs : List X) (old : List Bool) (place : ℕ) (is : Bool)
+    → place < length old → IsVerdict test xs place is
+    → ((k : ℕ) (d : Bool) → k < place → IsVerdict test xs k (get_or old k d))
+    → (k : ℕ) (d : Bool) → k < place + 1 → IsVerdict test xs k (get_or (set old place is) k d)
+told_more test xs old place is inside here before k d lt x at =
+    elim (cases_lt k place) [
+      | inl less ↦
+          get_or-set_other old place k is d (λ e. absurd (omega (arith, e, less))) ∙ before k d less x at
+      | inr most ↦
+          let same : k ≡ place = omega (arith, lt, most) in
+          get_or-set_at old place k is d same inside
+          ∙ here x (subst (λ (j : ℕ). slice_get xs j ≡ Some x) same at)
+    ]

@@ -1,7 +1,7 @@
 -- The candidates of an account stand side by side, so that its debits are those of its run.
 use Rattle.std.proofs.Common.{◌≡◌, ℕ, zero, suc, ◌+◌, ◌-◌, ◌<◌, ◌≤◌, Bool, ◌&&◌, List, [], ◌∷◌, All, Ok}
-use Rattle.std.proofs.Common.{Some, drop, get_or, length, take, inl, inr, refl, sym, ap, subst, ◌∙◌, arith}
-use Rattle.std.specs.Prelude.{is_ok, min, nat_le, slice_get}
+use Rattle.std.proofs.Common.{Some, drop, get_or, take, inl, inr, refl, sym, ap, subst, ◌∙◌, arith}
+use Rattle.std.specs.Prelude.{is_ok, nat_le, slice_get}
 use Rattle.std.specs.List.{slice_range}
 use Rattle.std.specs.List.Sorted.{IsSortedBy}
 use Rattle.std.proofs.lemmas.Bool.{cases_lt}
@@ -119,31 +119,16 @@ module _ (txs : List Tx) (sorted : IsSortedBy tx_before txs) (start end : ℕ) (
     run_covers (suc n) =
         λ i. run_covers n i && nat_le (sym (run_debits n) i) (holding_of parts.accounts first.account.0 n)
 
--- where two neighbours are of different accounts, a run begins between them
-pub between_accounts : (txs : List Tx) → IsSortedBy tx_before txs → (start : ℕ) (x y : Tx) → 0 < start
-    → slice_get txs (start - 1) ≡ Some x → slice_get txs start ≡ Some y → x.account.0 < y.account.0 → Begins txs start
-between_accounts txs sorted start x y some before here less k one other at lt there =
-    let inside = slice_get_within txs start y here in
-    let up : (get_or txs k x).account.0 ≤ (get_or txs (start - 1) x).account.0 =
-    accounts_rise txs sorted k (start - 1) x (omega (arith, lt)) (omega (arith, inside)) in
-    let low = ap (λ (t : Tx). t.account.0) (get_or_from_slice_get txs k one x at) in
-    let last = ap (λ (t : Tx). t.account.0) (get_or_from_slice_get txs (start - 1) x x before) in
-    let next = ap (λ (t : Tx). t.account.0) (get_or_from_slice_get txs start y x here) in
-    let same = ap (λ (t : Tx). t.account.0) (get_or_from_slice_get txs start other x there) in
-    omega (arith, up, low, last, next, same, less)
+-- ---- verdicts of one run more
 
--- ---- verdicts of one run more, of those from a place on
-
-pub verdicts_more : {X : Type 0} (test : X → Bool) (xs : List X) (old new : List Bool) (first start end : ℕ)
-    (is : Bool) → length new ≡ length old
-    → ((k : ℕ) (d : Bool) → k < start - first → get_or new k d ≡ get_or old k d)
-    → ((k : ℕ) (d : Bool) → start - first ≤ k → k < min end (first + length old) - first → get_or new k d ≡ is)
+pub verdicts_more : {X : Type 0} (test : X → Bool) (xs : List X) (old new : List Bool) (start end : ℕ) (is : Bool)
+    → ((k : ℕ) (d : Bool) → k < start → get_or new k d ≡ get_or old k d)
+    → ((k : ℕ) (d : Bool) → start ≤ k → k < end → get_or new k d ≡ is)
     → ((k : ℕ) (x : X) → slice_get xs k ≡ Some x → start ≤ k → k < end → is ≡ test x)
-    → ((k : ℕ) (d : Bool) → k < length old → first + k < start → IsVerdict test xs (first + k) (get_or old k d))
-    → (k : ℕ) (d : Bool) → k < length new → first + k < end → IsVerdict test xs (first + k) (get_or new k d)
-verdicts_more test xs old new first start end is one_each same filled alike before k d lt low x at =
-    elim (cases_lt (first + k) start) [
-      | inl less ↦ same k d (omega (arith, less)) ∙ before k d (omega (arith, one_each, lt)) less x at
-      | inr high ↦
-          filled k d (omega (arith, high)) (omega (arith, low, lt, one_each)) ∙ alike (first + k) x at high low
+    → ((k : ℕ) (d : Bool) → k < start → IsVerdict test xs k (get_or old k d))
+    → (k : ℕ) (d : Bool) → k < end → IsVerdict test xs k (get_or new k d)
+verdicts_more test xs old new start end is same filled alike before k d lt x at =
+    elim (cases_lt k start) [
+      | inl less ↦ same k d less ∙ before k d less x at
+      | inr high ↦ filled k d high lt ∙ alike k x at high lt
     ]

@@ -1,11 +1,11 @@
 -- What candidates name, in order, to tell what is named more than once.
-use Rattle.std.specs.Prelude.{List}
+use Rattle.std.specs.Prelude.{ℕ, List}
 use Rattle.std.specs.declared.cmp.Ordering.{Ordering}
 use Rattle.std.specs.List.Sorted.{IsPermutation, IsSorted}
 use Rattle.std.specs.Ordering.{nat_cmp}
-use Rattle.sx_filter.specs.declared.named.Named.{Named}
 use Rattle.sx_filter.specs.declared.seen.Seen.{Seen}
 use Rattle.sx_ledger.specs.contracts.key.KeyOrd.TheImpl as derived
+use Rattle.sx_ledger.specs.declared.key.Key.{Key}
 use Rattle.sx_ledger.specs.Body.{cancelled, created}
 use Rattle.sx_tx.specs.declared.tx.Tx.{Tx}
 
@@ -14,7 +14,10 @@ pub record IsSeen {K : Type 0} (cmp : K → K → Ordering) (keys : List K) (see
   pub moves : IsPermutation keys seen.keys.items
   pub sorted : IsSorted cmp seen.keys.items
 
--- what candidates cancel and create
-pub record IsNamed (txs : List Tx) (named : Named) : Type 0 where
-  pub offers : IsSeen derived.ghosts.cmp (cancelled txs) named.offers
-  pub ids : IsSeen nat_cmp (created txs) named.ids
+-- what candidates cancel
+abbrev pub AreOffers : List Tx → Seen Key → Type 0
+AreOffers txs seen = IsSeen derived.ghosts.cmp (cancelled txs) seen
+
+-- what candidates create
+abbrev pub AreIds : List Tx → Seen ℕ → Type 0
+AreIds txs seen = IsSeen nat_cmp (created txs) seen

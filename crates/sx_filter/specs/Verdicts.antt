@@ -1,5 +1,5 @@
 -- Verdicts on the elements of a list, place by place.
-use Rattle.std.specs.Prelude.{◌≡◌, ℕ, ◌+◌, ◌<◌, Bool, List, length, Some, slice_get, slice_index_or}
+use Rattle.std.specs.Prelude.{◌≡◌, ℕ, ◌<◌, Bool, List, length, Some, slice_get, slice_index_or}
 
 -- whether the element at a place passes
 abbrev pub IsVerdict : {X : Type 0} → (X → Bool) → List X → ℕ → Bool → Type 0
@@ -8,8 +8,3 @@ IsVerdict {X} passes xs place verdict = (x : X) → slice_get xs place ≡ Some 
 abbrev pub AreVerdicts : {X : Type 0} → (X → Bool) → List X → List Bool → Type 0
 AreVerdicts passes xs verdicts =
     (place : ℕ) (d : Bool) → place < length verdicts → IsVerdict passes xs place (slice_index_or verdicts place d)
-
--- the same of the elements from a place on
-abbrev pub AreVerdictsFrom : {X : Type 0} → (X → Bool) → List X → ℕ → List Bool → Type 0
-AreVerdictsFrom passes xs first verdicts =
-    (k : ℕ) (d : Bool) → k < length verdicts → IsVerdict passes xs (first + k) (slice_index_or verdicts k d)

@@ -1,24 +1,24 @@
-//! Which candidates nothing stands in the way of, where all that pass are in the order of a body.
+//! Which candidates of a part nothing stands in the way of.
 
-ghost use Rattle.std.specs.Prelude.{◌≡◌, ◌<◌, ◌≤◌, Bool, Ok, All, IfOk, Some, length, slice_get};
+ghost use Rattle.std.specs.Prelude.{◌≡◌, ◌<◌, Bool, List, IfOk, Some, length, vec_len, slice_get};
+ghost use Rattle.std.specs.List.{filter as those};
 ghost use Rattle.std.specs.List.Sorted.{IsSortedBy};
-ghost use Rattle.std.specs.Thread.{IsSync};
-ghost use Rattle.sx_filter.specs.Alone.{is_alone, is_covered, is_twice};
+ghost use Rattle.sx_filter.specs.Alone.{is_alone_in, is_covered, is_twice};
 ghost use Rattle.sx_filter.specs.Kept.{same_number};
-ghost use Rattle.sx_filter.specs.Named.{IsNamed};
+ghost use Rattle.sx_filter.specs.Named.{AreIds, AreOffers};
+ghost use Rattle.sx_filter.specs.Ranges.{IsReady};
 ghost use Rattle.sx_filter.specs.Verdicts.{AreVerdicts, IsVerdict};
 ghost use Rattle.sx_ledger.specs.declared.parts.Parts.{Parts as Ledgers};
 ghost use Rattle.sx_ledger.specs.Body.{tx_before};
-ghost use Rattle.sx_ledger.specs.Static.{static_of};
 ghost use Rattle.sx_tx.specs.declared.tx.Tx.{Tx as Transaction};
 
-use crate::named::Named;
-use crate::runs::covered_places;
+use crate::named::{cancelled_keys, is_id_taken, is_offer_taken};
+use crate::runs::cover;
+use crate::seen::Seen;
 use std::alloc::Global;
-use std::thread::{Threads, for_each_mut, join};
 use sx_bytes::NoMemory;
-use sx_ledger::Ledger;
-use sx_tx::Tx;
+use sx_ledger::{Key, Ledger};
+use sx_tx::{Tx, TxList};
 
 // Whether two candidates have one account and number.
 fn have_one_number(one: &Tx, other: &Tx) -> bool
@@ -39,112 +39,115 @@ fn is_number_taken(txs: &[Tx], place: usize) -> bool
         || place < txs.len() - 1 && have_one_number(tx, &txs[place + 1])
 }
 
-// Whether nothing stands in the way of the candidate at a place, of which the account is covered or not.
-fn stands_alone(txs: &[Tx], place: usize, named: &Named, covered: bool) -> bool
+// Whether nothing stands in the way of the candidate at a place, of which the account is covered or not. The offers are
+// those that candidates of the same accounts cancel, and the ids those that any candidates create.
+fn stands_alone(
+    txs: &[Tx],
+    place: usize,
+    offers: &Seen<Key>,
+    ids: &Seen<u64>,
+    covered: bool,
+) -> bool
     requires place { place < length txs.now }
     requires sorted { IsSortedBy tx_before txs.now }
-    requires named { IsNamed txs.now named.now }
-    ensures { (parts : Ledgers) → IsVerdict (is_covered parts txs.now) txs.now place covered
-        → IsVerdict (is_alone parts txs.now) txs.now place result }
+    requires offers { AreOffers txs.now offers.now }
+    ensures { (parts : Ledgers) (passed : List Transaction) → AreIds passed ids.now
+        → IsVerdict (is_covered parts txs.now) txs.now place covered
+        → IsVerdict (is_alone_in parts passed txs.now) txs.now place result }
 {
     let tx = &txs[place];
     if is_number_taken(txs, place) {
         return false;
     }
-    if named.is_offer_taken(tx) {
+    if is_offer_taken(offers, tx) {
         return false;
     }
-    if named.is_id_taken(tx) {
+    if is_id_taken(ids, tx) {
         return false;
     }
     covered
 }
 
-// Tests all candidates, each by itself, in so many threads.
-fn test_all<R: Threads + Sync>(
-    rt: &R,
-    txs: &[Tx],
-    named: &Named,
-    covered: &[bool],
-    workers: u32,
-    verdicts: &mut [bool],
-)
-    requires some { 1 ≤ workers }
+// Tests all candidates, each by itself, where the verdicts told whether their accounts are covered.
+fn test_all(txs: &[Tx], offers: &Seen<Key>, ids: &Seen<u64>, verdicts: &mut [bool])
     requires sorted { IsSortedBy tx_before txs.now }
-    requires named { IsNamed txs.now named.now }
-    requires covered { length covered.now ≡ length txs.now }
+    requires offers { AreOffers txs.now offers.now }
     requires one_each { length verdicts.old ≡ length txs.now }
     ensures one_each { length verdicts.new ≡ length txs.now }
-    ensures verdicts { (parts : Ledgers) → AreVerdicts (is_covered parts txs.now) txs.now covered.now
-        → AreVerdicts (is_alone parts txs.now) txs.now verdicts.new }
+    ensures verdicts { (parts : Ledgers) (passed : List Transaction) → AreIds passed ids.now
+        → AreVerdicts (is_covered parts txs.now) txs.now verdicts.old
+        → AreVerdicts (is_alone_in parts passed txs.now) txs.now verdicts.new }
 {
-    for_each_mut(
-        rt,
-        verdicts,
-        workers as usize,
-        &|place: usize, verdict: &mut bool|
-            requires { (place < length txs.now) × ((length covered.now ≡ length txs.now)
-                × (IsSortedBy tx_before txs.now × IsNamed txs.now named.now)) }
-            ensures { (parts : Ledgers) → AreVerdicts (is_covered parts txs.entry.now) txs.entry.now covered.entry.now
-                → IsVerdict (is_alone parts txs.entry.now) txs.entry.now place verdict.exit.now }
-        {
-            *verdict = stands_alone(txs, place, named, covered[place]);
-        },
-    );
-}
-
-// Of each candidate whether its account is covered, and what all candidates name. With several workers threads of their
-// own collect the names.
-fn covered_and_named<R: Threads + Sync>(
-    rt: &R,
-    alloc: Global,
-    ledger: &Ledger,
-    txs: &[Tx],
-    workers: u32,
-) -> (Result<Vec<bool>, NoMemory>, Result<Named, NoMemory>)
-    requires some { 1 ≤ workers }
-    requires passes { All (λ tx. static_of ledger.now tx ≡ Ok tt) txs.now }
-    requires sorted { IsSortedBy tx_before txs.now }
-    ensures one_each { IfOk result.0 (λ covered. length covered.items ≡ length txs.now) }
-    ensures covered { IfOk result.0 (λ covered. AreVerdicts (is_covered ledger.now txs.now) txs.now covered.items) }
-    ensures named { IfOk result.1 (IsNamed txs.now) }
-{
-    if workers == 1 {
-        let covered = covered_places(rt, alloc, ledger, txs, workers);
-        return (covered, Named::of(alloc, txs));
+    for place in 0..verdicts.len() {
+        let covered = verdicts[place];
+        verdicts[place] = stands_alone(txs, place, offers, ids, covered);
     }
-    join(
-        rt,
-        || -> Result<Vec<bool>, NoMemory>
-            requires { IsSync R.row × (1 ≤ workers) × All (λ tx. static_of ledger.now tx ≡ Ok tt) txs.now × IsSortedBy tx_before txs.now }
-            ensures one_each { IfOk result (λ covered. length covered.items ≡ length txs.entry.now) }
-            ensures covered { IfOk result (λ covered. AreVerdicts (is_covered ledger.entry.now txs.entry.now) txs.entry.now covered.items) }
-        { covered_places(rt, alloc, ledger, txs, workers) },
-        || -> Result<Named, NoMemory>
-            requires { IsSync R.row }
-            ensures { IfOk result (IsNamed txs.entry.now) }
-        { Named::par_of(rt, alloc, txs) },
-    )
 }
 
-// Of each candidate whether nothing stands in its way.
-pub(crate) fn verdicts_of<R: Threads + Sync>(
-    rt: &R,
+// Of each candidate whether its account is covered and nothing stands in its way.
+fn judge(ledger: &Ledger, txs: &[Tx], offers: &Seen<Key>, ids: &Seen<u64>, verdicts: &mut [bool])
+    requires ready { IsReady ledger.now txs.now }
+    requires offers { AreOffers txs.now offers.now }
+    requires one_each { length verdicts.old ≡ length txs.now }
+    ensures one_each { length verdicts.new ≡ length txs.now }
+    ensures verdicts { (passed : List Transaction) → AreIds passed ids.now
+        → AreVerdicts (is_alone_in ledger.now passed txs.now) txs.now verdicts.new }
+{
+    cover(ledger, txs, verdicts);
+    test_all(txs, offers, ids, verdicts);
+}
+
+// The same in a list of its own, where no other candidates are of these accounts.
+fn verdicts_of(
     alloc: Global,
     ledger: &Ledger,
     txs: &[Tx],
-    workers: u32,
+    ids: &Seen<u64>,
 ) -> Result<Vec<bool>, NoMemory>
-    requires some { 1 ≤ workers }
-    requires passes { All (λ tx. static_of ledger.now tx ≡ Ok tt) txs.now }
-    requires sorted { IsSortedBy tx_before txs.now }
+    requires ready { IsReady ledger.now txs.now }
     ensures one_each { IfOk result (λ verdicts. length verdicts.items ≡ length txs.now) }
-    ensures verdicts { IfOk result (λ verdicts. AreVerdicts (is_alone ledger.now txs.now) txs.now verdicts.items) }
+    ensures verdicts { (passed : List Transaction) → AreIds passed ids.now
+        → IfOk result (λ verdicts. AreVerdicts (is_alone_in ledger.now passed txs.now) txs.now verdicts.items) }
 {
-    let (covered, named) = covered_and_named(rt, alloc, ledger, txs, workers);
-    let covered = covered?;
-    let named = named?;
+    let offers = Seen::of(cancelled_keys(alloc, txs)?);
     let mut verdicts = vec![in alloc; false; txs.len()]?;
-    test_all(rt, txs, &named, &covered, workers, &mut verdicts);
+    judge(ledger, txs, &offers, ids, &mut verdicts);
     Ok(verdicts)
+}
+
+// Keeps the candidates at the places that a list of verdicts names, in their order. Those before the first that is not
+// kept stay where they are.
+fn keep(txs: &mut Vec<Tx>, verdicts: &[bool])
+    requires { length verdicts.now ≡ vec_len txs.old }
+    ensures { (passes : Transaction → Bool) → AreVerdicts passes txs.old.items verdicts.now
+        → txs.new.items ≡ those passes txs.old.items }
+{
+    let mut kept = 0;
+    for place in 0..verdicts.len() {
+        if verdicts[place] {
+            let tx = txs[place];
+            if kept < place {
+                txs[kept] = tx;
+            }
+            kept += 1;
+        }
+    }
+    txs.truncate(kept);
+}
+
+// What is kept of a part, where any candidates create the ids. It stays in the memory of the part.
+pub(crate) fn alone(
+    alloc: Global,
+    ledger: &Ledger,
+    part: TxList,
+    ids: &Seen<u64>,
+) -> Result<TxList, NoMemory>
+    requires ready { IsReady ledger.now part }
+    ensures { (passed : List Transaction) → AreIds passed ids.now
+        → IfOk result (λ kept. kept ≡ those (is_alone_in ledger.now passed part) part) }
+{
+    let mut txs = part.into_items();
+    let verdicts = verdicts_of(alloc, ledger, &txs, ids)?;
+    keep(&mut txs, &verdicts);
+    Ok(TxList::of(txs))
 }

@@ -1,21 +1,19 @@
 //! The candidates that a filter keeps.
 
-ghost use Rattle.std.specs.Prelude.{◌≡◌, ◌≤◌, Bool, List, length, vec_len, IfOk, IfErr, Err};
-ghost use Rattle.std.specs.List.{filter as those};
+ghost use Rattle.std.specs.Prelude.{◌≡◌, ◌≤◌, length, IfOk, IfErr, Err};
 ghost use Rattle.sx_filter.specs.Fault.{fault_of as the_fault, IsFaultOf};
 ghost use Rattle.std.specs.Thread.{IsSync};
 ghost use Rattle.sx_filter.specs.Kept.{kept_of};
-ghost use Rattle.sx_filter.specs.Ranges.{AreParted, ArePassed};
-ghost use Rattle.sx_filter.specs.Verdicts.{AreVerdicts};
+ghost use Rattle.sx_filter.specs.Ranges.{AreParted};
 ghost use Rattle.sx_layout.specs.declared.space.NoRoom.{NoRoom as WhyNoRoom};
 ghost use Rattle.sx_layout.specs.Room.{room_for};
 ghost use Rattle.sx_ledger.specs.Body.{IsAdmissible};
-ghost use Rattle.sx_tx.specs.declared.tx.Tx.{Tx as Transaction};
 ghost use Rattle.sx_tx.specs.Transactions.{most_transactions};
 
-use crate::alone::verdicts_of;
 use crate::fault::FilterFault;
-use crate::parting::{joined, parts_of};
+use crate::keeping::kept_in_parts;
+use crate::kept::Kept;
+use crate::parting::parts_of;
 use std::alloc::Global;
 use std::thread::{Threads, join};
 use sx_bytes::NoMemory;
@@ -53,43 +51,19 @@ fn room_and_parts<R: Threads + Sync>(
     )
 }
 
-// Keeps the candidates at the places that a list of verdicts names, in their order. Those before the first that is not
-// kept stay where they are.
-fn keep(txs: &mut Vec<Tx>, verdicts: &[bool])
-    requires { length verdicts.now ≡ vec_len txs.old }
-    ensures { (passes : Transaction → Bool) → AreVerdicts passes txs.old.items verdicts.now
-        → txs.new.items ≡ those passes txs.old.items }
-{
-    let mut kept = 0;
-    for place in 0..verdicts.len() {
-        if verdicts[place] {
-            let tx = txs[place];
-            if kept < place {
-                txs[kept] = tx;
-            }
-            kept += 1;
-        }
-    }
-    txs.truncate(kept);
-}
-
-// What is kept of candidates, of which these parts by ranges of accounts pass.
-fn kept_of_parts<R: Threads + Sync>(
+// The same of a list, which goes as soon as the parts are found.
+fn room_and_parts_of_list<R: Threads + Sync>(
     rt: &R,
     alloc: Global,
     ledger: &Ledger,
-    parts: &[TxList],
+    candidates: TxList,
     workers: u32,
-) -> Result<TxList, NoMemory>
-    requires some { 1 ≤ workers }
-    requires passed { ArePassed ledger.now parts.now }
-    ensures { (candidates : List Transaction) → AreParted ledger.now candidates parts.now
-        → IfOk result (λ kept. kept ≡ kept_of ledger.now candidates) }
+) -> (Result<(), NoRoom>, Result<Vec<TxList>, NoMemory>)
+    requires few_candidates { length candidates ≤ most_transactions }
+    ensures room { result.0 ≡ room_for ledger.now candidates }
+    ensures parts { IfOk result.1 (λ parts. AreParted ledger.now candidates parts.items) }
 {
-    let mut txs = joined(alloc, parts)?.into_items();
-    let verdicts = verdicts_of(rt, alloc, ledger, &txs, workers)?;
-    keep(&mut txs, &verdicts);
-    Ok(TxList::of(txs))
+    room_and_parts(rt, alloc, ledger, candidates.items(), workers)
 }
 
 /// Chooses of at most 1,000,000 candidates of a ledger those that no other candidate stands in the way of,
@@ -121,17 +95,18 @@ pub fn filter<R: Threads + Sync>(
 {
     let (space, parts) = room_and_parts(rt, alloc, ledger, candidates, workers);
     space?;
-    Ok(kept_of_parts(rt, alloc, ledger, &parts?, workers)?)
+    let kept = kept_in_parts(rt, alloc, ledger, parts?)?;
+    Ok(kept.into_list(alloc)?)
 }
 
-/// The same of a list that the caller needs no more.
+/// The same of a list that the caller needs no more, in parts. Its memory serves again as soon as they are found.
 pub fn filter_list<R: Threads + Sync>(
     rt: &R,
     alloc: Global,
     ledger: &Ledger,
     candidates: TxList,
     workers: u32,
-) -> Result<TxList, FilterFault>
+) -> Result<Kept, FilterFault>
     requires few_candidates { length candidates ≤ most_transactions }
     requires some_worker { 1 ≤ workers }
     requires few_workers { workers ≤ 64 }
@@ -141,5 +116,7 @@ pub fn filter_list<R: Threads + Sync>(
     ensures no_room { (why : WhyNoRoom) → room_for ledger.now candidates ≡ Err why → result ≡ Err (the_fault why) }
     ensures fault { IfErr result (IsFaultOf (room_for ledger.now candidates)) }
 {
-    filter(rt, alloc, ledger, candidates.items(), workers)
+    let (space, parts) = room_and_parts_of_list(rt, alloc, ledger, candidates, workers);
+    space?;
+    Ok(kept_in_parts(rt, alloc, ledger, parts?)?)
 }

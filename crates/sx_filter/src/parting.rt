@@ -1,7 +1,7 @@
 //! The candidates that pass the ledger's test, sorted, by ranges of accounts: a thread for each range.
 
-ghost use Rattle.std.specs.Prelude.{◌≡◌, ◌+◌, ◌<◌, ◌≤◌, List, Ok, IfOk, length, map};
-ghost use Rattle.std.specs.List.{filter as those, flat_map};
+ghost use Rattle.std.specs.Prelude.{◌≡◌, ◌+◌, ◌<◌, ◌≤◌, IfOk, length};
+ghost use Rattle.std.specs.List.{filter as those};
 ghost use Rattle.std.specs.List.Sorted.{IsPermutation, IsSortedBy};
 ghost use Rattle.sx_filter.specs.Kept.{passes, passing};
 ghost use Rattle.sx_filter.specs.Ranges.{AreParted, AreParts, IsPart, is_in};
@@ -10,6 +10,7 @@ ghost use Rattle.sx_ledger.specs.Ledger.{ids};
 ghost use Rattle.sx_tx.specs.declared.tx.Tx.{Tx as Transaction};
 ghost use Rattle.sx_tx.specs.Transactions.{most_transactions};
 
+use crate::lists::all_of;
 use crate::ranges::{cuts_of, range_of};
 use std::alloc::Global;
 use std::thread::{Threads, map_indices};
@@ -78,17 +79,6 @@ fn part_of(
     Ok(TxList::of(txs))
 }
 
-// The lists of results, or the first failure.
-fn all_of(alloc: Global, results: Vec<Result<TxList, NoMemory>>) -> Result<Vec<TxList>, NoMemory>
-    ensures { IfOk result (λ lists. results.items ≡ map Ok lists.items) }
-{
-    let mut lists = Vec::new(alloc);
-    for result in results {
-        lists.push(result?)?;
-    }
-    Ok(lists)
-}
-
 // Of each range the candidates that pass, sorted. A thread sees to each range.
 fn parts_between<R: Threads + Sync>(
     rt: &R,
@@ -128,15 +118,4 @@ pub(crate) fn parts_of<R: Threads + Sync>(
     let index = ledger.index()?;
     let cuts = cuts_of(alloc, ledger, candidates.len(), workers)?;
     parts_between(rt, alloc, ledger, &index, candidates, &cuts)
-}
-
-// All the lists, one behind the other.
-pub(crate) fn joined(alloc: Global, lists: &[TxList]) -> Result<TxList, NoMemory>
-    ensures { IfOk result (λ txs. txs ≡ flat_map (λ list. list) lists.now) }
-{
-    let mut txs = Vec::new(alloc);
-    for list in lists {
-        txs.extend_from_slice(list.items())?;
-    }
-    Ok(TxList::of(txs))
 }

@@ -1,31 +1,23 @@
 //! Runs of candidates: those of one account stand side by side, so that their debits are summed at once.
 
-ghost use Rattle.std.specs.Prelude.{◌≡◌, ℕ, ◌+◌, ◌<◌, ◌≤◌, ◌++◌, [], ◌∷◌, Bool, true, List, All, Ok, IfOk, IfSome, length};
+ghost use Rattle.std.specs.Prelude.{◌≡◌, ℕ, ◌<◌, ◌≤◌, ◌++◌, [], ◌∷◌, Bool, true, List, All, Ok, IfSome, length};
 ghost use Rattle.std.specs.Prelude.{slice_index_or};
 ghost use Rattle.std.specs.Bool.{OnTrue};
-ghost use Rattle.std.specs.List.Sorted.{IsSortedBy};
 ghost use Rattle.sx_filter.specs.Alone.{is_covered as is_covered_tx};
 ghost use Rattle.sx_filter.specs.Kept.{covers};
-ghost use Rattle.sx_filter.specs.Runs.{AreHeld, AreSums, Begins, EndsRun};
-ghost use Rattle.sx_filter.specs.Verdicts.{AreVerdicts, AreVerdictsFrom};
+ghost use Rattle.sx_filter.specs.Runs.{AreHeld, AreSums, EndsRun};
+ghost use Rattle.sx_filter.specs.Ranges.{IsReady};
+ghost use Rattle.sx_filter.specs.Verdicts.{AreVerdicts};
 ghost use Rattle.sx_ledger.specs.declared.parts.Parts.{Parts as Ledgers};
-ghost use Rattle.sx_ledger.specs.Body.{tx_before};
 ghost use Rattle.sx_ledger.specs.Effects.{debit};
 ghost use Rattle.sx_ledger.specs.Ledger.{assets_of};
 ghost use Rattle.sx_ledger.specs.Static.{static_of};
 ghost use Rattle.sx_tx.specs.declared.tx.Tx.{Tx as Transaction};
 
 use crate::kinds::debited_portion;
-use std::alloc::Global;
-use std::thread::{Threads, for_each_chunk_mut};
 use sx_base::{AccountId, AssetId};
-use sx_bytes::NoMemory;
 use sx_ledger::Ledger;
 use sx_tx::Tx;
-
-// How many candidates are worth a thread of their own. Going over them takes a tenth of a millisecond, and to start a
-// thread a part of that.
-const WORTH_A_THREAD: usize = 4_096;
 
 // Where the run ends that begins at a place.
 fn end_of_run(txs: &[Tx], start: usize) -> usize
@@ -39,23 +31,6 @@ fn end_of_run(txs: &[Tx], start: usize) -> usize
         }
     }
     txs.len()
-}
-
-// Where the last run begins that does not begin after a place.
-fn start_of_run(txs: &[Tx], place: usize) -> usize
-    requires place { place < length txs.now }
-    requires sorted { IsSortedBy tx_before txs.now }
-    ensures before { result ≤ place }
-    ensures begins { Begins txs.now result }
-{
-    let mut start = place;
-    while start > 0 {
-        if txs[start - 1].account.0 < txs[start].account.0 {
-            return start;
-        }
-        start -= 1;
-    }
-    start
 }
 
 // What an account holds, by asset, and nothing where it is not there.
@@ -134,21 +109,17 @@ fn mark(part: &mut [bool], from: usize, end: usize, is: bool)
     }
 }
 
-// Of the candidates from a place on, one for each slot, whether the account of each holds as much as all its candidates
-// debit. Of a run that reaches out of these the whole counts.
-fn cover_part(ledger: &Ledger, txs: &[Tx], first: usize, part: &mut [bool])
-    requires passes { All (λ tx. static_of ledger.now tx ≡ Ok tt) txs.now }
-    requires sorted { IsSortedBy tx_before txs.now }
-    requires some { 0 < length part.old }
-    requires within { first + length part.old ≤ length txs.now }
-    ensures one_each { length part.new ≡ length part.old }
-    ensures covered { AreVerdictsFrom (is_covered_tx ledger.now txs.now) txs.now first part.new }
+// Of each candidate whether its account holds of each asset as much as all its candidates debit.
+pub(crate) fn cover(ledger: &Ledger, txs: &[Tx], covered: &mut [bool])
+    requires ready { IsReady ledger.now txs.now }
+    requires one_each { length covered.old ≡ length txs.now }
+    ensures one_each { length covered.new ≡ length txs.now }
+    ensures covered { AreVerdicts (is_covered_tx ledger.now txs.now) txs.now covered.new }
 {
     let assets = ledger.assets() as usize;
     let mut sums = [0; AssetId::LIMIT as usize];
-    let last = first + part.len();
-    let mut start = start_of_run(txs, first);
-    while start < last {
+    let mut start = 0;
+    while start < txs.len() {
         let end = end_of_run(txs, start);
         let is = is_covered(
             ledger,
@@ -156,59 +127,7 @@ fn cover_part(ledger: &Ledger, txs: &[Tx], first: usize, part: &mut [bool])
             &txs[start..end],
             &mut sums[..assets],
         );
-        let from = start.saturating_sub(first);
-        let reach = end.min(last);
-        let until = reach.saturating_sub(first);
-        mark(part, from, until, is);
+        mark(covered, start, end, is);
         start = end;
     }
-}
-
-// The same of all candidates, in so many threads.
-fn cover_all<R: Threads + Sync>(
-    rt: &R,
-    ledger: &Ledger,
-    txs: &[Tx],
-    workers: u32,
-    covered: &mut [bool],
-)
-    requires some { 1 ≤ workers }
-    requires passes { All (λ tx. static_of ledger.now tx ≡ Ok tt) txs.now }
-    requires sorted { IsSortedBy tx_before txs.now }
-    requires one_each { length covered.old ≡ length txs.now }
-    ensures one_each { length covered.new ≡ length txs.now }
-    ensures covered { AreVerdicts (is_covered_tx ledger.now txs.now) txs.now covered.new }
-{
-    let size = txs.len().div_ceil(workers as usize).max(WORTH_A_THREAD);
-    for_each_chunk_mut(
-        rt,
-        covered,
-        size,
-        &|first: usize, part: &mut [bool]|
-            requires { (0 < length part.now) × ((first + length part.now ≤ length txs.now)
-                × (All (λ tx. static_of ledger.now tx ≡ Ok tt) txs.now × IsSortedBy tx_before txs.now)) }
-            ensures { (length part.exit.now ≡ length part.entry.now)
-                × AreVerdictsFrom (is_covered_tx ledger.entry.now txs.entry.now) txs.entry.now first part.exit.now }
-        { cover_part(ledger, txs, first, part) },
-    );
-}
-
-// Of each candidate whether its account holds of each asset as much as all its candidates debit. So many workers share
-// the candidates.
-pub(crate) fn covered_places<R: Threads + Sync>(
-    rt: &R,
-    alloc: Global,
-    ledger: &Ledger,
-    txs: &[Tx],
-    workers: u32,
-) -> Result<Vec<bool>, NoMemory>
-    requires some { 1 ≤ workers }
-    requires passes { All (λ tx. static_of ledger.now tx ≡ Ok tt) txs.now }
-    requires sorted { IsSortedBy tx_before txs.now }
-    ensures one_each { IfOk result (λ covered. length covered.items ≡ length txs.now) }
-    ensures covered { IfOk result (λ covered. AreVerdicts (is_covered_tx ledger.now txs.now) txs.now covered.items) }
-{
-    let mut covered = vec![in alloc; false; txs.len()]?;
-    cover_all(rt, ledger, txs, workers, &mut covered);
-    Ok(covered)
 }

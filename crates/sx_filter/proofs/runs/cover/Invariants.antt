@@ -1,16 +1,15 @@
-use Rattle.std.proofs.Common.{◌≡◌, ℕ, ◌+◌, ◌-◌, ◌<◌, ◌≤◌, Bool, get_or, length}
+use Rattle.std.proofs.Common.{◌≡◌, ℕ, ◌-◌, ◌<◌, ◌≤◌, Bool, get_or, length}
 use Rattle.sx_filter.specs.Alone.{is_covered}
 use Rattle.sx_filter.specs.Runs.{Begins}
 use Rattle.sx_filter.specs.Verdicts.{IsVerdict}
-use Rattle.sx_filter.proofs.runs.cover_part.Given as goal
+use Rattle.sx_filter.proofs.runs.cover.Given as goal
 
 abbrev pub invariant-loop-start : goal.invariant-loop-start
 invariant-loop-start l = record {
   within : l.start ≤ length l.txs;
   begins : Begins l.txs l.start;
-  one_each : length l.part ≡ length l.fn.part;
-  covered : (k : ℕ) (d : Bool) → k < length l.part → l.first + k < l.start
-      → IsVerdict (is_covered l.ledger l.txs) l.txs (l.first + k) (get_or l.part k d);
+  one_each : length l.covered ≡ length l.txs;
+  told : (k : ℕ) (d : Bool) → k < l.start → IsVerdict (is_covered l.ledger l.txs) l.txs k (get_or l.covered k d);
 }
 
 abbrev pub decreases-loop-start : goal.decreases-loop-start

@@ -2,7 +2,7 @@ use Rattle.std.proofs.Common.{◌≡◌, ◌≤◌, Bool, length}
 use Rattle.std.specs.Prelude.{vec_len}
 use Rattle.std.proofs.lemmas.List.Filters.{FiltersInPlace}
 use Rattle.sx_filter.specs.Verdicts.{AreVerdicts}
-use Rattle.sx_filter.proofs.filtering.keep.Given as goal
+use Rattle.sx_filter.proofs.alone.keep.Given as goal
 use Rattle.sx_tx.specs.declared.tx.Tx.{Tx}
 
 abbrev pub invariant-loop-place : goal.invariant-loop-place

@@ -2,8 +2,8 @@ use Rattle.std.proofs.Common.{◌<◌, Bool, false, length, sym, ap, ◌∙◌, 
 use Rattle.std.specs.Prelude.{vec_len}
 use Rattle.std.proofs.lemmas.List.Filters.{FiltersInPlace-more_here, FiltersInPlace-more_set}
 use Rattle.sx_filter.proofs.Picking.{left_out, rest_at}
-use Rattle.sx_filter.proofs.filtering.keep.Goals as goal
-use Rattle.sx_filter.proofs.filtering.keep.Goals.{then-verdicts-place, else-verdicts-place, then-kept-place, else-kept-place}
+use Rattle.sx_filter.proofs.alone.keep.Goals as goal
+use Rattle.sx_filter.proofs.alone.keep.Goals.{then-verdicts-place, else-verdicts-place, then-kept-place, else-kept-place}
 use Rattle.sx_filter.specs.Verdicts.{AreVerdicts}
 use Rattle.sx_tx.specs.declared.tx.Tx.{Tx}
 

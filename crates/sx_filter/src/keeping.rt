@@ -1,0 +1,77 @@
+//! What is kept of the parts by ranges of accounts: a thread for each part.
+
+ghost use Rattle.std.specs.Prelude.{◌≡◌, ◌<◌, All, List, IfOk, length, slice_index_or};
+ghost use Rattle.std.specs.List.{filter as those, flat_map};
+ghost use Rattle.sx_filter.specs.Alone.{is_alone_in};
+ghost use Rattle.sx_filter.specs.Kept.{kept_of};
+ghost use Rattle.sx_filter.specs.Named.{AreIds};
+ghost use Rattle.sx_filter.specs.Ranges.{AreKept, AreParted, ArePassed, IsReady};
+ghost use Rattle.sx_ledger.specs.Body.{created};
+ghost use Rattle.sx_tx.specs.declared.tx.Tx.{Tx as Transaction};
+
+use crate::alone::alone;
+use crate::kept::Kept;
+use crate::lists::{all_of, joined};
+use crate::named::{Ids, created_ids};
+use crate::seen::Seen;
+use std::alloc::Global;
+use std::thread::{Threads, map_indices, map_vec};
+use sx_bytes::NoMemory;
+use sx_ledger::Ledger;
+use sx_tx::TxList;
+
+// The ids of the accounts that the candidates of all parts create, since those of two parts may create one account.
+fn ids_of<R: Threads + Sync>(rt: &R, alloc: Global, lists: &[TxList]) -> Result<Seen<u64>, NoMemory>
+    ensures { IfOk result (AreIds (flat_map (λ list. list) lists.now)) }
+{
+    let results = map_indices(
+        rt,
+        alloc,
+        lists.len(),
+        &|place: usize| -> Result<Ids, NoMemory>
+            requires { place < length lists.now }
+            ensures { IfOk result (λ ids. (d : List Transaction) → ids ≡ created (slice_index_or lists.entry.now place d)) }
+        { created_ids(alloc, lists[place].items()) },
+    )?;
+    let found = all_of(alloc, results)?;
+    Ok(Seen::of(joined(alloc, &found)?.into_items()))
+}
+
+// What is kept of each part, where all candidates create the ids.
+fn each_alone<R: Threads + Sync>(
+    rt: &R,
+    alloc: Global,
+    ledger: &Ledger,
+    lists: Vec<TxList>,
+    ids: &Seen<u64>,
+) -> Result<Vec<TxList>, NoMemory>
+    requires ready { All (IsReady ledger.now) lists.items }
+    ensures { (passed : List Transaction) → AreIds passed ids.now
+        → IfOk result (λ kept. AreKept ledger.now passed lists.items kept.items) }
+{
+    let results = map_vec(
+        rt,
+        lists,
+        &|part: TxList| -> Result<TxList, NoMemory>
+            requires { IsReady ledger.now part }
+            ensures { (passed : List Transaction) → AreIds passed ids.entry.now
+                → IfOk result (λ kept. kept ≡ those (is_alone_in ledger.entry.now passed part) part) }
+        { alone(alloc, ledger, part, ids) },
+    )?;
+    all_of(alloc, results)
+}
+
+// What is kept of candidates, of which these parts by ranges of accounts pass.
+pub(crate) fn kept_in_parts<R: Threads + Sync>(
+    rt: &R,
+    alloc: Global,
+    ledger: &Ledger,
+    parts: Vec<TxList>,
+) -> Result<Kept, NoMemory>
+    requires passed { ArePassed ledger.now parts.items }
+    ensures { (candidates : List Transaction) → AreParted ledger.now candidates parts.items
+        → IfOk result (λ kept. kept ≡ kept_of ledger.now candidates) }
+{
+    let ids = ids_of(rt, alloc, &parts)?;
+    Ok(Kept::of(each_alone(rt, alloc, ledger, parts, &ids)?))
+}
