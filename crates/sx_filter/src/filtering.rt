@@ -70,7 +70,7 @@ fn room_and_parts_of_list<R: Threads + Sync>(
 /// sorted by account and then by sequence number. The work is shared among 1 to 64 workers by ranges of accounts. The
 /// answer is the same for every number of them.
 ///
-/// A candidate is kept where it passes that test and, among all that pass, no other has its account and
+/// A candidate is kept where the ledger's own test passes it and, among all that pass, no other has its account and
 /// number, no other cancels its offer, no other creates its account, and its account holds of each asset
 /// at least as much as all of the account's candidates together debit.
 ///
