@@ -1,3 +1,3 @@
 pub mod Demonstrations
-pub mod ListLengths
+pub mod PartLists
 pub mod Filterings

@@ -1,25 +1,23 @@
 //! `filter`: a state, candidates, and nothing more. The candidates that are kept are written.
 
-ghost use Rattle.std.specs.Prelude.{◌≡◌, ◌≤◌, [], ◌∷◌, IfOk, IsErrOf, IsTrue, length};
+ghost use Rattle.std.specs.Prelude.{◌≡◌, ◌≤◌, [], ◌∷◌, IsErrOf, IsTrue};
 ghost use Rattle.sx_base.specs.Outside.{Rose};
 ghost use Rattle.sx_input.specs.Found.{ConcludesAs, Found};
 ghost use Rattle.sx_input.specs.Stream.{UnlessReadFault};
-ghost use Rattle.sx_meaning.specs.Items.{item_record};
 ghost use Rattle.sx_meaning.specs.Items as item;
 ghost use Rattle.sx_seal.specs.Filtering.{IsStoppedBy};
-ghost use Rattle.sx_tx.specs.Transactions.{IsTxList, most_transactions};
+ghost use Rattle.sx_tx.specs.Transactions.{IsTxList};
 
-use crate::lengths::candidates_length;
+use crate::parts_writing::written;
 use std::alloc::Global;
 use std::thread::Threads;
 use sx_base::Source;
-use sx_bytes::{NoMemory, Writer};
+use sx_bytes::Writer;
 use sx_check::Invalid;
 use sx_filter::{FilterFault, filter_list};
 use sx_input::{Stop, end, take};
 use sx_ledger::Ledger;
-use sx_record::{tag, write_frame};
-use sx_tx::{Tx, TxList, write_candidates};
+use sx_tx::TxList;
 use sx_words::Command;
 
 // Why a filter stops.
@@ -39,17 +37,6 @@ fn stop_of(fault: FilterFault) -> Stop
     }
 }
 
-// The record of candidates.
-fn written(alloc: Global, txs: &[Tx]) -> Result<Writer, NoMemory>
-    requires { length txs.now ≤ most_transactions }
-    ensures { IfOk result (λ told. told ≡ item_record (item.candidates txs.now)) }
-{
-    let mut told = Writer::new(alloc);
-    write_frame(&mut told, tag::CANDIDATES, candidates_length(txs))?;
-    write_candidates(&mut told, txs)?;
-    Ok(told)
-}
-
 // The record of the candidates that are kept, or why there is no room for all of them.
 fn kept<R: Threads + Sync>(
     rt: &R,
@@ -65,7 +52,7 @@ fn kept<R: Threads + Sync>(
     ensures calm { IsErrOf result Stop.ReadFault → ⊥ }
 {
     match filter_list(rt, alloc, ledger, candidates, workers) {
-        Ok(txs) => Ok(written(alloc, txs.items())?),
+        Ok(kept) => Ok(written(rt, alloc, &kept)?),
         Err(fault) => Err(stop_of(fault)),
     }
 }

@@ -22,6 +22,7 @@ mod demonstrating;
 mod filtering;
 mod lengths;
 mod making;
+mod parts_writing;
 mod sealing;
 
 pub use demonstrating::demonstrate;

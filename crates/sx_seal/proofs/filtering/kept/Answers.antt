@@ -12,10 +12,10 @@ returns-in_ok-written-in-Ok-clause-concludes g c =
         parts = parts;
         txs = c.args.candidates;
         are = refl;
-        finds = has_room (room_for parts c.args.candidates) c.in-Ok.txs c.in-Ok.ensures.no_room;
+        finds = has_room (room_for parts c.args.candidates) c.in-Ok.kept c.in-Ok.ensures.no_room;
       },
       c.in_ok-written-in-Ok.ensures
-          ∙ ap (λ (txs : List Tx). item_record (candidates txs)) (c.items.ensures ∙ c.in-Ok.ensures.kept),
+          ∙ ap (λ (txs : List Tx). item_record (candidates txs)) c.in-Ok.ensures.kept,
     )
 
 pub returns-in-Err-clause-concludes : goal.returns-in-Err-clause-concludes

@@ -1,0 +1,52 @@
+use Rattle.std.proofs.Common.{◌≡◌, ◌≤◌, ◌+◌, List, ℕ, length, sym, ap, ◌∙◌, arith}
+use Rattle.sx_record.specs.Frame.{most_bytes}
+use Rattle.sx_seal.proofs.PartLists.{all, fits}
+use Rattle.sx_seal.proofs.parts_writing.written.Goals as goal
+
+pub bytes_of-size-requires : goal.bytes_of-size-requires
+bytes_of-size-requires g c =
+    let told = c.in_ok-told.told.items in
+    let same : length (all c.deref.result.now) ≡ length (all told) =
+    ap (λ (xss : List (List ℕ)). length (all xss)) c.deref.ensures.value in
+    omega (
+      arith,
+      same,
+      fits told c.parts-parts.result.now c.args.kept.now c.in_ok-told.ensures c.parts-parts.ensures
+          c.requires,
+    )
+
+pub overflow_add-size : goal.overflow_add-size
+overflow_add-size g c =
+    let told = c.in_ok-told.told.items in
+    let same : length (all c.deref.result.now) ≡ length (all told) =
+    ap (λ (xss : List (List ℕ)). length (all xss)) c.deref.ensures.value in
+    omega (
+      arith,
+      same,
+      c.bytes_of-size.ensures,
+      fits told c.parts-parts.result.now c.args.kept.now c.in_ok-told.ensures c.parts-parts.ensures c.requires,
+    )
+
+pub overflow_cast-size : goal.overflow_cast-size
+overflow_cast-size g c =
+    let told = c.in_ok-told.told.items in
+    let same : length (all c.deref.result.now) ≡ length (all told) =
+    ap (λ (xss : List (List ℕ)). length (all xss)) c.deref.ensures.value in
+    omega (
+      arith,
+      same,
+      c.bytes_of-size.ensures,
+      fits told c.parts-parts.result.now c.args.kept.now c.in_ok-told.ensures c.parts-parts.ensures c.requires,
+    )
+
+pub write_frame-requires : goal.write_frame-requires
+write_frame-requires g c =
+    let told = c.in_ok-told.told.items in
+    let same : length (all c.deref.result.now) ≡ length (all told) =
+    ap (λ (xss : List (List ℕ)). length (all xss)) c.deref.ensures.value in
+    omega (
+      arith,
+      same,
+      c.bytes_of-size.ensures,
+      fits told c.parts-parts.result.now c.args.kept.now c.in_ok-told.ensures c.parts-parts.ensures c.requires,
+    )
