@@ -30,7 +30,8 @@ fn ids_of<R: Threads + Sync>(rt: &R, alloc: Global, lists: &[TxList]) -> Result<
         lists.len(),
         &|place: usize| -> Result<Ids, NoMemory>
             requires { place < length lists.now }
-            ensures { IfOk result (λ ids. (d : List Transaction) → ids ≡ created (slice_index_or lists.entry.now place d)) }
+            ensures { IfOk result (λ ids. (d : List Transaction)
+                → ids ≡ created (slice_index_or lists.entry.now place d)) }
         { created_ids(alloc, lists[place].items()) },
     )?;
     let found = all_of(alloc, results)?;
