@@ -9,7 +9,7 @@ use Rattle.std.proofs.lemmas.Result.{IfOk-at_ok}
 use Rattle.std.proofs.Math.Seq.{drop-cons}
 use Rattle.sx_record.specs.Frame.{most_bytes}
 use Rattle.sx_tx.specs.declared.tx.Tx.{Tx}
-use Rattle.sx_tx.specs.Transactions.{list_bytes, most_transactions, tx_bytes}
+use Rattle.sx_tx.specs.Transactions.{most_transactions, tx_bytes}
 use Rattle.sx_tx.proofs.ListLaws.{fits_record}
 
 abbrev pub all : {X : Type 0} → List (List X) → List X

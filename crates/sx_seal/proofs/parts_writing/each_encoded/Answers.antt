@@ -1,4 +1,4 @@
-use Rattle.std.proofs.Common.{◌≡◌, List, Ok, map, arith}
+use Rattle.std.proofs.Common.{◌≡◌, Ok, map, arith}
 use Rattle.std.specs.List.{flat_map}
 use Rattle.std.proofs.lemmas.Result.{IfOk-weaker}
 use Rattle.sx_seal.proofs.PartLists.{all, found}

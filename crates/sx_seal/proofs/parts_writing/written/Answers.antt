@@ -1,5 +1,4 @@
-use Rattle.std.proofs.Common.{◌≡◌, ◌≤◌, ◌+◌, List, ℕ, length, sym, ap, ◌∙◌, arith}
-use Rattle.sx_record.specs.Frame.{most_bytes}
+use Rattle.std.proofs.Common.{◌≡◌, List, ℕ, length, ap, arith}
 use Rattle.sx_seal.proofs.PartLists.{all, fits}
 use Rattle.sx_seal.proofs.parts_writing.written.Goals as goal
 
