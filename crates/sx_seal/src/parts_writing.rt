@@ -12,7 +12,7 @@ use std::alloc::Global;
 use std::thread::{Threads, map_indices};
 use sx_bytes::{NoMemory, Writer};
 use sx_filter::Kept;
-use sx_record::{tag, write_frame};
+use sx_record::{FRAME_BYTES, tag, write_frame};
 use sx_tx::{Tx, TxList, write_tx};
 
 // How many bytes a transaction takes at most.
@@ -100,7 +100,7 @@ fn append_all(to: &mut Writer, told: &[Writer]) -> Result<(), NoMemory>
     Ok(())
 }
 
-// The record of candidates.
+// The record of candidates. Its memory is taken first, since that which the list of all candidates had may serve.
 pub(crate) fn written<R: Threads + Sync>(
     rt: &R,
     alloc: Global,
@@ -110,11 +110,13 @@ pub(crate) fn written<R: Threads + Sync>(
     ensures { IfOk result (λ told. told ≡ item_record (item.candidates kept.now)) }
 {
     let parts = kept.parts();
-    let told = each_encoded(rt, alloc, parts)?;
+    let count = count_of(parts);
     let mut whole = Writer::new(alloc);
+    whole.reserve(FRAME_BYTES as usize + COUNT_BYTES + MOST_TX_BYTES * count)?;
+    let told = each_encoded(rt, alloc, parts)?;
     let size = COUNT_BYTES + bytes_of(&told);
     write_frame(&mut whole, tag::CANDIDATES, size as u32)?;
-    whole.put_u32(count_of(parts) as u32)?;
+    whole.put_u32(count as u32)?;
     append_all(&mut whole, &told)?;
     Ok(whole)
 }
