@@ -1,4 +1,5 @@
 pub mod Answering
+pub mod PuttingPieces
 pub mod Shown
 pub mod Accounts
 pub mod ProvedAccounts

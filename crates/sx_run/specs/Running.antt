@@ -6,12 +6,13 @@ use Rattle.sx_input.specs.declared.stop.Stop.TheVariants as stop
 use Rattle.sx_run.specs.declared.output.Output.{Output}
 use Rattle.sx_run.specs.declared.output.Output.TheVariants as output
 use Rattle.sx_text.specs.declared.status.Status.{Status}
-use Rattle.sx_text.specs.declared.status.Status.TheVariants.{Done, Usage, ReadFault, WriteFault, Malformed, Refused}
+use Rattle.sx_text.specs.declared.status.Status.TheVariants.{Done, ReadFault, WriteFault, Malformed, Refused}
 use Rattle.sx_text.specs.declared.status.Status.TheVariants.{NoMemory}
 
 -- the bytes of an output
 abbrev pub bytes_of : Output → List ℕ
 bytes_of (output.Record bytes) = bytes
+bytes_of (output.Parts bytes) = bytes
 bytes_of (output.Text bytes) = bytes
 
 -- what a command found, by its bytes

@@ -18,14 +18,14 @@ ghost use Rattle.sx_words.specs.Commands.{InRange};
 
 use crate::interleaving::interleave;
 use crate::migrating::migrate;
-use crate::output::{Output, recorded, told};
+use crate::output::{Output, recorded, recorded_in_parts, told};
 use crate::proving::prove;
 use crate::showing::show;
 use crate::verifying::verify;
 use std::alloc::Global;
 use std::sync::ledger::Ledger;
 use std::thread::Threads;
-use sx_base::{Sink, Source, put_all};
+use sx_base::{Sink, Source};
 use sx_chain::{check, follow, replay};
 use sx_input::Stop;
 use sx_meaning::{chain_laws, input_laws};
@@ -77,7 +77,7 @@ fn output_of<R: Threads + Sync, S: Source, G: Gate + Sync, L: Ledger>(
         Command::Interleave => recorded(interleave(rt, alloc, source)),
         Command::Migrate => recorded(migrate(rt, alloc, source)),
         Command::Show => told(show(rt, alloc, source)),
-        Command::Filter { workers } => recorded(filter(rt, alloc, workers, source)),
+        Command::Filter { workers } => recorded_in_parts(filter(rt, alloc, workers, source)),
         Command::Prove { id } => recorded(prove(rt, alloc, id, source)),
         Command::Verify => told(verify(rt, alloc, source)),
         Command::Follow => recorded(follow(rt, alloc, source)),
@@ -117,7 +117,7 @@ fn conclude<K: Sink>(sink: &mut K, found: Result<Output, Stop>) -> Status
     ensures write_fault { result ≡ Status.WriteFault → Rose (K.faults sink.old) (K.faults sink.new) }
 {
     match found {
-        Ok(output) => match put_all(sink, output.bytes()) {
+        Ok(output) => match output.put(sink) {
             Ok(()) => Status::Done,
             Err(_) => Status::WriteFault,
         },

@@ -9,10 +9,10 @@ ghost use Rattle.sx_seal.specs.Filtering.{IsStoppedBy};
 ghost use Rattle.sx_tx.specs.Transactions.{IsTxList};
 
 use crate::parts_writing::written;
+use crate::pieces::Pieces;
 use std::alloc::Global;
 use std::thread::Threads;
 use sx_base::Source;
-use sx_bytes::Writer;
 use sx_check::Invalid;
 use sx_filter::{FilterFault, filter_list};
 use sx_input::{Stop, end, take};
@@ -44,7 +44,7 @@ fn kept<R: Threads + Sync>(
     ledger: &Ledger,
     candidates: TxList,
     workers: u32,
-) -> Result<Writer, Stop>
+) -> Result<Pieces, Stop>
     requires candidates { IsTxList candidates }
     requires some_worker { 1 ≤ workers }
     requires few_workers { workers ≤ 64 }
@@ -63,7 +63,7 @@ pub fn filter<R: Threads + Sync, S: Source>(
     alloc: Global,
     workers: u32,
     source: &mut S,
-) -> Result<Writer, Stop>
+) -> Result<Pieces, Stop>
     requires some_worker { 1 ≤ workers }
     requires few_workers { workers ≤ 64 }
     ensures found { Found (Command.Filter workers) (S.left source.old) (S.left source.new) result }

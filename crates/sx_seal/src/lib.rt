@@ -10,7 +10,8 @@
 //!     state, candidates -> gathered -> body, outcomes -> cleared -> block
 //! ```
 //!
-//! [`filter`] reads what a seal does, and answers the record of those candidates that no other one stands in the way of.
+//! [`filter`] reads what a seal does, and answers the record of those candidates that no other one stands in the way of,
+//! in [`Pieces`].
 //!
 //! [`Numbers`] says by how many workers, on how many shards, at which margin, and by how many searches for prices of
 //! how many rounds. What may be answered is defined in `sx_meaning`, and has no word for workers and shards.
@@ -23,9 +24,11 @@ mod filtering;
 mod lengths;
 mod making;
 mod parts_writing;
+mod pieces;
 mod sealing;
 
 pub use demonstrating::demonstrate;
 pub use filtering::filter;
 pub use making::Numbers;
+pub use pieces::Pieces;
 pub use sealing::seal;

@@ -4,15 +4,18 @@ ghost use Rattle.std.specs.Prelude.{◌≡◌, ◌+◌, ◌<◌, ◌≤◌, ◌+
 ghost use Rattle.std.specs.List.{flat_map};
 ghost use Rattle.sx_meaning.specs.Items.{item_record};
 ghost use Rattle.sx_meaning.specs.Items as item;
-ghost use Rattle.sx_record.specs.Frame.{most_bytes};
+ghost use Rattle.byteorder.specs.Endian.{big_bytes};
+ghost use Rattle.sx_record.specs.Frame.{frame, most_bytes};
+ghost use Rattle.sx_record.specs.Tags.{candidates_tag};
 ghost use Rattle.sx_tx.specs.declared.tx.Tx.{Tx as Transaction};
 ghost use Rattle.sx_tx.specs.Transactions.{most_transactions, tx_bytes};
 
+use crate::pieces::Pieces;
 use std::alloc::Global;
 use std::thread::{Threads, map_indices};
 use sx_bytes::{NoMemory, Writer};
 use sx_filter::Kept;
-use sx_record::{FRAME_BYTES, tag, write_frame};
+use sx_record::tag;
 use sx_tx::{Tx, TxList, write_tx};
 
 // How many bytes a transaction takes at most.
@@ -90,33 +93,39 @@ fn bytes_of(told: &[Writer]) -> usize
     size
 }
 
-// Appends all that was written.
-fn append_all(to: &mut Writer, told: &[Writer]) -> Result<(), NoMemory>
-    ensures { OnOk result (to.new ≡ to.old ++ flat_map (λ bytes. bytes) told.now) }
+// What stands before the transactions: the frame of a record of so many bytes, and their number.
+fn front_of(alloc: Global, size: u32, count: u32) -> Result<Writer, NoMemory>
+    ensures { IfOk result (λ front. front ≡ frame candidates_tag size ++ big_bytes 4 count) }
 {
-    for one in told {
-        to.raw(one.bytes())?;
-    }
-    Ok(())
+    let mut front = Writer::new(alloc);
+    front.put_u8(tag::CANDIDATES)?;
+    front.put_u32(size)?;
+    front.put_u32(count)?;
+    Ok(front)
 }
 
-// The record of candidates. Its memory is taken first, since that which the list of all candidates had may serve.
+// One piece, and others behind it.
+fn behind(alloc: Global, front: Writer, mut others: Vec<Writer>) -> Result<Pieces, NoMemory>
+    ensures { IfOk result (λ pieces. pieces ≡ front ++ flat_map (λ bytes. bytes) others.items) }
+{
+    let mut pieces = Vec::with_capacity(alloc, others.len().saturating_add(1))?;
+    pieces.push(front)?;
+    pieces.append(&mut others)?;
+    Ok(Pieces::of(pieces))
+}
+
+// The record of candidates, in pieces.
 pub(crate) fn written<R: Threads + Sync>(
     rt: &R,
     alloc: Global,
     kept: &Kept,
-) -> Result<Writer, NoMemory>
+) -> Result<Pieces, NoMemory>
     requires { length kept.now ≤ most_transactions }
     ensures { IfOk result (λ told. told ≡ item_record (item.candidates kept.now)) }
 {
     let parts = kept.parts();
-    let count = count_of(parts);
-    let mut whole = Writer::new(alloc);
-    whole.reserve(FRAME_BYTES as usize + COUNT_BYTES + MOST_TX_BYTES * count)?;
     let told = each_encoded(rt, alloc, parts)?;
     let size = COUNT_BYTES + bytes_of(&told);
-    write_frame(&mut whole, tag::CANDIDATES, size as u32)?;
-    whole.put_u32(count as u32)?;
-    append_all(&mut whole, &told)?;
-    Ok(whole)
+    let front = front_of(alloc, size as u32, count_of(parts) as u32)?;
+    behind(alloc, front, told)
 }

@@ -1,7 +1,7 @@
-use Rattle.std.proofs.Common.{[], ◌∷◌, List, Option, ℕ, refl}
+use Rattle.std.proofs.Common.{[], ◌∷◌, refl}
 use Rattle.std.proofs.lemmas.Result.{err_from_is_err_and}
 use Rattle.sx_input.proofs.Readings.{concludes, from_zero, has_state, nothing_read, one_more, stops}
-use Rattle.sx_meaning.specs.Items.{Item, candidates, script, state}
+use Rattle.sx_meaning.specs.Items.{candidates, script, state}
 use Rattle.sx_meaning.proofs.ItemLists.{needed_listed}
 use Rattle.sx_record.specs.Tags.{candidates_tag, script_tag}
 use Rattle.sx_run.proofs.interleaving.interleave.Goals as goal

@@ -1,7 +1,7 @@
-use Rattle.std.proofs.Common.{[], ◌∷◌, List, Option, ℕ, refl}
+use Rattle.std.proofs.Common.{[], ◌∷◌, refl}
 use Rattle.std.proofs.lemmas.Result.{err_from_is_err_and}
 use Rattle.sx_input.proofs.Readings.{concludes, from_zero, has_state, nothing_read, stops}
-use Rattle.sx_meaning.specs.Items.{Item, state}
+use Rattle.sx_meaning.specs.Items.{state}
 use Rattle.sx_run.proofs.migrating.migrate.Goals as goal
 use Rattle.sx_words.specs.declared.command.Command.TheVariants.{Migrate}
 

@@ -1,4 +1,4 @@
-use Rattle.std.proofs.Common.{◌≡◌, ℕ, Option, Some, refl, sym, ap, ◌∙◌}
+use Rattle.std.proofs.Common.{ℕ, Option, refl, sym, ap, ◌∙◌}
 use Rattle.sx_ledger.specs.declared.account.Account.{Account}
 use Rattle.sx_meaning.specs.Proving.{shown_account}
 use Rattle.sx_run.proofs.Accounts.{found_from, none_from, some_account}

@@ -1,4 +1,4 @@
-use Rattle.std.proofs.Common.{ℕ, List, Option, Result, sym, subst}
+use Rattle.std.proofs.Common.{ℕ, List, Result, sym, subst}
 use Rattle.sx_input.specs.declared.stop.Stop.{Stop}
 use Rattle.sx_input.specs.Found.{Found}
 use Rattle.sx_run.proofs.running.output_of.Goals as goal

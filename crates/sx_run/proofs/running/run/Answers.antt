@@ -1,8 +1,8 @@
-use Rattle.std.proofs.Common.{List, Option, ℕ, refl, ap}
-use Rattle.sx_meaning.specs.Answers.{Answers, Completes, asked}
+use Rattle.std.proofs.Common.{ap}
+use Rattle.sx_meaning.specs.Answers.{asked}
 use Rattle.sx_run.specs.Running.{as_bytes}
-use Rattle.sx_run.proofs.Answering.{answers, answers_no_memory, completes, completes_no_memory, fits, fits_no_memory}
-use Rattle.sx_run.proofs.Answering.{fits_usage, for_command, for_none, steady_then, unread_then, was_read}
+use Rattle.sx_run.proofs.Answering.{answers, completes, fits}
+use Rattle.sx_run.proofs.Answering.{for_command, steady_then, unread_then, was_read}
 use Rattle.sx_run.proofs.Answering.{was_read_fault}
 use Rattle.sx_run.proofs.running.run.Goals as goal
 

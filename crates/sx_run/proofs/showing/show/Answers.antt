@@ -1,9 +1,8 @@
-use Rattle.std.proofs.Common.{[], ◌∷◌, List, Option, ℕ, refl}
+use Rattle.std.proofs.Common.{[], ◌∷◌, refl}
 use Rattle.std.proofs.lemmas.Result.{err_from_is_err_and}
 use Rattle.sx_input.proofs.Faults.{listed_stops}
 use Rattle.sx_input.proofs.Readings.{concludes, nothing_read, stops}
 use Rattle.sx_meaning.specs.Findings.{shown_tags}
-use Rattle.sx_meaning.specs.Items.{Item}
 use Rattle.sx_run.specs.Showing.{item_of}
 use Rattle.sx_run.proofs.Shown.{has_record}
 use Rattle.sx_run.proofs.showing.show.Goals as goal

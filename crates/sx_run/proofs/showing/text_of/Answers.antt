@@ -1,4 +1,4 @@
-use Rattle.std.proofs.Common.{ℕ, List, Option, refl, sym, subst}
+use Rattle.std.proofs.Common.{Option, refl, sym, subst}
 use Rattle.sx_meaning.specs.Outputs.{IsShown}
 use Rattle.sx_run.proofs.Shown.{showable, shown_again}
 use Rattle.sx_run.proofs.showing.text_of.Goals as goal

@@ -37,15 +37,3 @@ overflow_cast-size g c =
       c.bytes_of-size.ensures,
       fits told c.parts-parts.result.now c.args.kept.now c.in_ok-told.ensures c.parts-parts.ensures c.requires,
     )
-
-pub write_frame-requires : goal.write_frame-requires
-write_frame-requires g c =
-    let told = c.in_ok-told.told.items in
-    let same : length (all c.deref.result.now) ≡ length (all told) =
-    ap (λ (xss : List (List ℕ)). length (all xss)) c.deref.ensures.value in
-    omega (
-      arith,
-      same,
-      c.bytes_of-size.ensures,
-      fits told c.parts-parts.result.now c.args.kept.now c.in_ok-told.ensures c.parts-parts.ensures c.requires,
-    )
