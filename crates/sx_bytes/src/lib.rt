@@ -25,6 +25,6 @@ mod writer;
 pub use fault::{Form, FormFault, ReadError, Short};
 pub use laws::field_laws;
 pub use list_of::{Bytes, ListOf};
-pub use memory::NoMemory;
+pub use memory::{NoMemory, all_of};
 pub use reader::Reader;
 pub use writer::Writer;

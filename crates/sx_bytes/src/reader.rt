@@ -1,6 +1,6 @@
 //! Decoding unsigned integers from a slice.
 
-ghost use Rattle.std.specs.Prelude.{◌≡◌, ◌≤◌, length, IfOk};
+ghost use Rattle.std.specs.Prelude.{◌≡◌, ◌<◌, ◌≤◌, length, IfErr, IfOk};
 ghost use Rattle.sx_bytes.specs.Cursor.{left, raw_at, uint_at, Decodes};
 
 use crate::fault::Short;
@@ -34,6 +34,24 @@ impl<'a> Reader<'a> {
         ensures { result ≡ record { bytes = bytes.now; place = 0 } }
     {
         Reader { bytes, place: 0 }
+    }
+
+    /// A reader at a place. `Short`, at the end of the bytes, where there are fewer than `place`.
+    pub fn at(bytes: &'a [u8], place: usize) -> Result<Reader<'a>, Short>
+        ensures reader { IfOk result (λ from. from ≡ record { bytes = bytes.now; place = place }) }
+        ensures short { IfErr result (λ short. (short.at ≡ length bytes.now) × (length bytes.now < place)) }
+    {
+        if place > bytes.len() {
+            return Err(Short { at: bytes.len() });
+        }
+        Ok(Reader { bytes, place })
+    }
+
+    /// All bytes, those before the place too.
+    pub fn bytes(&self) -> &'a [u8]
+        ensures { result.now ≡ self.now.bytes }
+    {
+        self.bytes
     }
 
     /// How many bytes are before the place.

@@ -11,12 +11,12 @@ ghost use Rattle.sx_tx.specs.declared.tx.Tx.{Tx as Transaction};
 
 use crate::alone::alone;
 use crate::kept::Kept;
-use crate::lists::{all_of, joined};
+use crate::lists::joined;
 use crate::named::{Ids, created_ids};
 use crate::seen::Seen;
 use std::alloc::Global;
 use std::thread::{Threads, map_indices, map_vec};
-use sx_bytes::NoMemory;
+use sx_bytes::{NoMemory, all_of};
 use sx_ledger::Ledger;
 use sx_tx::TxList;
 

@@ -10,11 +10,10 @@ ghost use Rattle.sx_ledger.specs.Ledger.{ids};
 ghost use Rattle.sx_tx.specs.declared.tx.Tx.{Tx as Transaction};
 ghost use Rattle.sx_tx.specs.Transactions.{most_transactions};
 
-use crate::lists::all_of;
 use crate::ranges::{cuts_of, range_of};
 use std::alloc::Global;
 use std::thread::{Threads, map_indices};
-use sx_bytes::NoMemory;
+use sx_bytes::{NoMemory, all_of};
 use sx_layout::sort_txs;
 use sx_ledger::{AccountIndex, Ledger};
 use sx_tx::{Tx, TxList};

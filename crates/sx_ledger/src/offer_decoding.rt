@@ -30,35 +30,13 @@ pub struct Ahead {
     pub end: usize,
 }
 
-// A reader at a place of the payload.
-fn reader_at(payload: &[u8], place: usize) -> Result<Reader<'_>, Short>
-    ensures { IfOk result (λ from. from ≡ record { bytes = payload.now; place = place }) }
-{
-    let mut from = Reader::new(payload);
-    from.raw(place)?;
-    Ok(from)
-}
-
-// All bytes of a reader, which stays where it is.
-fn payload_of<'a>(from: &mut Reader<'a>) -> &'a [u8]
-    ensures whole { result.now ≡ from.old.bytes }
-    ensures same { from.new ≡ from.old }
-{
-    let place = from.place();
-    from.back(0);
-    let bytes = from.left();
-    let payload = from.raw(bytes).unwrap();
-    from.back(place);
-    payload
-}
-
 // Decodes the offers from a place on, one into each slot, and answers where they end.
 fn fill(payload: &[u8], place: usize, assets: u8, offers: &mut [Offer]) -> Result<usize, FormFault>
     requires some { 1 ≤ assets }
     requires few { assets ≤ most_assets }
     ensures { IfOk result (λ end. AreOffersAt payload.now assets place (length offers.old) offers.new end) }
 {
-    let mut from = reader_at(payload, place)?;
+    let mut from = Reader::at(payload, place)?;
     for slot in 0..offers.len() {
         offers[slot] = offer(&mut from, assets)?;
     }
@@ -121,7 +99,7 @@ fn offers_by<R: Threads + Sync>(
     requires few { assets ≤ most_assets }
     ensures { IfOk result (λ read. AreOffersAt payload.now assets place count read.0 read.1) }
 {
-    let mut from = reader_at(payload, place)?;
+    let mut from = Reader::at(payload, place)?;
     // A slot has some offer before its own is decoded: the first one serves.
     let first = offer(&mut from, assets)?;
     let mut offers = vec![in alloc; first; count as usize]?;
@@ -144,7 +122,7 @@ fn offers_ahead<R: Threads + Sync>(
     requires few { assets ≤ most_assets }
     ensures { IfOk result (λ ahead. AreAhead assets (record { bytes = payload.now; place = begin }) ahead.offers ahead.end) }
 {
-    let mut from = reader_at(payload, begin)?;
+    let mut from = Reader::at(payload, begin)?;
     let count = from.field_u32(0, Ledger::MOST_OFFERS, Form::TooMany)?;
     let place = from.place();
     from.raw(count as usize * OFFER_BYTES as usize)?;
@@ -157,8 +135,8 @@ fn offers_ahead<R: Threads + Sync>(
 pub fn offers_seen(from: &mut Reader, version: u8, assets: u8) -> Result<(usize, u32), Short>
     ensures { from.new ≡ from.old }
 {
-    let payload = payload_of(from);
-    let mut seen = reader_at(payload, from.place())?;
+    let payload = from.bytes();
+    let mut seen = Reader::at(payload, from.place())?;
     let accounts = seen.get_u32()?;
     let each = ACCOUNT_BYTES + map_bytes(version) + 8 * u32::from(assets);
     seen.raw(accounts as usize * each as usize)?;
@@ -183,7 +161,7 @@ pub fn accounts_and_ahead<R: Threads + Sync>(
     ensures exact { MayDecodeOrStray (λ read. read.0.items) (account_list_at version assets from.old) from.new result }
     ensures ahead { IfOk result (λ read. IfSome read.1 (λ ahead. AreAhead assets from.new ahead.offers ahead.end)) }
 {
-    let payload = payload_of(from);
+    let payload = from.bytes();
     let (ahead, accounts) = join_mut(
         rt,
         &mut || -> Result<Ahead, ReadError>

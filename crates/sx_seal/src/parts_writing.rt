@@ -13,7 +13,7 @@ ghost use Rattle.sx_tx.specs.Transactions.{most_transactions, tx_bytes};
 use crate::pieces::Pieces;
 use std::alloc::Global;
 use std::thread::{Threads, map_indices};
-use sx_bytes::{NoMemory, Writer};
+use sx_bytes::{NoMemory, Writer, all_of};
 use sx_filter::Kept;
 use sx_record::tag;
 use sx_tx::{Tx, TxList, write_tx};
@@ -32,17 +32,6 @@ fn encoded(alloc: Global, txs: &[Tx]) -> Result<Writer, NoMemory>
     told.reserve(txs.len().saturating_mul(MOST_TX_BYTES))?;
     for tx in txs {
         write_tx(&mut told, tx)?;
-    }
-    Ok(told)
-}
-
-// What threads wrote, or the first failure.
-fn all_of(alloc: Global, results: Vec<Result<Writer, NoMemory>>) -> Result<Vec<Writer>, NoMemory>
-    ensures { IfOk result (λ told. results.items ≡ map Ok told.items) }
-{
-    let mut told = Vec::new(alloc);
-    for result in results {
-        told.push(result?)?;
     }
     Ok(told)
 }

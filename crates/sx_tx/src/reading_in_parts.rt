@@ -29,18 +29,9 @@ fn fault_at(place: usize, fault: Form) -> FormFault {
     FormFault { at, fault }
 }
 
-// A reader at a place of the payload.
-fn reader_at(payload: &[u8], place: usize) -> Result<Reader<'_>, Short>
-    ensures { IfOk result (λ from. from ≡ record { bytes = payload.now; place = place }) }
-{
-    let mut from = Reader::new(payload);
-    from.raw(place)?;
-    Ok(from)
-}
-
 // Where so many transactions from a place on seem to end. No field but the byte of each one's kind is looked at.
 fn end_of(payload: &[u8], place: usize, count: usize) -> Result<usize, Short> {
-    let mut from = reader_at(payload, place)?;
+    let mut from = Reader::at(payload, place)?;
     for _ in 0..count {
         let head = from.raw(17)?;
         let fields = match head[16] {
@@ -57,7 +48,7 @@ fn end_of(payload: &[u8], place: usize, count: usize) -> Result<usize, Short> {
 fn fill(payload: &[u8], place: usize, txs: &mut [Tx]) -> Result<usize, FormFault>
     ensures { IfOk result (λ end. AreDecoded payload.now place (length txs.old) txs.new end) }
 {
-    let mut from = reader_at(payload, place)?;
+    let mut from = Reader::at(payload, place)?;
     for slot in 0..txs.len() {
         // Taken apart, since the check knows how to move a kind only where one is named.
         let Tx { account, seq, kind } = tx(&mut from)?;
@@ -112,7 +103,7 @@ fn listed<R: Threads + Sync>(
     requires { 1 ≤ threads }
     ensures { IfOk result (λ read. IsListAt payload.now place read.0 read.1) }
 {
-    let mut from = reader_at(payload, place)?;
+    let mut from = Reader::at(payload, place)?;
     let count = from.field_u32(0, MOST_TRANSACTIONS, Form::TooMany)?;
     let begin = from.place();
     // Memory grows with what the bytes left can hold, and not with what the count claims.

@@ -1,5 +1,5 @@
 use Rattle.std.proofs.Common.{◌≡◌, Ok, map}
-use Rattle.sx_filter.proofs.lists.all_of.Given as goal
+use Rattle.sx_bytes.proofs.memory.all_of.Given as goal
 
 abbrev pub invariant-loop-result : goal.invariant-loop-result
 invariant-loop-result g l = map Ok l.found.items ≡ l.yielded
