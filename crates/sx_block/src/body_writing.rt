@@ -21,12 +21,6 @@ use sx_tx::Tx;
 // milliseconds to hash. To start a thread takes up to one on a busy machine.
 const A_PIECE: usize = 1 << 16;
 
-// How many bytes the number of transactions takes.
-const COUNT_BYTES: usize = 4;
-
-// How many bytes a transaction takes at most.
-const MOST_TX_BYTES: usize = 35;
-
 /// The encoding of a list of transactions, and its digest.
 #[derive(Debug, Drop)]
 pub struct WrittenBody {
@@ -99,22 +93,23 @@ fn write_and_hash<R: Threads>(
     Ok(hasher)
 }
 
-/// The encoding of a list of transactions, their number included, and its digest. The memory for it and for `more` bytes
-/// after it is taken at once. Where there are more than 65,536 transactions, threads hash what is written while this one
-/// writes on, one after the other, and the call waits for each of them. Where no thread can be started, it hashes as well.
+/// The encoding of a list of transactions, their number included, and its digest. It is written over `spare`, whose bytes
+/// are lost: where that holds memory for it, none is taken. Where there are more than 65,536 transactions, threads hash
+/// what is written while this one writes on, one after the other, and the call waits for each of them. Where no thread can
+/// be started, it hashes as well.
 pub fn par_written_body<R: Threads>(
     rt: &R,
     alloc: Global,
     txs: &[Tx],
-    more: usize,
+    spare: Writer,
 ) -> Result<WrittenBody, NoMemory>
     requires { length txs.now ≤ most_transactions }
     ensures list { IfOk result (λ written. written.list ≡ list_bytes txs.now) }
     ensures hash { IfOk result (λ written. written.digest ≡ sha256 (list_bytes txs.now)) }
     ensures digest { IfOk result (λ written. IsDigest written.digest) }
 {
-    let mut list = Writer::new(alloc);
-    list.reserve((COUNT_BYTES + MOST_TX_BYTES * txs.len()).saturating_add(more))?;
+    let mut list = spare;
+    list.cut(0);
     list.put_u32(txs.len() as u32)?;
     if txs.len() <= A_PIECE {
         TxEncoder.write(&mut list, txs)?;

@@ -31,6 +31,15 @@ impl Writer {
         }
     }
 
+    /// A writer of nothing so far, in the memory of bytes that are no longer needed.
+    pub fn over(bytes: Vec<u8>) -> Writer
+        ensures { result ≡ [] }
+    {
+        let mut written = bytes;
+        written.clear();
+        Writer { written }
+    }
+
     /// Takes the memory for so many bytes more at once, where it is not there yet. What was written stays as it is.
     pub fn reserve(&mut self, more: usize) -> Result<(), NoMemory>
         ensures { self.new ≡ self.old }
@@ -45,16 +54,6 @@ impl Writer {
         ensures err { OnErr result (self.new ≡ self.old) }
     {
         self.written.extend_from_slice(bytes)?;
-        Ok(())
-    }
-
-    /// Puts bytes before all that was written, which moves on by as many places. It takes the memory for a copy of the
-    /// bytes, and for the whole where there is no room yet.
-    pub fn put_before(&mut self, front: &[u8]) -> Result<(), NoMemory>
-        ensures ok { OnOk result (self.new ≡ front.now ++ self.old) }
-        ensures err { OnErr result (self.new ≡ self.old) }
-    {
-        self.written.splice(..0, front.iter().copied())?;
         Ok(())
     }
 
