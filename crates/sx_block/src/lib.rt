@@ -45,4 +45,4 @@ pub use reading::read_block;
 pub use reading_in_parts::par_read_block;
 pub use rule_laws::validity_laws;
 pub use state_digest::{DigestOf, StateDigest};
-pub use writing::{MOST_HEADER_BYTES, header_length, write_block, write_header};
+pub use writing::{header_length, write_block, write_header};

@@ -23,12 +23,6 @@ const TRADE_BYTES: usize = 18;
 
 const CUT_BYTES: usize = 4;
 
-/// How many bytes a header takes at most: one of 32 assets of which every two trade both ways, with a cut.
-pub const MOST_HEADER_BYTES: usize = FRAME_BYTES
-    + ASSET_BYTES * 32
-    + TRADE_BYTES * 32 * 31
-    + CUT_BYTES;
-
 #[tactic(auto, using(sx_bytes::proofs::Written::begins, sx_bytes::proofs::Written::begins_then))]
 fn put_block(to: &mut Writer, block: &Block) -> Result<(), NoMemory>
     requires { IsBlock block.now }
