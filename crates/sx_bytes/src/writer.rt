@@ -48,6 +48,13 @@ impl Writer {
         Ok(())
     }
 
+    /// How many bytes there is memory for, those written so far included.
+    pub fn capacity(&self) -> usize
+        ensures { length self.now ≤ result }
+    {
+        self.written.capacity()
+    }
+
     /// Appends bytes as they are.
     pub fn raw(&mut self, bytes: &[u8]) -> Result<(), NoMemory>
         ensures ok { OnOk result (self.new ≡ self.old ++ bytes.now) }

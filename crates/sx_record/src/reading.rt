@@ -160,15 +160,16 @@ fn next_payload<S: Source>(
     Ok(payload)
 }
 
-// Takes the memory for as many bytes more as have come, or for all that are missing if these are fewer. Where there is
-// memory for the next piece already, none is taken.
+// Takes the memory for as many bytes more as have come, or for all that are missing if these are fewer, and for a frame:
+// so a record of the same length can be written in the memory of this payload. Where there is memory for the next piece
+// already, none is taken.
 fn make_room(payload: &mut Vec<u8>, size: usize, piece: usize) -> Result<(), NoMemory>
     requires { vec_len payload.old ≤ size }
     ensures { payload.new.items ≡ payload.old.items }
 {
     let come = payload.len();
     if payload.capacity() - come < piece {
-        payload.reserve_exact(come.max(FIRST_PIECE).min(size - come))?;
+        payload.reserve_exact(come.max(FIRST_PIECE).min(size - come) + FRAME_BYTES as usize)?;
     }
     Ok(())
 }
