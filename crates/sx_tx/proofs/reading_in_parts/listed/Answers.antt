@@ -21,4 +21,4 @@ returns g c =
     let items : c.of.result ≡ txs =
     c.of.ensures ∙ with_items_is c.in_ok-txs.txs txs (omega (arith, one_each, c.deref_mut.ensures.len)) in
     rw items (listed_is payload c.in_ok-from.from c.field_u32.new.self count slots c.args.place begin end txs
-    c.in_ok-from.ensures c.in_ok-count.ensures.exact c.in_ok-count.ensures.same c.place-begin.ensures.place made decoded)
+    c.in_ok-from.ensures.reader c.in_ok-count.ensures.exact c.in_ok-count.ensures.same c.place-begin.ensures.place made decoded)
