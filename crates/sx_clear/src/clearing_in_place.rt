@@ -92,9 +92,9 @@ fn closed<R: Threads>(
 /// it knows or has a thread make. The ledger changes in place to what the block leaves, and so no copy of it is made.
 /// The call waits for that thread last of all. Where it fails before that, the thread is let go.
 ///
-/// Beside the block it answers the encoding of the transactions. With 8,192 of them or more, a thread writes them while
-/// the prices are searched, and has others hash what is written, one after the other. The call waits for all of these.
-/// The memory for the encoding is taken at once, with room for `more` bytes.
+/// Beside the block it answers the encoding of the transactions. It is written over `spare`, whose bytes are lost, and
+/// takes memory only where that holds too little. With 8,192 transactions or more, a thread writes them while the prices
+/// are searched, and has others hash what is written, one after the other. The call waits for all of these.
 pub fn clear_in_place<R: Threads + Sync, L: ledger::Ledger>(
     rt: &R,
     alloc: Global,
@@ -104,7 +104,7 @@ pub fn clear_in_place<R: Threads + Sync, L: ledger::Ledger>(
     mu: Mu,
     rounds: u32,
     searches: u32,
-    more: usize,
+    spare: Writer,
     steps: &mut Steps<L>,
 ) -> Result<Cleared, NoMemory>
     requires parent { digest_in parent ≡ digest_of_ledger ledger }
@@ -132,7 +132,7 @@ pub fn clear_in_place<R: Threads + Sync, L: ledger::Ledger>(
         rounds,
         searches,
     };
-    let (written, opened) = written_and_opened(rt, alloc, &ledger, txs.items(), by, more)?;
+    let (written, opened) = written_and_opened(rt, alloc, &ledger, txs.items(), by, spare)?;
     let trading = trade_body(alloc, &ledger, txs.items(), mu, &opened, steps)?;
     let WrittenBody { list, digest } = written;
     let block = closed(rt, alloc, ledger, parent, txs, digest, mu, opened, trading)?;

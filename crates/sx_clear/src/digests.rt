@@ -7,7 +7,7 @@ ghost use Rattle.sx_tx.specs.Transactions.{most_transactions};
 use std::alloc::Global;
 use std::thread::Threads;
 use sx_block::{Digest, WrittenBody, body_digest, ledger_digest, par_written_body};
-use sx_bytes::NoMemory;
+use sx_bytes::{NoMemory, Writer};
 use sx_ledger::Ledger;
 use sx_tx::Tx;
 
@@ -33,15 +33,15 @@ pub fn digest_of_body(alloc: Global, txs: &[Tx]) -> Result<Digest, NoMemory>
     body_digest(alloc, txs)
 }
 
-// The encoding of transactions, with room for so many bytes after it, and its digest.
+// The encoding of transactions, written over what is spare, and its digest.
 pub fn written_body<R: Threads>(
     rt: &R,
     alloc: Global,
     txs: &[Tx],
-    more: usize,
+    spare: Writer,
 ) -> Result<WrittenBody, NoMemory>
     requires few { length txs.now ≤ most_transactions }
     ensures { IfOk result (IsWrittenBody txs.now) }
 {
-    par_written_body(rt, alloc, txs, more)
+    par_written_body(rt, alloc, txs, spare)
 }

@@ -17,7 +17,7 @@ use crate::digests::{digest_of_body, written_body};
 use std::alloc::Global;
 use std::thread::{Threads, join};
 use sx_block::{Digest, WrittenBody};
-use sx_bytes::NoMemory;
+use sx_bytes::{NoMemory, Writer};
 use sx_ledger::{Ledger, Offer};
 use sx_multi::{posted_laws, search_many};
 use sx_price::{Mu, Prices};
@@ -132,15 +132,15 @@ pub fn digest_and_prices<R: Threads + Sync>(
     )
 }
 
-// The encoding of a body with room for so many bytes after it and its digest, made by other threads where that is worth
-// it, and beside it what the body does and the prices.
+// The encoding of a body, written over what is spare, and its digest, made by other threads where that is worth it, and
+// beside it what the body does and the prices.
 pub fn written_and_opened<R: Threads + Sync>(
     rt: &R,
     alloc: Global,
     ledger: &Ledger,
     txs: &[Tx],
     by: Search,
-    more: usize,
+    spare: Writer,
 ) -> Result<(WrittenBody, Opened), NoMemory>
     requires admissible { IsAdmissible ledger.now txs.now }
     requires few { length txs.now ≤ most_transactions }
@@ -151,15 +151,15 @@ pub fn written_and_opened<R: Threads + Sync>(
     ensures prices { IfOk result (λ found. found.1.prices ≡ posted_at ledger.now txs.now by.mu by.rounds by.searches) }
 {
     if txs.len() < MANY_TRANSACTIONS {
-        let written = written_body(rt, alloc, txs, more)?;
+        let written = written_body(rt, alloc, txs, spare)?;
         return Ok((written, open(rt, alloc, ledger, txs, by)?));
     }
     let (written, opened) = join(
         rt,
-        || -> Result<WrittenBody, NoMemory>
+        move || -> Result<WrittenBody, NoMemory>
             requires { length txs.now ≤ most_transactions }
             ensures { IfOk result (IsWrittenBody txs.entry.now) }
-        { written_body(rt, alloc, txs, more) },
+        { written_body(rt, alloc, txs, spare) },
         || -> Result<Opened, NoMemory>
             requires { IsAdmissible ledger.now txs.now × (1 ≤ by.searches) × (by.searches ≤ 8) }
             ensures body { IfOk result (λ opened. IsBodyOf ledger.entry.now txs.entry.now opened.body) }

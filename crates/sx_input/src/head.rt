@@ -1,6 +1,6 @@
 //! Where a chain of blocks stands: a ledger, its record, and its digest.
 
-ghost use Rattle.std.specs.Prelude.{◌≡◌, IfOk};
+ghost use Rattle.std.specs.Prelude.{◌≡◌, [], IfOk};
 ghost use Rattle.sx_input.specs.Head.{IsHead};
 ghost use Rattle.sx_meaning.specs.Items.{state_record};
 
@@ -8,7 +8,7 @@ use std::alloc::Global;
 use sx_block::StateDigest;
 use sx_bytes::{NoMemory, Writer};
 use sx_ledger::Ledger;
-use sx_record::{tag, write_frame};
+use sx_record::{FRAME_BYTES, tag, write_frame};
 
 /// A ledger, its record, where that was written, and its digest, which is that of the record and which a thread may
 /// still be making.
@@ -33,13 +33,29 @@ impl Head {
     }
 }
 
-/// The record of a ledger, written over that of an earlier one, if there is one.
-pub fn written(alloc: Global, ledger: &Ledger, earlier: Option<Writer>) -> Result<Writer, NoMemory>
+// A writer of nothing, in memory that is spare where that is as long as this. A shorter one is let go, since growing it
+// would copy bytes that nobody wants.
+fn writer_in(alloc: Global, spare: Option<Writer>, length: usize) -> Writer
+    ensures { result ≡ [] }
+{
+    let Some(mut spare) = spare else {
+        return Writer::new(alloc);
+    };
+    if spare.capacity() < length {
+        return Writer::new(alloc);
+    }
+    spare.cut(0);
+    spare
+}
+
+/// The record of a ledger, written over bytes that are no longer needed, if there are some: in their memory, where that is
+/// long enough.
+pub fn written(alloc: Global, ledger: &Ledger, spare: Option<Writer>) -> Result<Writer, NoMemory>
     ensures { IfOk result (λ state. state ≡ state_record ledger.now) }
 {
-    let mut state = earlier.unwrap_or(Writer::new(alloc));
-    state.cut(0);
-    write_frame(&mut state, tag::STATE, ledger.state_length())?;
+    let size = ledger.state_length();
+    let mut state = writer_in(alloc, spare, FRAME_BYTES as usize + size as usize);
+    write_frame(&mut state, tag::STATE, size)?;
     ledger.write_state(&mut state)?;
     Ok(state)
 }

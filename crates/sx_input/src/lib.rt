@@ -19,7 +19,8 @@
 //! exactly the first fault that `sx_meaning` finds there, with its offset in the whole input. A fault of reading
 //! is answered only where the source's count of faults rose.
 //!
-//! A payload is in memory twice for a moment: as bytes, and as what they hold.
+//! A payload is in memory twice for a moment: as bytes, and as what they hold. [`take_with_spare`] answers the memory of
+//! the bytes too, for a caller that writes as much.
 //!
 //! Not here: what a command does with what was read, and writing, but for [`written`], the record of a ledger.
 #![tactic(auto)]
@@ -36,5 +37,5 @@ pub use incoming::{Incoming, decoded_block, take_block};
 pub use opening::take_head;
 pub use payloads::{Payload, decoded};
 pub use stop::Stop;
-pub use stream::{Taken, end, end_of, next, stop_at, take};
+pub use stream::{Taken, end, end_of, next, stop_at, take, take_with_spare};
 pub use sx_block::{DigestOf, StateDigest};

@@ -14,7 +14,7 @@ use crate::stop::Stop;
 use std::alloc::Global;
 use std::thread::Threads;
 use sx_base::Source;
-use sx_bytes::{Form, FormFault};
+use sx_bytes::{Form, FormFault, Writer};
 use sx_record::{Record, RecordFault, next_record};
 
 /// A fault of form at this offset.
@@ -93,6 +93,34 @@ pub struct Taken<P> {
     pub end: u64,
 }
 
+/// What the next record holds, which has to be there and to have the tag of such, and the memory of its payload, for what
+/// is written next.
+pub fn take_with_spare<P: Payload, R: Threads + Sync, S: Source>(
+    rt: &R,
+    alloc: Global,
+    source: &mut S,
+    at: u64,
+) -> Result<(Taken<P>, Writer), Stop>
+    requires { at ≤ 2 ^ 63 }
+    ensures stops { IfErr result (Stops (item_at (needed P.TAG) at) (S.left source.old) (S.left source.new)) }
+    ensures took { IfOk result (λ taken. Took (S.left source.old) (S.left source.new) (item_record (P.item taken.0.held))) }
+    ensures form { IfOk result (λ taken. IsItem (P.item taken.0.held)) }
+    ensures tag { IfOk result (λ taken. tag_of (P.item taken.0.held) ≡ P.TAG) }
+    ensures known { IfOk result (λ taken. P.goes_with taken.0.held) }
+    ensures end { IfOk result (λ taken. taken.0.end ≡ at + length (item_record (P.item taken.0.held))) }
+    ensures near { IfOk result (λ taken. taken.0.end ≤ at + (frame_bytes + most_bytes)) }
+    ensures steady { UnlessReadFault result (IsTrue (S.strict source.old) → S.faults source.new ≡ S.faults source.old) }
+    ensures read_fault { IsErrOf result Stop.ReadFault → Rose (S.faults source.old) (S.faults source.new) }
+    ensures falls_never { S.faults source.old ≤ S.faults source.new }
+    ensures kept { S.strict source.new ≡ S.strict source.old }
+{
+    let found = required(alloc, source, at, P::TAG)?;
+    let held = decoded(rt, alloc, &found)?;
+    let end = end_of(&found);
+    let spare = Writer::over(found.payload.into_items());
+    Ok((Taken { held, end }, spare))
+}
+
 /// What the next record holds, which has to be there and to have the tag of such.
 pub fn take<P: Payload, R: Threads + Sync, S: Source>(
     rt: &R,
@@ -113,10 +141,8 @@ pub fn take<P: Payload, R: Threads + Sync, S: Source>(
     ensures falls_never { S.faults source.old ≤ S.faults source.new }
     ensures kept { S.strict source.new ≡ S.strict source.old }
 {
-    let found = required(alloc, source, at, P::TAG)?;
-    let held = decoded(rt, alloc, &found)?;
-    let end = end_of(&found);
-    Ok(Taken { held, end })
+    let (taken, _spare) = take_with_spare(rt, alloc, source, at)?;
+    Ok(taken)
 }
 
 /// The end of the input.

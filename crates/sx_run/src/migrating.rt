@@ -10,17 +10,17 @@ use std::alloc::Global;
 use std::thread::Threads;
 use sx_base::Source;
 use sx_bytes::Writer;
-use sx_input::{Stop, end, take, written};
+use sx_input::{Stop, end, take_with_spare, written};
 use sx_ledger::Ledger;
 use sx_words::Command;
 
-// The record of a state in version 2.
-fn newest(alloc: Global, ledger: Ledger) -> Result<Writer, Stop>
+// The record of a state in version 2, written over what is spare.
+fn newest(alloc: Global, ledger: Ledger, spare: Writer) -> Result<Writer, Stop>
     ensures concludes { ConcludesAs Command.Migrate (item.state ledger ∷ []) result }
     ensures calm { IsErrOf result Stop.ReadFault → ⊥ }
 {
     let migrated = ledger.migrate();
-    Ok(written(alloc, &migrated, None)?)
+    Ok(written(alloc, &migrated, Some(spare))?)
 }
 
 // The record of the state of the input in version 2.
@@ -33,7 +33,7 @@ pub fn migrate<R: Threads + Sync, S: Source>(
     ensures steady { UnlessReadFault result (IsTrue (S.strict source.old) → S.faults source.new ≡ S.faults source.old) }
     ensures read_fault { IsErrOf result Stop.ReadFault → Rose (S.faults source.old) (S.faults source.new) }
 {
-    let opening = take::<Ledger, R, S>(rt, alloc, source, 0)?;
+    let (opening, spare) = take_with_spare::<Ledger, R, S>(rt, alloc, source, 0)?;
     end(alloc, source, opening.end)?;
-    newest(alloc, opening.held)
+    newest(alloc, opening.held, spare)
 }

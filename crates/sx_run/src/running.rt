@@ -92,7 +92,7 @@ fn output_of<R: Threads + Sync, S: Source, G: Gate + Sync, L: Ledger>(
             searches,
         } => {
             let numbers = numbers_of(workers, shards, mu, rounds, searches);
-            recorded(seal(rt, alloc, numbers, source, gate, steps))
+            recorded_in_parts(seal(rt, alloc, numbers, source, gate, steps))
         }
     }
 }

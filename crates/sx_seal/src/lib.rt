@@ -21,7 +21,6 @@
 
 mod demonstrating;
 mod filtering;
-mod lengths;
 mod making;
 mod parts_writing;
 mod pieces;

@@ -14,12 +14,11 @@ ghost use Rattle.sx_meaning.specs.Sealing.{IsClearedFor, IsMadeOf};
 ghost use Rattle.sx_seal.specs.Making.{AreNumbers};
 ghost use Rattle.sx_tx.specs.Transactions.{list_bytes, most_transactions};
 
-use crate::lengths::most_beside;
 use std::alloc::Global;
 use std::sync::ledger;
 use std::thread::Threads;
 use sx_block::{Block, StateDigest};
-use sx_bytes::NoMemory;
+use sx_bytes::{NoMemory, Writer};
 use sx_clear::{Cleared, clear_in_place, clear_many};
 use sx_gather::{GatherFault, Sealed};
 use sx_input::Head;
@@ -114,13 +113,15 @@ fn cleared<R: Threads + Sync, L: ledger::Ledger>(
     Ok(Made { block, outcomes })
 }
 
-// The same on a ledger that is needed no more, and of which this is the digest, for which it waits last of all.
+// The same on a ledger that is needed no more, and of which this is the digest, for which it waits last of all. The
+// transactions are written over what is spare.
 fn cleared_in_place<R: Threads + Sync, L: ledger::Ledger>(
     rt: &R,
     alloc: Global,
     ledger: Ledger,
     parent: StateDigest,
     sealed: Sealed,
+    spare: Writer,
     numbers: Numbers,
     steps: &mut Steps<L>,
 ) -> Result<MadeInPlace, NoMemory>
@@ -138,7 +139,6 @@ fn cleared_in_place<R: Threads + Sync, L: ledger::Ledger>(
     ensures rising { steps.old ≤ steps.new }
 {
     let Sealed { txs, outcomes } = sealed;
-    let more = most_beside(txs.items().len(), outcomes.items().len());
     let cleared = clear_in_place(
         rt,
         alloc,
@@ -148,7 +148,7 @@ fn cleared_in_place<R: Threads + Sync, L: ledger::Ledger>(
         numbers.mu,
         numbers.rounds,
         numbers.searches,
-        more,
+        spare,
         steps,
     )?;
     Ok(MadeInPlace { cleared, outcomes })
@@ -180,12 +180,13 @@ pub fn make<R: Threads + Sync, G: Gate + Sync, L: ledger::Ledger>(
 }
 
 // The same on a ledger that is needed no more, whose digest a thread may still be making. It waits for that thread last
-// of all. Where it fails before that, the thread is let go.
+// of all. Where it fails before that, the thread is let go. The transactions are written over what is spare.
 pub fn make_in_place<R: Threads + Sync, G: Gate + Sync, L: ledger::Ledger>(
     rt: &R,
     alloc: Global,
     head: Head,
     candidates: TxList,
+    spare: Writer,
     numbers: Numbers,
     gate: &G,
     steps: &mut Steps<L>,
@@ -204,5 +205,5 @@ pub fn make_in_place<R: Threads + Sync, G: Gate + Sync, L: ledger::Ledger>(
     gathering_laws();
     let Head { ledger, digest, .. } = head;
     let sealed = gathered(rt, alloc, &ledger, candidates, numbers, gate)?;
-    Ok(cleared_in_place(rt, alloc, ledger, digest, sealed, numbers, steps)?)
+    Ok(cleared_in_place(rt, alloc, ledger, digest, sealed, spare, numbers, steps)?)
 }

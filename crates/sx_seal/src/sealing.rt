@@ -4,7 +4,6 @@
 ghost use Rattle.std.specs.Prelude.{◌≡◌, ◌+◌, ◌≤◌, ◌++◌, [], ◌∷◌, length, Err, IfErr, IfOk, IsErrOf, IsTrue};
 ghost use Rattle.sx_base.specs.Outside.{Rose};
 ghost use Rattle.sx_block.specs.Block.{IsBlock};
-ghost use Rattle.sx_block.specs.Encoding.{header_bytes};
 ghost use Rattle.sx_clear.specs.Searches.{most_clearing_searches};
 ghost use Rattle.sx_input.specs.Found.{ConcludesAs, Found};
 ghost use Rattle.sx_input.specs.Head.{IsHead};
@@ -16,24 +15,25 @@ ghost use Rattle.sx_meaning.specs.Items.{item_record};
 ghost use Rattle.sx_meaning.specs.Items as item;
 ghost use Rattle.sx_meaning.specs.Sealing.{IsMadeOf};
 ghost use Rattle.sx_record.specs.Frame.{frame};
-ghost use Rattle.sx_record.specs.Tags.{block_tag};
+ghost use Rattle.sx_record.specs.Tags.{outcomes_tag};
 ghost use Rattle.sx_seal.specs.Making.{AreNumbers, IsStoppedBy, seal_of};
 ghost use Rattle.sx_tx.specs.Transactions.{IsTxList, list_bytes};
 
 use crate::making::{MadeInPlace, Numbers, make_in_place};
+use crate::pieces::Pieces;
 use std::alloc::Global;
 use std::sync::ledger;
 use std::thread::Threads;
 use sx_base::Source;
-use sx_block::{Header, block_laws, header_length, write_header};
+use sx_block::{Block, block_laws, header_length, write_header};
 use sx_bytes::{NoMemory, Writer};
 use sx_check::Invalid;
 use sx_clear::Cleared;
 use sx_gather::GatherFault;
-use sx_input::{Head, Stop, end, take, take_head};
+use sx_input::{Head, Stop, end, take_head, take_with_spare};
 use sx_layout::{Outcomes, outcome_list_laws, write_outcomes};
 use sx_net::Steps;
-use sx_record::{tag, write_record};
+use sx_record::tag;
 use sx_tx::TxList;
 use sx_workers::Gate;
 
@@ -54,53 +54,73 @@ fn stop_of(fault: GatherFault) -> Stop
     }
 }
 
-// The frame of the record of a block whose payload has so many bytes, and the header of the block.
-fn front_of(alloc: Global, header: &Header, size: u32) -> Result<Writer, NoMemory>
-    requires { length header.now.prices ≤ 32 }
-    ensures { IfOk result (λ front. front ≡ frame block_tag size ++ header_bytes header.now) }
+// What stands before the transactions of a block in its record: the frame and the header.
+fn front_of_block(alloc: Global, block: &Block, list: &[u8]) -> Result<Writer, NoMemory>
+    requires block { IsBlock block.now }
+    requires list { list.now ≡ list_bytes block.now.txs }
+    ensures { IfOk result (λ front. front ++ list.now ≡ item_record (item.block block.now)) }
 {
+    block_laws();
+    let size = header_length(block) + list.len();
     let mut front = Writer::new(alloc);
     front.put_u8(tag::BLOCK)?;
-    front.put_u32(size)?;
-    write_header(&mut front, header)?;
+    front.put_u32(size as u32)?;
+    write_header(&mut front, &block.header)?;
     Ok(front)
 }
 
-// The record of a block, which is let go. It is made of the encoding of the transactions, before which the rest is put.
-fn block_record(alloc: Global, cleared: Cleared) -> Result<Writer, NoMemory>
-    requires block { IsBlock cleared.block }
-    requires list { cleared.list ≡ list_bytes cleared.block.txs }
-    ensures { IfOk result (λ told. told ≡ item_record (item.block cleared.block)) }
+// The frame of a record of outcomes, whose payload has so many bytes.
+fn front_of_outcomes(alloc: Global, size: u32) -> Result<Writer, NoMemory>
+    ensures { IfOk result (λ front. front ≡ frame outcomes_tag size) }
 {
-    block_laws();
-    let Cleared { block, mut list } = cleared;
-    let size = header_length(&block) + list.bytes().len();
-    let front = front_of(alloc, &block.header, size as u32)?;
-    list.put_before(front.bytes())?;
-    Ok(list)
+    let mut front = Writer::new(alloc);
+    front.put_u8(tag::OUTCOMES)?;
+    front.put_u32(size)?;
+    Ok(front)
 }
 
-// The record of a block, and then that of outcomes.
-fn written(alloc: Global, cleared: Cleared, outcomes: &Outcomes) -> Result<Writer, NoMemory>
+// Two texts, each of which comes in two pieces.
+fn in_pieces(
+    alloc: Global,
+    front: Writer,
+    list: Writer,
+    next_front: Writer,
+    next: Writer,
+) -> Result<Pieces, NoMemory>
+    ensures { IfOk result (λ pieces. pieces ≡ (front ++ list) ++ (next_front ++ next)) }
+{
+    let mut pieces = Vec::with_capacity(alloc, 4)?;
+    pieces.push(front)?;
+    pieces.push(list)?;
+    pieces.push(next_front)?;
+    pieces.push(next)?;
+    Ok(Pieces::of(pieces))
+}
+
+// The record of a block, and then that of outcomes. The transactions stand in it where they were written.
+fn written(alloc: Global, cleared: Cleared, outcomes: &Outcomes) -> Result<Pieces, NoMemory>
     requires block { IsBlock cleared.block }
     requires list { cleared.list ≡ list_bytes cleared.block.txs }
     requires outcomes { AreOutcomes outcomes.now }
     ensures { IfOk result (λ told. told ≡ item_record (item.block cleared.block) ++ item_record (item.outcomes outcomes.now)) }
 {
     outcome_list_laws();
-    let mut told = block_record(alloc, cleared)?;
-    let mut payload = Writer::new(alloc);
-    write_outcomes(&mut payload, outcomes)?;
-    write_record(&mut told, tag::OUTCOMES, payload.bytes())?;
-    Ok(told)
+    let Cleared { block, list } = cleared;
+    let front = front_of_block(alloc, &block, list.bytes())?;
+    let mut told = Writer::new(alloc);
+    write_outcomes(&mut told, outcomes)?;
+    let next_front = front_of_outcomes(alloc, told.bytes().len() as u32)?;
+    in_pieces(alloc, front, list, next_front, told)
 }
 
-// A block of the candidates, or why there is no room for them. The ledger is let go.
+// A block of the candidates, or why there is no room for them. The ledger is let go, and the transactions are written over
+// what is spare.
 fn made<R: Threads + Sync, G: Gate + Sync, L: ledger::Ledger>(
     rt: &R,
     alloc: Global,
     head: Head,
     candidates: TxList,
+    spare: Writer,
     numbers: Numbers,
     gate: &G,
     steps: &mut Steps<L>,
@@ -118,7 +138,7 @@ fn made<R: Threads + Sync, G: Gate + Sync, L: ledger::Ledger>(
     ensures counted { steps.new ≤ steps.old + most_clearing_searches }
     ensures rising { steps.old ≤ steps.new }
 {
-    match make_in_place(rt, alloc, head, candidates, numbers, gate, steps) {
+    match make_in_place(rt, alloc, head, candidates, spare, numbers, gate, steps) {
         Ok(made) => Ok(made),
         Err(fault) => Err(stop_of(fault)),
     }
@@ -130,10 +150,11 @@ fn sealed<R: Threads + Sync, G: Gate + Sync, L: ledger::Ledger>(
     alloc: Global,
     head: Head,
     candidates: TxList,
+    spare: Writer,
     numbers: Numbers,
     gate: &G,
     steps: &mut Steps<L>,
-) -> Result<Writer, Stop>
+) -> Result<Pieces, Stop>
     requires ledger { IsLedger head.ledger }
     requires head { IsHead head }
     requires candidates { IsTxList candidates }
@@ -143,11 +164,12 @@ fn sealed<R: Threads + Sync, G: Gate + Sync, L: ledger::Ledger>(
     ensures counted { steps.new ≤ steps.old + most_clearing_searches }
     ensures rising { steps.old ≤ steps.new }
 {
-    let made = made(rt, alloc, head, candidates, numbers, gate, steps)?;
+    let made = made(rt, alloc, head, candidates, spare, numbers, gate, steps)?;
     Ok(written(alloc, made.cleared, &made.outcomes)?)
 }
 
-/// The block of the candidates of the input, and what became of each.
+/// The block of the candidates of the input, and what became of each. The transactions of the block are written in the
+/// memory in which the candidates were read.
 pub fn seal<R: Threads + Sync, S: Source, G: Gate + Sync, L: ledger::Ledger>(
     rt: &R,
     alloc: Global,
@@ -155,7 +177,7 @@ pub fn seal<R: Threads + Sync, S: Source, G: Gate + Sync, L: ledger::Ledger>(
     source: &mut S,
     gate: &G,
     steps: &mut Steps<L>,
-) -> Result<Writer, Stop>
+) -> Result<Pieces, Stop>
     requires { AreNumbers numbers }
     ensures found { Found (seal_of numbers) (S.left source.old) (S.left source.new) result }
     ensures steady { UnlessReadFault result (IsTrue (S.strict source.old) → S.faults source.new ≡ S.faults source.old) }
@@ -164,13 +186,14 @@ pub fn seal<R: Threads + Sync, S: Source, G: Gate + Sync, L: ledger::Ledger>(
     ensures rising { steps.old ≤ steps.new }
 {
     let opening = take_head(rt, alloc, source)?;
-    let candidates = take::<TxList, R, S>(rt, alloc, source, opening.end)?;
+    let (candidates, spare) = take_with_spare::<TxList, R, S>(rt, alloc, source, opening.end)?;
     end(alloc, source, candidates.end)?;
     sealed(
         rt,
         alloc,
         opening.held,
         candidates.held,
+        spare,
         numbers,
         gate,
         steps,

@@ -2,7 +2,7 @@ use Rattle.std.proofs.Common.{◌∙◌}
 use Rattle.std.proofs.lemmas.Result.{err_from_is_err_and}
 use Rattle.sx_input.proofs.Faults.{payload_stops}
 use Rattle.sx_input.proofs.TakenRecords.{ends_after, took_item}
-use Rattle.sx_input.proofs.stream.take.Goals as goal
+use Rattle.sx_input.proofs.stream.take_with_spare.Goals as goal
 
 pub returns-in_err-held-clause-stops : goal.returns-in_err-held-clause-stops
 returns-in_err-held-clause-stops g c =
