@@ -2,6 +2,7 @@ pub mod OutcomeFaults
 pub mod ScriptFaults
 pub mod OutcomeLaws
 pub mod OutcomeListLaws
+pub mod PackedLaws
 pub mod Counts
 pub mod Turns
 pub mod ScriptLaws

@@ -1,5 +1,6 @@
 pub mod Outcomes
 pub mod OutcomeDecoding
+pub mod Packed
 pub mod Scripts
 pub mod ScriptDecoding
 pub mod Room

@@ -9,6 +9,10 @@
 //! [`outcome_laws`], [`outcome_list_laws`] and [`script_laws`] say that decoding inverts encoding, that
 //! no two values share an encoding, and that none is a prefix of another.
 //!
+//! An [`OutcomeLog`] takes in outcomes as they come, in memory that was taken before: a byte for each, and 16
+//! bytes more for an overdraft. [`PackedOutcomes`] are its outcomes once no more come, and [`write_packed`]
+//! encodes them from there. Contracts see the list of the outcomes.
+//!
 //! [`room`] answers whether a block may follow on a ledger, and whether all accounts and offers of the
 //! candidates would fit into it. It counts, takes no memory, and looks at no id and no key.
 //!
@@ -44,6 +48,7 @@ mod asked;
 mod deciding;
 mod fault;
 mod hand;
+mod kinds;
 mod laws;
 mod layout;
 mod new_ids;
@@ -51,8 +56,11 @@ mod one_shard;
 mod opening;
 mod order;
 mod outcome;
+mod outcome_log;
 mod outcome_reading;
 mod outcome_writing;
+mod packed_outcomes;
+mod packed_writing;
 mod run_form;
 mod running;
 mod script;
@@ -71,8 +79,11 @@ pub use laws::{
 pub use layout::Layout;
 pub use order::{par_sort_txs, sort_txs};
 pub use outcome::{MOST_OUTCOMES, Outcome, Outcomes};
+pub use outcome_log::OutcomeLog;
 pub use outcome_reading::read_outcomes;
 pub use outcome_writing::write_outcomes;
+pub use packed_outcomes::PackedOutcomes;
+pub use packed_writing::write_packed;
 pub use run_form::run_laws;
 pub use running::run_script;
 pub use script::{MOST_ACTORS, MOST_TURNS, Script};

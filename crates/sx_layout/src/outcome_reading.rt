@@ -15,7 +15,7 @@ use sx_ledger::Static;
 
 // The static refusal of a number from 1 to 10.
 #[inline]
-fn refusal(number: u8) -> Static
+pub fn refusal(number: u8) -> Static
     ensures { result ≡ static_numbered number }
 {
     match number {

@@ -20,7 +20,7 @@ fn put_refusal(to: &mut Writer, why: Static) -> Result<(), NoMemory>
 
 #[inline]
 #[tactic(auto, using(sx_bytes::proofs::Written::begins, sx_bytes::proofs::Written::begins_then))]
-fn put_overdraft(to: &mut Writer, seen: u64, need: u64) -> Result<(), NoMemory>
+pub fn put_overdraft(to: &mut Writer, seen: u64, need: u64) -> Result<(), NoMemory>
     ensures ok { OnOk result (to.new ≡ to.old ++ outcome_bytes (Outcome.Overdraft seen need)) }
     ensures err { OnErr result (Begins to.old to.new) }
 {
@@ -31,7 +31,7 @@ fn put_overdraft(to: &mut Writer, seen: u64, need: u64) -> Result<(), NoMemory>
 
 #[inline]
 #[tactic(auto, using(sx_bytes::proofs::Written::begins))]
-fn put_outcome(to: &mut Writer, outcome: &Outcome) -> Result<(), NoMemory>
+pub fn put_outcome(to: &mut Writer, outcome: &Outcome) -> Result<(), NoMemory>
     ensures ok { OnOk result (to.new ≡ to.old ++ outcome_bytes outcome.now) }
     ensures err { OnErr result (Begins to.old to.new) }
 {

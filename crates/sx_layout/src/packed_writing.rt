@@ -1,0 +1,62 @@
+//! Encoding outcomes from where they stand in little memory. Where memory runs out, what was written is taken back.
+
+ghost use Rattle.std.specs.Prelude.{◌≡◌, ◌≢◌, ◌≤◌, ◌++◌, length, OnOk, OnErr};
+ghost use Rattle.sx_bytes.specs.Written.{Begins};
+ghost use Rattle.sx_layout.specs.Outcomes.{outcome_bytes, outcomes_bytes, most_outcomes, AreOutcomes};
+ghost use Rattle.sx_layout.specs.Packed.{HaveFigures, outcomes_of, plain_outcome};
+
+use crate::kinds::{ACCEPTED, OVERDRAFT, Shortage, plain};
+use crate::outcome_writing::{put_outcome, put_overdraft};
+use crate::packed_outcomes::PackedOutcomes;
+use sx_bytes::{NoMemory, Writer};
+
+// Appends the outcome of a kind that is not an overdraft's.
+#[inline]
+#[tactic(auto, using(sx_bytes::proofs::Written::begins))]
+fn put_plain(to: &mut Writer, kind: u8) -> Result<(), NoMemory>
+    ensures ok { OnOk result (to.new ≡ to.old ++ outcome_bytes (plain_outcome kind)) }
+    ensures err { OnErr result (Begins to.old to.new) }
+{
+    if kind == ACCEPTED {
+        to.put_u8(0)
+    } else {
+        put_outcome(to, &plain(kind))
+    }
+}
+
+#[tactic(auto, using(sx_bytes::proofs::Written::begins, sx_bytes::proofs::Written::begins_then))]
+fn put_kinds(to: &mut Writer, kinds: &[u8], overdrafts: &[Shortage]) -> Result<(), NoMemory>
+    requires count { length kinds.now ≤ most_outcomes }
+    requires figures { HaveFigures kinds.now overdrafts.now }
+    ensures ok { OnOk result (to.new ≡ to.old ++ outcomes_bytes (outcomes_of kinds.now overdrafts.now)) }
+    ensures err { OnErr result (Begins to.old to.new) }
+{
+    to.put_u32(kinds.len() as u32)?;
+    let mut next = 0;
+    for kind in kinds {
+        if *kind == OVERDRAFT {
+            let Shortage { seen, need } = overdrafts[next];
+            put_overdraft(to, seen, need)?;
+            next += 1;
+        } else {
+            put_plain(to, *kind)?;
+        }
+    }
+    Ok(())
+}
+
+/// Appends the encoding of a payload of outcomes, as [`write_outcomes`](crate::write_outcomes) does of a list of
+/// them. `NoMemory` does not change what was written before.
+#[tactic(auto, using(sx_bytes::proofs::Written::begins_cut))]
+pub fn write_packed(to: &mut Writer, outcomes: &PackedOutcomes) -> Result<(), NoMemory>
+    requires { AreOutcomes outcomes.now }
+    ensures ok { OnOk result (to.new ≡ to.old ++ outcomes_bytes outcomes.now) }
+    ensures err { OnErr result (to.new ≡ to.old) }
+{
+    let before = to.bytes().len();
+    let written = put_kinds(to, &outcomes.kinds, &outcomes.overdrafts);
+    if written.is_err() {
+        to.cut(before);
+    }
+    written
+}
