@@ -1,4 +1,5 @@
 pub mod SameOrder
+pub mod SumUnits
 pub mod Rows
 pub mod Repeated
 pub mod UsedNumbers

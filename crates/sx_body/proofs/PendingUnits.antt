@@ -3,7 +3,7 @@ use Rattle.std.proofs.Common.{◌≡◌, ℕ, ◌+◌, ◌<◌, ◌≤◌, List,
 use Rattle.std.proofs.lemmas.Bool.{eq-eqb}
 use Rattle.std.proofs.lemmas.List.{take_more}
 use Rattle.std.proofs.lemmas.List.Sums.{sum_by-append, sum_by-take-drop}
-use Rattle.sx_body.specs.declared.postings.Entry.{Entry}
+use Rattle.sx_body.specs.declared.entry.Entry.{Entry}
 use Rattle.sx_body.specs.Postings.{units_at, units_in}
 
 pub units_more : (entries : List Entry) (entry : Entry) (p x : ℕ)

@@ -9,7 +9,7 @@ use Rattle.std.proofs.lemmas.Bool.{and_parts, cases_Bool, false_from_ne_true, le
 use Rattle.std.proofs.lemmas.Bool.Decides.{same_from_decides, Decides-eqb, Decides-like}
 use Rattle.std.proofs.lemmas.Option.{get_or_from_slice_get, none-some, same_Some, slice_get_within}
 use Rattle.sx_base.specs.declared.account_id.AccountId.{AccountId}
-use Rattle.sx_body.specs.declared.postings.Entry.{Entry}
+use Rattle.sx_body.specs.declared.entry.Entry.{Entry}
 use Rattle.sx_body.specs.Postings.{IsEntry, units_at}
 use Rattle.sx_body.proofs.Cancelled.{before_later}
 use Rattle.sx_ledger.specs.declared.account.Account.{Account}

@@ -1,3 +1,4 @@
+pub mod Sums
 pub mod Postings
 pub mod Repeats
 pub mod Tally

@@ -30,22 +30,22 @@ pub record IsFirstOverdrawn (version : ℕ) (parts : Parts) (txs : List Tx) (ove
 abbrev pub may_spend : ℕ → ℕ → ℕ → ℕ
 may_spend version opening credited = if version == 1 then opening else opening + credited
 
--- for assets below a limit, no debits are above what may be spent
-abbrev pub CoversBelow : ℕ → ℕ → List ℕ → List ℕ → List ℕ → Type 0
-CoversBelow limit version balances debited credited =
-    (asset : ℕ) → asset < limit → slice_index debited asset
-    ≤ may_spend version (slice_index balances asset) (slice_index credited asset)
+-- for assets below a limit, no debits of the account at a place are above what may be spent
+abbrev pub CoversBelow : ℕ → ℕ → List ℕ → Postings → ℕ → Type 0
+CoversBelow limit version balances postings place =
+    (asset : ℕ) → asset < limit → debit_at postings place asset
+    ≤ may_spend version (slice_index balances asset) (credit_at postings place asset)
 
--- the first overdraft of one account, where these are its debits and credits, asset by asset
-pub record IsOverdraftOf (version : ℕ) (account : Account) (debited credited : List ℕ) (overdraft : Overdraft)
+-- the first overdraft of an account, which stands at a place
+pub record IsOverdraftOf (version : ℕ) (account : Account) (postings : Postings) (place : ℕ) (overdraft : Overdraft)
     : Type 0 where
   pub id : overdraft.account ≡ account.id
   pub asset : overdraft.asset < length account.balances
   pub opening : overdraft.opening ≡ balance_at overdraft.asset account
-  pub given : overdraft.credits ≡ slice_index credited overdraft.asset
-  pub taken : overdraft.debits ≡ slice_index debited overdraft.asset
+  pub given : overdraft.credits ≡ credit_at postings place overdraft.asset
+  pub taken : overdraft.debits ≡ debit_at postings place overdraft.asset
   pub over : may_spend version overdraft.opening overdraft.credits < overdraft.debits
-  pub before : CoversBelow overdraft.asset version account.balances debited credited
+  pub before : CoversBelow overdraft.asset version account.balances postings place
 
 -- no debits of the account at a place are above what it may spend
 abbrev pub CoversAt : ℕ → Parts → Postings → ℕ → Type 0

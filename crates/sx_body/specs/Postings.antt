@@ -3,7 +3,7 @@ use Rattle.std.specs.Prelude.{◌≡◌, ◌≢◌, ℕ, ◌+◌, ◌<◌, ◌�
 use Rattle.std.specs.Prelude.{◌==◌, ◌&&◌, [], if◌then◌else◌, All, slice_index_or}
 use Rattle.std.specs.List.{sum_by}
 use Rattle.sx_body.specs.declared.pending.Pending.{Pending}
-use Rattle.sx_body.specs.declared.postings.Entry.{Entry}
+use Rattle.sx_body.specs.declared.entry.Entry.{Entry}
 use Rattle.sx_body.specs.declared.postings.Postings.{Postings}
 use Rattle.sx_ledger.specs.declared.parts.Parts.{Parts}
 use Rattle.sx_ledger.specs.Effects.{Posting, credits, debits}
@@ -16,11 +16,11 @@ start_of postings place = slice_index postings.starts.items place
 
 -- what is debited of an asset at a place
 abbrev pub debit_at : Postings → ℕ → ℕ → ℕ
-debit_at postings place asset = slice_index postings.debits.items (start_of postings place + asset)
+debit_at postings place asset = slice_index postings.debits (start_of postings place + asset)
 
 -- what is credited of an asset at a place
 abbrev pub credit_at : Postings → ℕ → ℕ → ℕ
-credit_at postings place asset = slice_index postings.credits.items (start_of postings place + asset)
+credit_at postings place asset = slice_index postings.credits (start_of postings place + asset)
 
 -- the units that an entry has of an asset for the account at a place
 abbrev pub units_at : Entry → ℕ → ℕ → ℕ
@@ -46,11 +46,11 @@ pub record IsEntry (parts : Parts) (posting : Option Posting) (entry : Entry) : 
 pub record HasRows (postings : Postings) (places width : ℕ) : Type 0 where
   pub assets : postings.assets ≡ width
   pub as_many : length postings.starts.items ≡ places
-  pub even : length postings.credits.items ≡ length postings.debits.items
-  pub some : width ≤ length postings.debits.items
-  pub no_debits : (x : ℕ) → x < width → slice_index postings.debits.items x ≡ 0
-  pub no_credits : (x : ℕ) → x < width → slice_index postings.credits.items x ≡ 0
-  pub within : (p : ℕ) → p < places → start_of postings p + width ≤ length postings.debits.items
+  pub even : length postings.credits ≡ length postings.debits
+  pub some : width ≤ length postings.debits
+  pub no_debits : (x : ℕ) → x < width → slice_index postings.debits x ≡ 0
+  pub no_credits : (x : ℕ) → x < width → slice_index postings.credits x ≡ 0
+  pub within : (p : ℕ) → p < places → start_of postings p + width ≤ length postings.debits
   pub behind : (p : ℕ) → p < places → start_of postings p ≢ 0 → width ≤ start_of postings p
   pub apart : (p q : ℕ) → p < places → q < places → p ≢ q → start_of postings p ≢ 0 → start_of postings q ≢ 0
       → (start_of postings p + width ≤ start_of postings q) ⊎ (start_of postings q + width ≤ start_of postings p)

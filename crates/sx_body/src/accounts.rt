@@ -10,6 +10,7 @@ ghost use Rattle.sx_ledger.specs.Ledger.{IsLedger, balance_at};
 ghost use Rattle.sx_tx.specs.declared.tx.Tx.{Tx as Transaction};
 ghost use Rattle.sx_tx.specs.Window.{Next, open_numbers};
 
+use crate::postings::Postings;
 use crate::tally::Tally;
 use std::alloc::Global;
 use std::mem;
@@ -29,43 +30,46 @@ fn balance_after(balance: u64, debits: u128, credits: u128) -> u64
     }
 }
 
-// Adds credits to balances, and takes debits from them.
-fn post_all(balances: &mut Vec<u64>, debits: &[u128], credits: &[u128])
-    requires debits { length balances.old.items ≡ length debits.now }
-    requires credits { length balances.old.items ≡ length credits.now }
+// Adds to balances what is credited to the account at a place, and takes from them what is debited.
+fn post_all(balances: &mut Vec<u64>, postings: &Postings, place: usize)
+    requires place { place < length postings.now.starts.items }
+    requires rows { HasRows postings.now (length postings.now.starts.items) (length balances.old.items) }
     requires covers { (asset : ℕ) → asset < length balances.old.items
-        → slice_index debits.now asset ≤ slice_index balances.old.items asset + slice_index credits.now asset }
+        → debit_at postings.now place asset ≤ slice_index balances.old.items asset + credit_at postings.now place asset }
     requires fits { (asset : ℕ) → asset < length balances.old.items
         → (slice_index balances.old.items asset
-        + slice_index credits.now asset) - slice_index debits.now asset < 2 ^ 64 }
+        + credit_at postings.now place asset) - debit_at postings.now place asset < 2 ^ 64 }
     ensures as_many { length balances.new.items ≡ length balances.old.items }
     ensures each { (asset : ℕ) → asset < length balances.old.items
         → slice_index balances.new.items asset ≡ (slice_index balances.old.items asset
-        + slice_index credits.now asset) - slice_index debits.now asset }
+        + credit_at postings.now place asset) - debit_at postings.now place asset }
 {
     for asset in 0..balances.len() {
-        balances[asset] = balance_after(balances[asset], debits[asset], credits[asset]);
+        let debits = postings.debited(place, asset);
+        let credits = postings.credited(place, asset);
+        balances[asset] = balance_after(balances[asset], debits, credits);
     }
 }
 
 // The same with the balances of an account.
-fn post_account(alloc: Global, account: &mut Account, debits: &[u128], credits: &[u128])
-    requires debits { length account.old.balances ≡ length debits.now }
-    requires credits { length account.old.balances ≡ length credits.now }
+fn post_account(alloc: Global, account: &mut Account, postings: &Postings, place: usize)
+    requires place { place < length postings.now.starts.items }
+    requires rows { HasRows postings.now (length postings.now.starts.items) (length account.old.balances) }
     requires covers { (asset : ℕ) → asset < length account.old.balances
-        → slice_index debits.now asset ≤ balance_at asset account.old + slice_index credits.now asset }
+        → debit_at postings.now place asset ≤ balance_at asset account.old + credit_at postings.now place asset }
     requires fits { (asset : ℕ) → asset < length account.old.balances
-        → (balance_at asset account.old + slice_index credits.now asset) - slice_index debits.now asset < 2 ^ 64 }
+        → (balance_at asset account.old
+        + credit_at postings.now place asset) - debit_at postings.now place asset < 2 ^ 64 }
     ensures id { account.new.id ≡ account.old.id }
     ensures window { account.new.window ≡ account.old.window }
     ensures as_many { length account.new.balances ≡ length account.old.balances }
     ensures each { (asset : ℕ) → asset < length account.old.balances
         → balance_at asset account.new ≡ (balance_at asset account.old
-        + slice_index credits.now asset) - slice_index debits.now asset }
+        + credit_at postings.now place asset) - debit_at postings.now place asset }
 {
     let none = Balances::of(Vec::new(alloc));
     let mut balances = mem::replace(&mut account.balances, none).into_items();
-    post_all(&mut balances, debits, credits);
+    post_all(&mut balances, postings, place);
     account.balances = Balances::of(balances);
 }
 
@@ -92,9 +96,7 @@ fn change_account(alloc: Global, version: u8, account: &mut Account, place: usiz
 {
     account.window = account.window.next(version, tally.used[place]);
     if tally.postings.is_named(place) {
-        let debits = tally.postings.debits(place);
-        let credits = tally.postings.credits(place);
-        post_account(alloc, account, debits, credits);
+        post_account(alloc, account, &tally.postings, place);
     }
 }
 

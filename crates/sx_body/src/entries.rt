@@ -11,8 +11,8 @@ ghost use Rattle.sx_ledger.specs.Places.{ArePlaces};
 ghost use Rattle.sx_ledger.specs.Static.{static_of};
 ghost use Rattle.sx_tx.specs.declared.tx.Tx.{Tx as Transaction};
 
+use crate::entry::Entry;
 use crate::pending::Pending;
-use crate::postings::Entry;
 use sx_bytes::NoMemory;
 use sx_ledger::{Ledger, Places, Target};
 use sx_tx::{Kind, Tx};

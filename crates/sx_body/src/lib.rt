@@ -22,8 +22,9 @@
 //!
 //! Each payee and each cancelled offer is searched for once, and an account once where its transactions
 //! stand together. Only accounts that are debited or credited have sums of their own, and only their
-//! balances are read and changed, in place. Accounts are sorted only where one is created. Of the offers
-//! only those that are made are sorted, and one pass puts them among those that are kept.
+//! balances are read and changed, in place. A sum takes 8 bytes as long as all amounts together are below
+//! 2^64, and 16 bytes from then on. Accounts are sorted only where one is created. Of the offers only
+//! those that are made are sorted, and one pass puts them among those that are kept.
 //!
 //! Not here: whether transactions stand in order, and what trades afterwards.
 #![tactic(auto)]
@@ -34,6 +35,7 @@ mod cancellations;
 mod created;
 mod creations;
 mod entries;
+mod entry;
 mod kinds;
 mod laws;
 mod lookup;
@@ -44,7 +46,9 @@ mod postings;
 mod prechecking;
 mod ranges;
 mod repeats;
+mod sums;
 mod tally;
+mod units;
 mod used;
 
 pub use accounts::apply_to_account;

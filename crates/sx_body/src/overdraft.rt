@@ -5,9 +5,11 @@ ghost use Rattle.std.specs.Prelude.{IfNone, Some};
 ghost use Rattle.std.specs.Thread.{IsSync};
 ghost use Rattle.sx_body.specs.Overdraft.{AreCovered, CoversAt, CoversBelow, IsFirstFrom, IsFirstOverdrawn};
 ghost use Rattle.sx_body.specs.Overdraft.{IsOverdraftAt, IsOverdraftOf, NoneOverdrawn, may_spend};
+ghost use Rattle.sx_body.specs.Postings.{HasRows, credit_at, debit_at};
 ghost use Rattle.sx_body.specs.Tally.{IsTally, IsTallyFor};
 ghost use Rattle.sx_tx.specs.declared.tx.Tx.{Tx as Transaction};
 
+use crate::postings::Postings;
 use crate::tally::Tally;
 use std::thread::{Threads, join};
 use sx_base::{AccountId, AssetId};
@@ -44,54 +46,56 @@ fn is_over(version: u8, balance: u64, credits: u128, debits: u128) -> bool
     missing > credits
 }
 
-// The first asset of which the debits are above what may be spent.
+// The first asset of which the debits of the account at a place are above what may be spent.
 fn overdrawn_asset(
     version: u8,
     balances: &[u64],
-    debits: &[u128],
-    credits: &[u128],
+    postings: &Postings,
+    place: usize,
 ) -> Option<AssetId>
     requires few_assets { length balances.now ≤ 32 }
-    requires debits { length balances.now ≡ length debits.now }
-    requires credits { length balances.now ≡ length credits.now }
+    requires place { place < length postings.now.starts.items }
+    requires rows { HasRows postings.now (length postings.now.starts.items) (length balances.now) }
     ensures in_range { IfSome result (λ asset. asset < length balances.now) }
     ensures over { IfSome result (λ asset.
-        may_spend version (slice_index balances.now asset) (slice_index credits.now asset)
-        < slice_index debits.now asset) }
-    ensures before { IfSome result (λ asset. CoversBelow asset version balances.now debits.now credits.now) }
-    ensures none { IfNone result (CoversBelow (length balances.now) version balances.now debits.now credits.now) }
+        may_spend version (slice_index balances.now asset) (credit_at postings.now place asset)
+        < debit_at postings.now place asset) }
+    ensures before { IfSome result (λ asset. CoversBelow asset version balances.now postings.now place) }
+    ensures none { IfNone result (CoversBelow (length balances.now) version balances.now postings.now place) }
 {
     for (asset, balance) in balances.iter().enumerate() {
-        if is_over(version, *balance, credits[asset], debits[asset]) {
+        let debits = postings.debited(place, asset);
+        let credits = postings.credited(place, asset);
+        if is_over(version, *balance, credits, debits) {
             return AssetId::new(asset as u8).ok();
         }
     }
     None
 }
 
-// The first overdraft of an account, which has these debits and credits, asset by asset.
+// The first overdraft of an account, which stands at a place.
 fn overdraft_of(
     version: u8,
     account: &Account,
-    debits: &[u128],
-    credits: &[u128],
+    postings: &Postings,
+    place: usize,
 ) -> Option<Overdraft>
     requires few_assets { length account.now.balances ≤ 32 }
-    requires debits { length account.now.balances ≡ length debits.now }
-    requires credits { length account.now.balances ≡ length credits.now }
-    ensures first { IfSome result (IsOverdraftOf version account.now debits.now credits.now) }
+    requires place { place < length postings.now.starts.items }
+    requires rows { HasRows postings.now (length postings.now.starts.items) (length account.now.balances) }
+    ensures first { IfSome result (IsOverdraftOf version account.now postings.now place) }
     ensures none { IfNone result (CoversBelow (length account.now.balances) version account.now.balances
-        debits.now credits.now) }
+        postings.now place) }
 {
     let balances = account.balances.items();
-    let asset = overdrawn_asset(version, balances, debits, credits)?;
+    let asset = overdrawn_asset(version, balances, postings, place)?;
     let number = usize::from(asset.get());
     Some(Overdraft {
         account: account.id,
         asset,
         opening: balances[number],
-        credits: credits[number],
-        debits: debits[number],
+        credits: postings.credited(place, number),
+        debits: postings.debited(place, number),
     })
 }
 
@@ -107,9 +111,7 @@ impl Tally {
         if !self.postings.is_named(place as usize) {
             return None;
         }
-        let debits = self.postings.debits(place as usize);
-        let credits = self.postings.credits(place as usize);
-        overdraft_of(version, account, debits, credits)
+        overdraft_of(version, account, &self.postings, place as usize)
     }
 
     // The first overdraft of the accounts from one place up to another.

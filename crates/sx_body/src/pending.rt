@@ -3,7 +3,7 @@
 ghost use Rattle.std.specs.Prelude.{IfOk};
 ghost use Rattle.sx_body.specs.Postings.{IsNonePending};
 
-use crate::postings::Entry;
+use crate::entry::Entry;
 use std::alloc::Global;
 use sx_bytes::NoMemory;
 

@@ -1,23 +1,15 @@
 //! What a body debits and credits, account by account and asset by asset.
 
-ghost use Rattle.std.specs.Prelude.{◌≡◌, ℕ, ◌+◌, ◌<◌, ◌≤◌, ◌^◌, ◌==◌, ◌&&◌, if◌then◌else◌, length, slice_index};
-ghost use Rattle.std.specs.Prelude.{◌≢◌, IfOk, OnOk, replicate, slice_index_or};
+ghost use Rattle.std.specs.Prelude.{◌≡◌, ◌≢◌, ℕ, ◌+◌, ◌<◌, ◌≤◌, length, slice_index, slice_index_or, IfOk, OnOk};
 ghost use Rattle.std.specs.Bool.{OnFalse};
-ghost use Rattle.sx_body.specs.declared.postings.Entry.{Entry as AnyEntry};
+ghost use Rattle.sx_body.specs.declared.entry.Entry.{Entry as AnyEntry};
 ghost use Rattle.sx_body.specs.Postings.{AreRowsFound, AreRowsOpen, AreWithin, CanPost, HasRows, credit_at, debit_at};
-ghost use Rattle.sx_body.specs.Postings.{start_of, units_at, units_in};
+ghost use Rattle.sx_body.specs.Postings.{start_of, units_in};
 
+use crate::entry::Entry;
+use crate::sums::Sums;
 use std::alloc::Global;
-use sx_base::{Amount, AssetId};
 use sx_bytes::NoMemory;
-
-// Units of an asset, for the account at a place.
-#[derive(Clone, Copy)]
-pub struct Entry {
-    pub place: u32,
-    pub asset: AssetId,
-    pub amount: Amount,
-}
 
 /// Sums of debits and of credits for each asset of some accounts, which are named by their places. An
 /// account gets a row of sums with its first posting. The first row stands for all accounts without one,
@@ -34,17 +26,8 @@ pub struct Entry {
 pub struct Postings {
     assets: usize,
     starts: Vec<usize>,
-    debits: Vec<u128>,
-    credits: Vec<u128>,
-}
-
-// So many sums of zero, with room for this many in all.
-fn zeros(alloc: Global, count: usize, room: usize) -> Result<Vec<u128>, NoMemory>
-    ensures { IfOk result (λ sums. sums.items ≡ replicate count 0) }
-{
-    let mut sums = Vec::with_capacity(alloc, room)?;
-    sums.resize(count, 0)?;
-    Ok(sums)
+    debits: Sums,
+    credits: Sums,
 }
 
 // Finds where the row of each account of these entries starts. It is 0 where the account has none.
@@ -78,8 +61,8 @@ impl Postings {
         Ok(Postings {
             assets,
             starts: vec![in alloc; 0; places]?,
-            debits: zeros(alloc, assets, room)?,
-            credits: zeros(alloc, assets, room)?,
+            debits: Sums::zeros(alloc, assets, room)?,
+            credits: Sums::zeros(alloc, assets, room)?,
         })
     }
 
@@ -102,8 +85,8 @@ impl Postings {
             return Ok(start);
         }
         let start = self.debits.len();
-        self.debits.resize(start + self.assets, 0)?;
-        self.credits.resize(start + self.assets, 0)?;
+        self.debits.resize(start + self.assets)?;
+        self.credits.resize(start + self.assets)?;
         self.starts[place] = start;
         Ok(start)
     }
@@ -130,74 +113,6 @@ impl Postings {
         Ok(())
     }
 
-    // Adds an entry to what is debited to its account, whose row starts here.
-    fn debit(&mut self, row: usize, entry: &Entry)
-        requires place { entry.now.place < length self.old.starts.items }
-        requires asset { entry.now.asset < self.old.assets }
-        requires open { row ≢ 0 }
-        requires row { row ≡ start_of self.old entry.now.place }
-        requires rows { HasRows self.old (length self.old.starts.items) self.old.assets }
-        requires room { debit_at self.old entry.now.place entry.now.asset + entry.now.amount < 2 ^ 128 }
-        ensures starts { self.new.starts ≡ self.old.starts }
-        ensures credits { self.new.credits ≡ self.old.credits }
-        ensures rows { HasRows self.new (length self.old.starts.items) self.old.assets }
-        ensures debits { (p x : ℕ) → p < length self.old.starts.items → x < self.old.assets
-            → debit_at self.new p x ≡ debit_at self.old p x + units_at entry.now p x }
-    {
-        let at = row + usize::from(entry.asset.get());
-        self.debits[at] += u128::from(entry.amount.get());
-    }
-
-    // Adds entries to what is debited to their accounts, whose rows start here.
-    fn debit_rows(&mut self, entries: &[Entry], rows: &[usize])
-        requires entries { CanPost self.old debit_at entries.now }
-        requires one_each { length rows.now ≡ length entries.now }
-        requires open { AreRowsOpen self.old entries.now rows.now }
-        ensures starts { self.new.starts ≡ self.old.starts }
-        ensures credits { self.new.credits ≡ self.old.credits }
-        ensures rows { HasRows self.new (length self.old.starts.items) self.old.assets }
-        ensures debits { (p x : ℕ) → p < length self.old.starts.items → x < self.old.assets
-            → debit_at self.new p x ≡ debit_at self.old p x + units_in entries.now p x }
-    {
-        for k in 0..entries.len() {
-            self.debit(rows[k], &entries[k]);
-        }
-    }
-
-    // Adds an entry to what is credited to its account, whose row starts here.
-    fn credit(&mut self, row: usize, entry: &Entry)
-        requires place { entry.now.place < length self.old.starts.items }
-        requires asset { entry.now.asset < self.old.assets }
-        requires open { row ≢ 0 }
-        requires row { row ≡ start_of self.old entry.now.place }
-        requires rows { HasRows self.old (length self.old.starts.items) self.old.assets }
-        requires room { credit_at self.old entry.now.place entry.now.asset + entry.now.amount < 2 ^ 128 }
-        ensures starts { self.new.starts ≡ self.old.starts }
-        ensures debits { self.new.debits ≡ self.old.debits }
-        ensures rows { HasRows self.new (length self.old.starts.items) self.old.assets }
-        ensures credits { (p x : ℕ) → p < length self.old.starts.items → x < self.old.assets
-            → credit_at self.new p x ≡ credit_at self.old p x + units_at entry.now p x }
-    {
-        let at = row + usize::from(entry.asset.get());
-        self.credits[at] += u128::from(entry.amount.get());
-    }
-
-    // Adds entries to what is credited to their accounts, whose rows start here.
-    fn credit_rows(&mut self, entries: &[Entry], rows: &[usize])
-        requires entries { CanPost self.old credit_at entries.now }
-        requires one_each { length rows.now ≡ length entries.now }
-        requires open { AreRowsOpen self.old entries.now rows.now }
-        ensures starts { self.new.starts ≡ self.old.starts }
-        ensures debits { self.new.debits ≡ self.old.debits }
-        ensures rows { HasRows self.new (length self.old.starts.items) self.old.assets }
-        ensures credits { (p x : ℕ) → p < length self.old.starts.items → x < self.old.assets
-            → credit_at self.new p x ≡ credit_at self.old p x + units_in entries.now p x }
-    {
-        for k in 0..entries.len() {
-            self.credit(rows[k], &entries[k]);
-        }
-    }
-
     // Adds entries to what is debited to their accounts: it finds their rows, opens those that are missing, and then
     // adds the amounts. The body of each of these loops is so short that the processor reads the memory for many
     // entries at the same time. What `rows` contains before does not matter.
@@ -213,8 +128,7 @@ impl Postings {
         let rows = rows.as_mut_slice();
         find_rows(&self.starts, entries, rows);
         self.open_rows(entries, rows)?;
-        self.debit_rows(entries, rows);
-        Ok(())
+        self.debits.add_all(entries, rows)
     }
 
     // The same for what is credited.
@@ -230,8 +144,7 @@ impl Postings {
         let rows = rows.as_mut_slice();
         find_rows(&self.starts, entries, rows);
         self.open_rows(entries, rows)?;
-        self.credit_rows(entries, rows);
-        Ok(())
+        self.credits.add_all(entries, rows)
     }
 
     // Whether anything is posted for the account at a place.
@@ -242,25 +155,23 @@ impl Postings {
         self.starts[place] != 0
     }
 
-    // What is debited of each asset to the account at a place.
-    pub fn debits(&self, place: usize) -> &[u128]
+    // What is debited of an asset to the account at a place.
+    pub fn debited(&self, place: usize, asset: usize) -> u128
         requires place { place < length self.now.starts.items }
+        requires asset { asset < self.now.assets }
         requires rows { HasRows self.now (length self.now.starts.items) self.now.assets }
-        ensures width { length result.now ≡ self.now.assets }
-        ensures sums { (x : ℕ) → x < self.now.assets → slice_index result.now x ≡ debit_at self.now place x }
+        ensures { result ≡ debit_at self.now place asset }
     {
-        let start = self.starts[place];
-        &self.debits[start..start + self.assets]
+        self.debits.get(self.starts[place], asset)
     }
 
-    // What is credited of each asset to the account at a place.
-    pub fn credits(&self, place: usize) -> &[u128]
+    // What is credited of an asset to the account at a place.
+    pub fn credited(&self, place: usize, asset: usize) -> u128
         requires place { place < length self.now.starts.items }
+        requires asset { asset < self.now.assets }
         requires rows { HasRows self.now (length self.now.starts.items) self.now.assets }
-        ensures width { length result.now ≡ self.now.assets }
-        ensures sums { (x : ℕ) → x < self.now.assets → slice_index result.now x ≡ credit_at self.now place x }
+        ensures { result ≡ credit_at self.now place asset }
     {
-        let start = self.starts[place];
-        &self.credits[start..start + self.assets]
+        self.credits.get(self.starts[place], asset)
     }
 }

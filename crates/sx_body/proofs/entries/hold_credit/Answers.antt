@@ -1,5 +1,5 @@
 use Rattle.std.proofs.Common.{List, ap, arith}
-use Rattle.sx_body.specs.declared.postings.Entry.{Entry}
+use Rattle.sx_body.specs.declared.entry.Entry.{Entry}
 use Rattle.sx_body.specs.Postings.{units_in}
 use Rattle.sx_body.proofs.PendingUnits.{units_more}
 use Rattle.sx_body.proofs.PostedUnits.{entered_units}

@@ -2,4 +2,4 @@ use Rattle.sx_body.specs.Overdraft.{CoversBelow}
 use Rattle.sx_body.proofs.overdraft.overdrawn_asset.Given as goal
 
 abbrev pub invariant-loop-asset : goal.invariant-loop-asset
-invariant-loop-asset l = CoversBelow l.asset l.version l.balances l.debits l.credits
+invariant-loop-asset l = CoversBelow l.asset l.version l.balances l.postings l.place

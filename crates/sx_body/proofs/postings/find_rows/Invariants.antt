@@ -1,6 +1,6 @@
 use Rattle.std.proofs.Common.{◌≡◌, ◌<◌, ℕ, length}
 use Rattle.std.specs.Prelude.{slice_index, slice_index_or}
-use Rattle.sx_body.specs.declared.postings.Entry.{Entry}
+use Rattle.sx_body.specs.declared.entry.Entry.{Entry}
 use Rattle.sx_body.proofs.postings.find_rows.Given as goal
 
 abbrev pub invariant-loop-k : goal.invariant-loop-k

@@ -1,5 +1,5 @@
-use Rattle.std.proofs.Common.{◌≡◌, ℕ, ◌+◌, ◌<◌, ◌≤◌, length, get_or, set, refl, ap, ◌∙◌, arith, rules}
-use Rattle.std.specs.Vec.{vec_len, with_item}
+use Rattle.std.proofs.Common.{◌≡◌, ℕ, ◌+◌, ◌<◌, ◌≤◌, length, get_or, set, refl, ap, ◌∙◌, arith}
+use Rattle.std.specs.Vec.{with_item}
 use Rattle.std.proofs.lemmas.Grind.{get_or-set_at, get_or_default_zero}
 use Rattle.std.proofs.lemmas.List.{length-set}
 use Rattle.sx_body.specs.declared.postings.Postings.{Postings}
@@ -13,7 +13,7 @@ returns c =
     let rows = c.requires.rows in
     let many = length old.starts.items in
     let place = c.args.place in
-    let long = length old.debits.items in
+    let long = length old.debits in
     let no_row : start_of old place ≡ 0 =
     omega (
       arith,
@@ -21,13 +21,11 @@ returns c =
       c.index-start.ensures,
       get_or_default_zero old.starts.items place c.index-start.result.now c.requires.place,
     ) in
-    let start_is : c.len-start.result ≡ long = search rules in
+    let start_is : c.len-start.result ≡ long = c.len-start.ensures.number in
     let debits = c.in_ok-resize.ensures in
     let credits = c.in_ok-resize-2.ensures in
-    let debits_long : length c.resize.new.self.items ≡ long + old.assets = search rules in
-    let credits_long : length c.resize-2.new.self.items ≡ long + old.assets = search rules in
-    let debits_vec : vec_len old.debits ≡ long = search rules in
-    let credits_vec : vec_len old.credits ≡ length old.credits.items = search rules in
+    let debits_long : length c.resize.new.self ≡ long + old.assets = omega (arith, debits.as_many) in
+    let credits_long : length c.resize-2.new.self ≡ long + old.assets = omega (arith, credits.as_many) in
     let new : Postings = record {
       assets = old.assets;
       starts = with_item old.starts place c.len-start.result;
@@ -36,14 +34,13 @@ returns c =
     } in
     let starts : new.starts.items ≡ set old.starts.items place long =
     ap (set old.starts.items place) start_is in
-    let d_kept : (k : ℕ) → k < long → get_or new.debits.items k 0 ≡ get_or old.debits.items k 0 =
-    λ k lt. debits.by_index.0 k 0 (omega arith) (omega arith) in
-    let d_zero : (k : ℕ) → long ≤ k → k < long + old.assets → get_or new.debits.items k 0 ≡ 0 =
-    λ k le lt. debits.by_index.1 k 0 refl (omega arith) (omega arith) in
-    let c_kept : (k : ℕ) → k < long → get_or new.credits.items k 0 ≡ get_or old.credits.items k 0 =
-    λ k lt. credits.by_index.0 k 0 (omega arith) (omega (arith, rows.even)) in
-    let c_zero : (k : ℕ) → long ≤ k → k < long + old.assets → get_or new.credits.items k 0 ≡ 0 =
-    λ k le lt. credits.by_index.1 k 0 refl (omega (arith, rows.even)) (omega arith) in
+    let d_kept : (k : ℕ) → k < long → get_or new.debits k 0 ≡ get_or old.debits k 0 = debits.kept in
+    let d_zero : (k : ℕ) → long ≤ k → k < long + old.assets → get_or new.debits k 0 ≡ 0 =
+    λ k le lt. debits.zeros k le in
+    let c_kept : (k : ℕ) → k < long → get_or new.credits k 0 ≡ get_or old.credits k 0 =
+    λ k lt. credits.kept k (omega (arith, rows.even)) in
+    let c_zero : (k : ℕ) → long ≤ k → k < long + old.assets → get_or new.credits k 0 ≡ 0 =
+    λ k le lt. credits.zeros k (omega (arith, rows.even)) in
     let as_many = length-set old.starts.items place c.len-start.result in
     record {
       start = get_or-set_at old.starts.items place place c.len-start.result 0 refl c.requires.place;
