@@ -1,10 +1,10 @@
-//! The accounts of a ledger after a body.
+//! The ledger after a body.
 
-ghost use Rattle.std.specs.Prelude.{◌≡◌, ◌≤◌, List, map};
+ghost use Rattle.std.specs.Prelude.{◌≡◌, ◌≤◌, List, map, IfOk};
 ghost use Rattle.sx_body.specs.Accounts.{IsAccountAfter, StandsAt, with_known_accounts};
 ghost use Rattle.sx_body.specs.Tally.{IsTally, IsTallyOfBody};
 ghost use Rattle.sx_ledger.specs.declared.parts.Parts.{Parts as Ledgers};
-ghost use Rattle.sx_ledger.specs.Body.{IsAdmissibleIn, account_after};
+ghost use Rattle.sx_ledger.specs.Body.{IsAdmissibleIn, account_after, body_after, offers_after as all_offers};
 ghost use Rattle.sx_ledger.specs.Ledger.{IsLedger};
 ghost use Rattle.sx_spread.specs.Accounts.{AreAccounts};
 ghost use Rattle.sx_tx.specs.declared.tx.Tx.{Tx as Transaction};
@@ -12,8 +12,9 @@ ghost use Rattle.sx_tx.specs.declared.tx.Tx.{Tx as Transaction};
 use crate::sharing::sharers;
 use std::alloc::Global;
 use std::thread::{Threads, for_each_mut};
-use sx_body::{Tally, apply_to_account};
-use sx_ledger::{Account, Accounts, Ledger, Parts};
+use sx_body::{Tally, apply_to_account, complete_accounts};
+use sx_bytes::NoMemory;
+use sx_ledger::{Account, Accounts, Ledger, Offers, Parts};
 
 // Makes each account what it is after the body, in at most so many threads.
 fn change_all<R: Threads + Sync>(
@@ -44,7 +45,7 @@ fn change_all<R: Threads + Sync>(
 }
 
 // The parts of the ledger, with each account that is there as it is after the body. Accounts change in place.
-pub fn known_after<R: Threads + Sync>(
+fn known_after<R: Threads + Sync>(
     rt: &R,
     alloc: Global,
     ledger: Ledger,
@@ -76,4 +77,30 @@ pub fn known_after<R: Threads + Sync>(
         accounts: Accounts::of(accounts),
         offers,
     }
+}
+
+/// The ledger after the body of a block, before anything trades, where the tally of the body is known and so are the
+/// offers after it: those that `precheck` and `offers_after` of `sx_body` answer. At most `workers` threads, each with a
+/// part of the accounts, change them in place. The accounts that are created come in on one thread.
+///
+/// How many workers there are does not change the answer: it is that of [`apply_accounts`](sx_body::apply_accounts).
+/// Where there are few accounts, no thread is started. At `NoMemory`, which is the only error, the ledger is gone.
+pub fn par_apply_accounts<R: Threads + Sync>(
+    rt: &R,
+    alloc: Global,
+    ledger: Ledger,
+    tally: &Tally,
+    offers: Offers,
+    workers: u32,
+) -> Result<Ledger, NoMemory>
+    requires body { IsTallyOfBody ledger tally.now }
+    requires offers { (txs : List Transaction) → IsAdmissibleIn 2 ledger txs → IsTally ledger txs tally.now
+        → offers ≡ all_offers ledger txs }
+    requires some_worker { 1 ≤ workers }
+    ensures after { (txs : List Transaction) → IsAdmissibleIn 2 ledger txs → IsTally ledger txs tally.now
+        → IfOk result (λ after. after ≡ body_after ledger txs) }
+    ensures kept { IsLedger ledger }
+{
+    let known = known_after(rt, alloc, ledger, tally, workers);
+    complete_accounts(alloc, known, tally, offers)
 }

@@ -15,6 +15,10 @@
 //! A part of the accounts is changed in place by one thread, and no account lies in two parts, so no worker waits
 //! for another but at the end of each step. Where there is little to do, no thread is started.
 //!
+//! [`par_apply_accounts`] and [`par_execute`] are the two halves of it, for a caller that has no block yet: the ledger
+//! after a body, and the ledger after trading. They answer what `apply_accounts` of `sx_body` and `execute` of
+//! `sx_apply` do.
+//!
 //! Offers are lessened on one thread: each is copied once, to its place among those that are left, which depends on
 //! all before it.
 //!
@@ -27,4 +31,6 @@ mod sharing;
 mod spreading;
 mod trading;
 
+pub use body::par_apply_accounts;
 pub use spreading::apply_spread;
+pub use trading::par_execute;

@@ -8,13 +8,12 @@ ghost use Rattle.sx_block.specs.Validity.{IsApplicable, ledger_after};
 ghost use Rattle.sx_ledger.specs.Body.{body_after};
 ghost use Rattle.sx_ledger.specs.Ledger.{IsLedger, assets_of};
 
-use crate::body::known_after;
-use crate::trading::execute;
+use crate::body::par_apply_accounts;
+use crate::trading::par_execute;
 use std::alloc::Global;
 use std::thread::Threads;
 use sx_apply::Effects;
-use sx_block::Block;
-use sx_body::complete_accounts;
+use sx_block::{Block, Header};
 use sx_bytes::NoMemory;
 use sx_ledger::Ledger;
 
@@ -38,9 +37,21 @@ fn apply_in_parts<R: Threads + Sync>(
         offers,
         fills,
     } = effects;
-    let known = known_after(rt, alloc, ledger, &tally, workers);
-    let after_body = complete_accounts(alloc, known, &tally, offers)?;
-    execute(rt, alloc, after_body, &block.header, fills.items(), workers)
+    let after_body = par_apply_accounts(rt, alloc, ledger, &tally, offers, workers)?;
+    let Header {
+        prices,
+        rounding,
+        ..
+    } = &block.header;
+    par_execute(
+        rt,
+        alloc,
+        after_body,
+        prices,
+        rounding,
+        fills.items(),
+        workers,
+    )
 }
 
 /// The ledger after a block, whose effects on the ledger are known: the ledger after the transactions,

@@ -12,30 +12,38 @@ use crate::sharing::sharers;
 use std::alloc::Global;
 use std::thread::Threads;
 use sx_apply::settle;
-use sx_block::Header;
+use sx_base::Balances;
 use sx_bytes::NoMemory;
 use sx_ledger::{Accounts, Fill, Ledger, Parts};
+use sx_price::Prices;
 
-// The ledger after trading at the prices of the header, with its rounding, where these are the fills of all
-// offers of the ledger, for some flow that can trade. Accounts and offers change in place.
-pub fn execute<R: Threads + Sync>(
+/// The ledger after trading at these prices, with this rounding, where it is known what each offer trades: these are
+/// the fills of all its offers, for some flow that can trade. At most `workers` threads, each with a part of the
+/// accounts, credit the sellers with what they get. On one thread offers lose what they give, and those with nothing
+/// left are gone; the rounding is kept, the prices are the ledger's, and the height rises by one. Accounts and offers
+/// change in place.
+///
+/// How many workers there are does not change the answer: it is that of [`execute`](sx_apply::execute). Where there
+/// are few fills, no thread is started. At `NoMemory`, which is the only error, the ledger is gone.
+pub fn par_execute<R: Threads + Sync>(
     rt: &R,
     alloc: Global,
     ledger: Ledger,
-    header: &Header,
+    prices: &Prices,
+    rounding: &Balances,
     fills: &[Fill],
     workers: u32,
 ) -> Result<Ledger, NoMemory>
-    requires some { 1 ≤ workers }
     requires below_last { ledger.height < most_height }
-    requires fills { CanExecute ledger header.now.prices header.now.rounding fills.now }
-    ensures { (flow : Flow) → fills.now ≡ all_fills header.now.prices flow ledger.offers → IfOk result (λ after. after ≡ traded ledger header.now.prices flow header.now.rounding) }
+    requires fills { CanExecute ledger prices.now rounding.now fills.now }
+    requires some_worker { 1 ≤ workers }
+    ensures { (flow : Flow) → fills.now ≡ all_fills prices.now flow ledger.offers → IfOk result (λ after. after ≡ traded ledger prices.now flow rounding.now) }
 {
     let Parts {
         version,
         height,
-        prices,
-        rounding,
+        prices: last,
+        rounding: kept,
         accounts,
         offers,
     } = ledger.into_parts();
@@ -45,10 +53,10 @@ pub fn execute<R: Threads + Sync>(
     let paid = Parts {
         version,
         height,
-        prices,
-        rounding,
+        prices: last,
+        rounding: kept,
         accounts: Accounts::of(accounts),
         offers,
     };
-    settle(alloc, paid, &header.prices, &header.rounding, fills)
+    settle(alloc, paid, prices, rounding, fills)
 }

@@ -9,54 +9,40 @@ use Rattle.sx_ledger.specs.Body.{body_after}
 use Rattle.sx_ledger.specs.Trade.{traded}
 use Rattle.sx_spread.proofs.spreading.apply_in_parts.Goals as goal
 
-pub known_after-known-requires-clause-body : goal.known_after-known-requires-clause-body
-known_after-known-requires-clause-body g c = λ κs out. record {
+pub par_apply_accounts-requires-clause-body : goal.par_apply_accounts-requires-clause-body
+par_apply_accounts-requires-clause-body g c = λ κs out. record {
   txs = c.args.block.now.txs;
   body = applicable_is_body c.args.ledger c.args.block.now c.requires.applicable;
   is = c.requires.effects.tally;
 }
 
-pub complete_accounts-requires : goal.complete_accounts-requires
-complete_accounts-requires g c =
-    let txs = c.args.block.now.txs in
-    let body = applicable_is_body c.args.ledger c.args.block.now c.requires.applicable in
-    let is = c.requires.effects.tally in
-    record {
-      before = c.args.ledger;
-      ledger = c.known_after-known.ensures.kept;
-      txs = txs;
-      body = body;
-      is = is;
-      known = c.known_after-known.ensures.known txs body is;
-      after = c.requires.effects.offers txs body is;
-    }
+pub par_apply_accounts-requires-clause-offers : goal.par_apply_accounts-requires-clause-offers
+par_apply_accounts-requires-clause-offers g c = λ κs out. c.requires.effects.offers
 
-pub execute-requires-clause-below_last : goal.execute-requires-clause-below_last
-execute-requires-clause-below_last g c = λ κs out.
+pub par_execute-requires-clause-below_last : goal.par_execute-requires-clause-below_last
+par_execute-requires-clause-below_last g c = λ κs out.
     let parts = c.args.ledger in
     let block = c.args.block.now in
     let txs = block.txs in
     let body = applicable_is_body parts block c.requires.applicable in
     let is = c.requires.effects.tally in
     let after : c.in_ok-after_body.after_body ≡ body_after parts txs =
-    c.in_ok-after_body.ensures parts txs c.known_after-known.ensures.kept body is
-    (c.known_after-known.ensures.known txs body is) (c.requires.effects.offers txs body is) in
+    c.in_ok-after_body.ensures.after txs body is in
     omega (
       arith,
       ap (λ (p : Parts). p.height) after,
       c.requires.applicable.rules rule.BelowLast (omega arith) (λ e. absurd cc),
     )
 
-pub execute-requires-clause-fills : goal.execute-requires-clause-fills
-execute-requires-clause-fills g c = λ κs out.
+pub par_execute-requires-clause-fills : goal.par_execute-requires-clause-fills
+par_execute-requires-clause-fills g c = λ κs out.
     let parts = c.args.ledger in
     let block = c.args.block.now in
     let txs = block.txs in
     let body = applicable_is_body parts block c.requires.applicable in
     let is = c.requires.effects.tally in
     let after : c.in_ok-after_body.after_body ≡ body_after parts txs =
-    c.in_ok-after_body.ensures parts txs c.known_after-known.ensures.kept body is
-    (c.known_after-known.ensures.known txs body is) (c.requires.effects.offers txs body is) in
+    c.in_ok-after_body.ensures.after txs body is in
     let trade = applicable_is_tradable parts block c.requires.applicable in
     subst (λ (p : Parts). CanExecute p block.header.prices block.header.rounding c.items.result.now) (sym after)
     (record {
@@ -76,9 +62,8 @@ returns-clause-after g c =
     let flow = flow_of_block block in
     let prices = block.header.prices in
     let after : c.in_ok-after_body.after_body ≡ body_after parts txs =
-    c.in_ok-after_body.ensures parts txs c.known_after-known.ensures.kept body is
-    (c.known_after-known.ensures.known txs body is) (c.requires.effects.offers txs body is) in
+    c.in_ok-after_body.ensures.after txs body is in
     let are : c.items.result.now ≡ all_fills prices flow c.in_ok-after_body.after_body.offers =
     c.items.ensures ∙ c.requires.effects.fills ∙ ap (λ (p : Parts). all_fills prices flow p.offers) (sym after) in
-    subst (λ (p : Parts). IfOk c.execute.result (λ left. left ≡ traded p prices flow block.header.rounding)) after
-    (c.execute.ensures flow are)
+    subst (λ (p : Parts). IfOk c.par_execute.result (λ left. left ≡ traded p prices flow block.header.rounding)) after
+    (c.par_execute.ensures flow are)

@@ -7,7 +7,7 @@ use Rattle.sx_ledger.specs.declared.account.Account.{Account}
 use Rattle.sx_ledger.specs.declared.offer.Offer.{Offer}
 use Rattle.sx_ledger.specs.declared.parts.Parts.{Parts}
 use Rattle.sx_ledger.specs.Ledger.{IsLedger}
-use Rattle.sx_spread.proofs.trading.execute.Goals as goal
+use Rattle.sx_spread.proofs.trading.par_execute.Goals as goal
 
 pub pay_parts-requires-clause-pay : goal.pay_parts-requires-clause-pay
 pay_parts-requires-clause-pay g c = λ κs out.
@@ -20,7 +20,7 @@ pay_parts-requires-clause-pay g c = λ κs out.
     (sym (c.deref_mut.ensures.value ∙ c.into_items-accounts.ensures))
     (subst (λ (os : List Offer). CanPay os fills c.into_parts-version.result.accounts) (sym c.items.ensures)
     (subst (λ (p : Parts). CanPay p.offers fills p.accounts) (sym same)
-    (can_pay ledger c.args.header.now.prices can.flow c.args.header.now.rounding keeps c.requires.below_last
+    (can_pay ledger c.args.prices.now can.flow c.args.rounding.now keeps c.requires.below_last
     can.tradable can.rounded fills can.are)))
 
 pub settle-requires : goal.settle-requires
