@@ -15,7 +15,7 @@ use Rattle.sx_ledger.specs.declared.statics.Static.{Static}
 use Rattle.sx_ledger.specs.Static.{static_of}
 use Rattle.sx_shard.specs.Models.{Seated, Shown}
 use Rattle.sx_tx.specs.declared.tx.Tx.{Tx}
-use Rattle.sx_gather.specs.Passes.{Gathering, HasNoted, Passing, decided, view_at}
+use Rattle.sx_gather.specs.Passes.{decided, view_at}
 use Rattle.sx_gather.specs.declared.fault.GatherFault.TheVariants as fault
 use Rattle.sx_gather.specs.Start.{IsFaultOf, fault_of}
 use Rattle.sx_gather.specs.Submit.{Found, FoundLow, FoundSet, FoundShort, grown}

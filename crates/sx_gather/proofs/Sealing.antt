@@ -28,7 +28,7 @@ use Rattle.sx_shard.specs.Models.{Seated, Shown}
 use Rattle.sx_tx.specs.declared.tx.Tx.{Tx}
 use Rattle.sx_gather.specs.Passes.{Gathering, HasNoted, IsPassOf, IsStarted, Passing, SawGone, SawShort, Shows, decided}
 use Rattle.sx_gather.specs.Passes.{view_at}
-use Rattle.sx_gather.specs.Seal.{HaveEnded}
+use Rattle.sx_gather.specs.Seal.{HaveAll, HaveEnded}
 use Rattle.sx_gather.proofs.Bodies.{body_is}
 use Rattle.sx_gather.proofs.Seats.{entry, noted_within}
 
@@ -79,6 +79,13 @@ module _ (plan : Plan) (seats : List Seated) (purses bits : ℕ → List ℕ) (t
       (shows.0, missed_is (wanted_of parts plan tx) seen need shows.1)
 
 -- ---- the whole
+
+-- the seats of a pass that has all candidates have them too
+pub have_all : (gather : Gathering) (pass : Passing) → IsPassOf gather pass → pass.from ≡ 0
+    → pass.end ≡ length gather.candidates → HaveAll gather.shards pass.seats
+have_all gather pass is from whole k shard at =
+    let view = is.views k (slice_get_within gather.shards k shard at) in
+    (view.from ∙ from, view.end ∙ whole ∙ sym (is.gathering.started k shard at).count)
 
 module _ (gather : Gathering) (pass : Passing) (is : IsPassOf gather pass) (from : pass.from ≡ 0)
     (done : pass.next ≡ pass.end) (whole : pass.end ≡ length gather.candidates)

@@ -13,7 +13,7 @@ use crate::seat::PassSeat;
 use std::alloc::Global;
 use std::marker::Model;
 use sx_bytes::NoMemory;
-use sx_layout::{Setting, room};
+use sx_layout::{OutcomeLog, Setting, room};
 use sx_ledger::Ledger;
 use sx_shard::Shard;
 use sx_tx::Tx;
@@ -91,7 +91,7 @@ impl<'a> Gather<'a> {
         let setting = Setting::new(alloc, ledger, candidates, shards)?;
         let count = candidates.len() as u32;
         let (shards, seats) = start_shards(alloc, &setting, count)?;
-        let outcomes = Vec::with_capacity(alloc, candidates.len())?;
+        let outcomes = OutcomeLog::with_capacity(alloc, candidates.len())?;
         let gather = Gather {
             setting,
             shards,

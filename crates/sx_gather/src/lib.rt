@@ -55,11 +55,12 @@
 //!
 //! A submit makes two steps and a search for what the candidate names, and takes no memory; another try at
 //! a purse is made only where another thread took from it meanwhile. A split and a join take a step for each
-//! shard, and a join copies the outcomes of the other pass. The memory for outcomes is taken by the start
-//! and by splits. A seal copies the candidates into memory that it takes, goes over the outcomes once to move
-//! the accepted ones to the front of the copy, and sorts them there. `seal_list` does so in the list that it
-//! is given, and takes no memory. `par_seal` and `par_seal_list` start threads for the sort, but none where the
-//! accepted candidates come in the order of the body.
+//! shard, and a join copies the outcomes of the other pass: a byte for each, and 16 bytes more for an overdraft.
+//! The memory for outcomes is taken by the start and by splits, as if each were an overdraft, and only what is
+//! written to is used. A seal copies the candidates into memory that it takes, goes over the outcomes once to
+//! move the accepted ones to the front of the copy, and sorts them there. `seal_list` does so in the list that
+//! it is given, and takes no memory. `par_seal` and `par_seal_list` start threads for the sort, but none where
+//! the accepted candidates come in the order of the body.
 //!
 //! Source: Ramseyer, Goel and Mazières, "SPEEDEX: A Scalable, Parallelizable, and Economically Efficient
 //! Decentralized EXchange" (NSDI 2023), for gathering by atomic words, of balances and of used numbers. That

@@ -4,7 +4,7 @@ ghost use Rattle.std.specs.Prelude.{◌≡◌};
 
 use crate::seat::PassSeat;
 use std::marker::Model;
-use sx_layout::Outcome;
+use sx_layout::OutcomeLog;
 
 /// A range of candidates, the outcomes of those that are decided, and a seat at each shard. Contracts
 /// see a `Passing`.
@@ -18,11 +18,10 @@ pub struct Pass {
     // Where the account of the last candidate stands.
     pub(crate) near: u32,
     pub(crate) seats: Vec<PassSeat>,
-    pub(crate) outcomes: Vec<Outcome>,
+    pub(crate) outcomes: OutcomeLog,
 }
 
 impl Model for Pass {
-    ghost use Rattle.std.specs.Prelude.{◌-◌, vec_len, vec_capacity};
     ghost use Rattle.sx_gather.specs.Passes.{Passing};
 
     ghost Value = { Passing };
@@ -31,8 +30,8 @@ impl Model for Pass {
       from = p.from;
       next = p.next;
       end = p.end;
-      outcomes = p.outcomes.items;
-      spare = vec_capacity p.outcomes - vec_len p.outcomes;
+      outcomes = p.outcomes.outcomes;
+      spare = p.outcomes.spare;
       seats = p.seats.items;
     } };
 }

@@ -3,7 +3,7 @@
 ghost use Rattle.std.specs.Prelude.{◌≡◌, length, IfOk};
 ghost use Rattle.sx_gather.specs.Passes.{AreSeats, IsPassOf};
 ghost use Rattle.sx_gather.specs.Seal.{HaveAll, HaveEnded, IsBodyOnceSorted};
-ghost use Rattle.sx_layout.specs.Gathering.{IsGathered, accepted as all_accepted, decisions, is_accepted as accepts};
+ghost use Rattle.sx_layout.specs.Gathering.{IsGathered, accepted as all_accepted, decisions};
 ghost use Rattle.sx_ledger.specs.declared.parts.Parts.{Parts};
 
 use crate::gather::Gather;
@@ -11,7 +11,7 @@ use crate::pass::Pass;
 use crate::seat::PassSeat;
 use std::thread::Threads;
 use sx_bytes::NoMemory;
-use sx_layout::{Outcome, Outcomes, par_sort_txs, sort_txs};
+use sx_layout::{PackedOutcomes, par_sort_txs, sort_txs};
 use sx_shard::Shard;
 use sx_tx::{Tx, TxList};
 
@@ -20,8 +20,8 @@ use sx_tx::{Tx, TxList};
 pub struct Sealed {
     /// The accepted candidates, sorted by account and then by sequence number: the body of a block.
     pub txs: TxList,
-    /// The outcomes, in the order of the candidates.
-    pub outcomes: Outcomes,
+    /// The outcomes, in the order of the candidates. [`PackedOutcomes::to_list`] makes a list of them.
+    pub outcomes: PackedOutcomes,
 }
 
 // Ends each shard, by the seat at it.
@@ -37,28 +37,15 @@ fn finish(shards: Vec<Shard>, seats: Vec<PassSeat>)
     }
 }
 
-fn is_accepted(outcome: &Outcome) -> bool
-    ensures { result ≡ accepts outcome.now }
-{
-    match outcome {
-        Outcome::Accepted => true,
-        Outcome::Static(_)
-        | Outcome::SeqTaken
-        | Outcome::OfferTaken
-        | Outcome::NameTaken
-        | Outcome::Overdraft { .. } => false,
-    }
-}
-
 // The accepted candidates, in their order and in the memory of the list.
-fn accepted(candidates: TxList, outcomes: &[Outcome]) -> Vec<Tx>
+fn accepted(candidates: TxList, outcomes: &PackedOutcomes) -> Vec<Tx>
     requires { length outcomes.now ≡ length candidates }
     ensures { result.items ≡ all_accepted (decisions candidates outcomes.now) }
 {
     let mut txs = candidates.into_items();
     let mut kept = 0;
-    for (place, outcome) in outcomes.iter().enumerate() {
-        if is_accepted(outcome) {
+    for place in 0..outcomes.len() {
+        if outcomes.is_accepted(place) {
             txs[kept] = txs[place];
             kept += 1;
         }
@@ -70,13 +57,13 @@ fn accepted(candidates: TxList, outcomes: &[Outcome]) -> Vec<Tx>
 /// Makes the body of candidates that have these outcomes: the accepted ones stay in the memory of the list, and
 /// are sorted there. Where the outcomes come from a gathering of these candidates, by [`Gather::outcomes`], both
 /// are those of a gathering. It takes no memory.
-pub fn seal_list(candidates: TxList, outcomes: Outcomes) -> Sealed
+pub fn seal_list(candidates: TxList, outcomes: PackedOutcomes) -> Sealed
     requires one_each { length outcomes ≡ length candidates }
     ensures outcomes { result.outcomes ≡ outcomes }
     ensures gathered { (parts : Parts) → IsBodyOnceSorted parts candidates outcomes (all_accepted (decisions candidates outcomes))
         → IsGathered parts candidates result.outcomes result.txs }
 {
-    let mut txs = accepted(candidates, outcomes.items());
+    let mut txs = accepted(candidates, &outcomes);
     sort_txs(&mut txs);
     Sealed {
         txs: TxList::of(txs),
@@ -86,13 +73,17 @@ pub fn seal_list(candidates: TxList, outcomes: Outcomes) -> Sealed
 
 /// The same, with the body sorted by several threads, up to two for each processor. It returns where the
 /// threads that it joins return.
-pub fn par_seal_list<R: Threads + Sync>(rt: &R, candidates: TxList, outcomes: Outcomes) -> Sealed
+pub fn par_seal_list<R: Threads + Sync>(
+    rt: &R,
+    candidates: TxList,
+    outcomes: PackedOutcomes,
+) -> Sealed
     requires one_each { length outcomes ≡ length candidates }
     ensures outcomes { result.outcomes ≡ outcomes }
     ensures gathered { (parts : Parts) → IsBodyOnceSorted parts candidates outcomes (all_accepted (decisions candidates outcomes))
         → IsGathered parts candidates result.outcomes result.txs }
 {
-    let mut txs = accepted(candidates, outcomes.items());
+    let mut txs = accepted(candidates, &outcomes);
     par_sort_txs(rt, &mut txs);
     Sealed {
         txs: TxList::of(txs),
@@ -103,7 +94,7 @@ pub fn par_seal_list<R: Threads + Sync>(rt: &R, candidates: TxList, outcomes: Ou
 impl<'a> Gather<'a> {
     /// Ends the gathering, by the pass that has decided all candidates, and answers the outcomes alone.
     /// [`seal_list`] makes the body by them.
-    pub fn outcomes(self, pass: Pass) -> Outcomes
+    pub fn outcomes(self, pass: Pass) -> PackedOutcomes
         requires of { IsPassOf self pass }
         requires from { pass.from ≡ 0 }
         requires done { pass.next ≡ pass.end }
@@ -119,11 +110,11 @@ impl<'a> Gather<'a> {
             ..
         } = pass;
         finish(shards, seats);
-        Outcomes::of(outcomes)
+        outcomes.into_packed()
     }
 
     // The same, with a copy of the candidates.
-    fn close(self, pass: Pass) -> Result<(TxList, Outcomes), NoMemory>
+    fn close(self, pass: Pass) -> Result<(TxList, PackedOutcomes), NoMemory>
         requires of { IsPassOf self pass }
         requires from { pass.from ≡ 0 }
         requires done { pass.next ≡ pass.end }

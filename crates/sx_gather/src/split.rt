@@ -1,6 +1,6 @@
 //! How a pass is split in two, and how two are joined.
 
-ghost use Rattle.std.specs.Prelude.{◌≡◌, ◌≢◌, ℕ, ◌+◌, ◌<◌, ◌≤◌, [], ◌++◌, length, vec_len, vec_capacity, slice_get, Some, IfOk, OnOk, OnErr};
+ghost use Rattle.std.specs.Prelude.{◌≡◌, ◌≢◌, ℕ, ◌+◌, ◌<◌, ◌≤◌, [], ◌++◌, length, vec_capacity, slice_get, Some, IfOk, OnOk, OnErr};
 ghost use Rattle.sx_event.specs.Step.{joined, left_part, right_part};
 ghost use Rattle.sx_gather.specs.Passes.{AreSeats, IsPassOf, view_at};
 ghost use Rattle.sx_gather.specs.Split.{AreJoined, DoMeet, IsInside, SplitLeft, SplitRight};
@@ -10,19 +10,7 @@ use crate::gather::Gather;
 use crate::pass::Pass;
 use crate::seat::PassSeat;
 use sx_bytes::NoMemory;
-use sx_layout::Outcome;
-
-// Appends outcomes, for which there is memory.
-fn append(outcomes: &mut Vec<Outcome>, more: &[Outcome])
-    requires { vec_len outcomes.old + length more.now ≤ vec_capacity outcomes.old }
-    ensures items { outcomes.new.items ≡ outcomes.old.items ++ more.now }
-    ensures len { vec_len outcomes.new ≡ vec_len outcomes.old + length more.now }
-    ensures capacity { vec_capacity outcomes.new ≡ vec_capacity outcomes.old }
-{
-    for outcome in more {
-        outcomes.push_reserved(*outcome);
-    }
-}
+use sx_layout::OutcomeLog;
 
 impl<'a> Gather<'a> {
     // Splits the seat at a shard.
@@ -114,7 +102,7 @@ impl<'a> Gather<'a> {
         ensures refused { OnErr result (pass.new ≡ pass.old) }
     {
         let seats = Vec::with_capacity(self.alloc, pass.seats.len())?;
-        let outcomes = Vec::with_capacity(self.alloc, (pass.end - at) as usize)?;
+        let outcomes = OutcomeLog::with_capacity(self.alloc, (pass.end - at) as usize)?;
         let seats = self.split_seats(&mut pass.seats, at, seats);
         let new = Pass {
             from: at,
@@ -152,7 +140,7 @@ impl<'a> Gather<'a> {
             ..
         } = other;
         self.join_seats(&mut pass.seats, seats);
-        append(&mut pass.outcomes, &outcomes);
+        pass.outcomes.append(&outcomes);
         pass.next = next;
         pass.end = end;
         pass.near = near;

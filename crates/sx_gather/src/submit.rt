@@ -134,7 +134,7 @@ impl<'a> Gather<'a> {
         let tx = &self.setting.candidates()[pass.next as usize];
         let (outcome, near) = self.judge(&mut pass.seats, pass.near, tx);
         pass.near = near;
-        pass.outcomes.push_reserved(outcome);
+        pass.outcomes.push(outcome);
         pass.next += 1;
         outcome
     }

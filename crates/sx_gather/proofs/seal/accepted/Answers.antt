@@ -1,7 +1,9 @@
-use Rattle.std.proofs.Common.{◌≡◌, ◌<◌, List, length, get_or, Some, sym, ap, ◌∙◌, arith}
-use Rattle.std.specs.Prelude.{slice_get, vec_len}
+use Rattle.std.proofs.Common.{◌≡◌, ◌<◌, List, length, get_or, Option, Some, sym, ap, subst, ◌∙◌, arith}
+use Rattle.std.specs.Prelude.{slice_get, vec_len, IfSome}
 use Rattle.std.proofs.lemmas.Option.{slice_get-get_or}
+use Rattle.sx_layout.specs.declared.outcome.Outcome.{Outcome}
 use Rattle.sx_layout.specs.declared.outcome.Outcome.TheVariants as outcome
+use Rattle.sx_layout.specs.Gathering.{is_accepted}
 use Rattle.sx_tx.specs.declared.tx.Tx.{Tx}
 use Rattle.sx_gather.proofs.Decided.{accepted_none}
 use Rattle.sx_gather.proofs.Keeping.{kept_more, left_out}
@@ -28,21 +30,23 @@ loop-place-preserved c =
     let outcomes = c.args.outcomes.now in
     let said = get_or outcomes place outcome.Accepted in
     let keeps = c.loop-place.invariant.keeps in
+    let within : place < length outcomes = omega (arith, c.loop-place-test.true, c.len-place-end.ensures) in
     let inside : place < length c.loop-place.txs.items =
-    omega (arith, c.loop-place-test.true, c.loop-place.invariant.one_each, c.loop-place.txs.ok) in
-    let there : slice_get outcomes place ≡ Some said =
-    slice_get-get_or outcomes place outcome.Accepted c.loop-place-test.true in
+    omega (arith, within, c.loop-place.invariant.one_each, c.loop-place.txs.ok) in
+    let there : slice_get outcomes place ≡ Some said = slice_get-get_or outcomes place outcome.Accepted within in
+    let tells : c.is_accepted.result ≡ is_accepted said =
+    subst (λ (o : Option Outcome). IfSome o (λ one. c.is_accepted.result ≡ is_accepted one)) there
+    c.is_accepted.ensures in
     elim c.if-is_accepted.branch [
       | then-is_accepted w ↦ record {
         one_each = ap vec_len w.txs-is ∙ c.loop-place.invariant.one_each;
         keeps =
             rw (w.txs-is, w.kept-is) (kept_more keeps w.index.result.now said inside w.index.ensures there
-            (sym c.is_accepted.ensures ∙ w.if-is_accepted.true));
+            (sym tells ∙ w.if-is_accepted.true));
       }
       | else-is_accepted w ↦ record {
         one_each = ap vec_len w.txs-is ∙ c.loop-place.invariant.one_each;
         keeps =
-            rw (w.txs-is, w.kept-is) (left_out keeps said inside there
-            (sym c.is_accepted.ensures ∙ w.if-is_accepted.false));
+            rw (w.txs-is, w.kept-is) (left_out keeps said inside there (sym tells ∙ w.if-is_accepted.false));
       }
     ]

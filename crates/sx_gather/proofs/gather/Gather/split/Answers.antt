@@ -1,5 +1,4 @@
-use Rattle.std.proofs.Common.{◌<◌, ◌≤◌, ◌-◌, List, length, sym, subst, arith}
-use Rattle.std.specs.Prelude.{vec_capacity, vec_len}
+use Rattle.std.proofs.Common.{◌<◌, ◌≤◌, List, length, sym, subst, arith}
 use Rattle.std.specs.Vec.{with_items}
 use Rattle.std.proofs.lemmas.List.{with_items_is}
 use Rattle.sx_shard.specs.Models.{Seated}
@@ -34,8 +33,8 @@ returns-clause-new_of c =
     let outcomes = c.in_ok-outcomes.outcomes in
     let is : IsPassOf g pass = subst (IsPassOf g) (sym c.pass.view_is) c.requires.of in
     let end : at < pass.end = subst (λ (p : Passing). at < p.end) (sym c.pass.view_is) c.requires.end in
-    right_as g pass at (vec_capacity outcomes - vec_len outcomes) seats outcomes.items is (omega (arith, end))
+    right_as g pass at outcomes.spare seats outcomes.outcomes is (omega (arith, end))
     c.split_seats-seats.ensures.new_seats
     (subst (λ (before : List Seated). SplitRight (length g.shards) at before seats) c.deref_mut.ensures.value
     c.split_seats-seats.ensures.right)
-    c.in_ok-outcomes.ensures.items
+    c.in_ok-outcomes.ensures.outcomes

@@ -1,5 +1,5 @@
-use Rattle.std.proofs.Common.{◌≡◌, ◌<◌, ◌-◌, List, length, Some, refl, sym, ap, subst, ◌∙◌, arith}
-use Rattle.std.specs.Prelude.{slice_get, vec_capacity, vec_len}
+use Rattle.std.proofs.Common.{◌≡◌, ◌<◌, List, length, Some, refl, sym, ap, subst, ◌∙◌, arith}
+use Rattle.std.specs.Prelude.{slice_get}
 use Rattle.std.specs.Vec.{with_items}
 use Rattle.std.proofs.lemmas.List.{with_items_is}
 use Rattle.std.proofs.lemmas.Option.{slice_get_read}
@@ -33,11 +33,11 @@ returns-clause-of c =
     let decides : Decides g.parts g.plan pass.seats seats one =
     subst (λ (before : List Seated). Decides g.parts g.plan before seats one) c.deref_mut.ensures.value
     c.judge-outcome.ensures.decides in
-    submitted_as g pass tx said (vec_capacity c.push_reserved.new.self - vec_len c.push_reserved.new.self) seats
-    (with_items c.pass.inside.seats seats).items c.push_reserved.new.self.items is left at
+    submitted_as g pass tx said c.push.new.self.spare seats
+    (with_items c.pass.inside.seats seats).items c.push.new.self.outcomes is left at
     c.judge-outcome.ensures.seats decides
     (sym (with_items_is c.pass.inside.seats seats (omega (arith, c.judge-outcome.auto.seats, c.deref_mut.ensures.len))))
-    (sym c.push_reserved.ensures.items)
+    (sym c.push.ensures.outcomes)
 
 pub returns-clause-decides : goal.returns-clause-decides
 returns-clause-decides c =
