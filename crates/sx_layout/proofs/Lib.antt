@@ -20,6 +20,8 @@ pub mod Openings
 pub mod NewIdLaws
 pub mod Totals
 pub mod TxOrder
+mod SortedSides
+mod PartedLists
 pub mod MarkedThings
 pub mod MarksLaws
 pub mod AskedThings

@@ -1,14 +1,15 @@
 //! The order of a body: by account, and then by sequence number.
 
-ghost use Rattle.std.specs.Prelude.{◌≡◌};
+ghost use Rattle.std.specs.Prelude.{◌≡◌, ◌≤◌, false, length, true};
 ghost use Rattle.std.specs.Bool.{OnTrue};
+ghost use Rattle.std.specs.List.{AllWithin};
 ghost use Rattle.std.specs.List.Sorted.{IsPermutation, IsSortedBy};
 ghost use Rattle.std.specs.Ordering.{is_lt};
+ghost use Rattle.std.specs.Thread.{IsSync};
 ghost use Rattle.sx_ledger.specs.Body.{tx_before};
 
-use rayon::slice::par_sort_unstable_by;
 use std::cmp::Ordering;
-use std::thread::Threads;
+use std::thread::{Threads, join_mut};
 use sx_tx::Tx;
 
 // Whether a transaction stands before another in a body.
@@ -49,8 +50,74 @@ pub fn sort_txs(txs: &mut [Tx])
     txs.sort_unstable_by(|one, other| order(one, other));
 }
 
-/// The same by several threads, up to two for each processor, and by none where the transactions come in the
-/// order of a body. It returns where the threads that it joins return.
+// How many threads sort at most.
+const MOST_THREADS: usize = 4;
+
+// A list of fewer transactions is sorted by one thread, since to start another would take longer than it saves.
+const LEAST_FOR_TWO: usize = 16_384;
+
+// How many transactions are compared to find one near the middle.
+const SAMPLES: usize = 511;
+
+// A transaction that stands near the middle of the order: the middle one of samples that are equally far apart.
+fn near_middle(txs: &[Tx]) -> Tx
+    requires enough { SAMPLES ≤ length txs.now }
+{
+    let mut samples = [txs[0]; SAMPLES];
+    let distance = txs.len() / SAMPLES;
+    for place in 0..SAMPLES {
+        samples[place] = txs[place * distance];
+    }
+    sort_txs(&mut samples);
+    samples[SAMPLES / 2]
+}
+
+// Moves what stands before a transaction in front of the rest, and says where the rest begins. The swap has no
+// branch: what it moves from there to `place` belongs to the rest, or is the same transaction.
+fn part(txs: &mut [Tx], by: &Tx) -> usize
+    ensures moves { IsPermutation txs.old txs.new }
+    ensures within { result ≤ length txs.new }
+    ensures front { AllWithin (λ tx. tx_before tx by.now ≡ true) txs.new 0 result }
+    ensures rest { AllWithin (λ tx. tx_before tx by.now ≡ false) txs.new result (length txs.new) }
+{
+    let mut end = 0;
+    for place in 0..txs.len() {
+        let goes_before = order(&txs[place], by).is_lt();
+        txs.swap(place, end);
+        end += goes_before as usize;
+    }
+    end
+}
+
+// Sorts by up to so many threads. What stands before a transaction near the middle is moved in front of the rest, so
+// that the two sides are about equally long. Half of the threads then sort the front, and the other half the rest.
+fn sort_by_halves<R: Threads + Sync>(rt: &R, threads: usize, txs: &mut [Tx])
+    ensures moves { IsPermutation txs.old txs.new }
+    ensures sorted { IsSortedBy tx_before txs.new }
+{
+    if threads < 2 || txs.len() < LEAST_FOR_TWO {
+        return sort_txs(txs);
+    }
+    let half = threads / 2;
+    let other_half = threads - half;
+    let middle = near_middle(txs);
+    let end = part(txs, &middle);
+    let (front, rest) = txs.split_at_mut(end);
+    join_mut(
+        rt,
+        &mut ||
+            requires { IsSync R.row }
+            ensures { IsPermutation front.entry.now front.exit.now × IsSortedBy tx_before front.exit.now }
+        { sort_by_halves(rt, half, front) },
+        &mut ||
+            requires { IsSync R.row }
+            ensures { IsPermutation rest.entry.now rest.exit.now × IsSortedBy tx_before rest.exit.now }
+        { sort_by_halves(rt, other_half, rest) },
+    );
+}
+
+/// The same by up to four threads, and by none where the transactions come in the order of a body. It returns where
+/// the threads that it joins return.
 pub fn par_sort_txs<R: Threads + Sync>(rt: &R, txs: &mut [Tx])
     ensures moves { IsPermutation txs.old txs.new }
     ensures sorted { IsSortedBy tx_before txs.new }
@@ -58,5 +125,5 @@ pub fn par_sort_txs<R: Threads + Sync>(rt: &R, txs: &mut [Tx])
     if are_sorted(txs) {
         return;
     }
-    par_sort_unstable_by(rt, txs, |one: &Tx, other: &Tx| order(one, other));
+    sort_by_halves(rt, MOST_THREADS, txs);
 }
