@@ -6,3 +6,4 @@ pub mod SearchCounts
 pub mod Tradings
 pub mod QuoteCases
 pub mod SearchCases
+mod LedgersLeft

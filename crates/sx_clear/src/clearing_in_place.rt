@@ -19,8 +19,8 @@ use crate::clearing::{Trading, trade_body};
 use crate::digests::Digests;
 use crate::filling::Filled;
 use crate::heading::{Terms, block_of};
-use crate::leaving::digest_after;
-use crate::opening::{Opened, Search, written_and_opened};
+use crate::leaving::par_digest_after;
+use crate::opening::{Opened, Search, WORKERS, written_and_opened};
 use std::alloc::Global;
 use std::snapshot::Snapshot;
 use std::sync::ledger;
@@ -39,9 +39,9 @@ pub struct Cleared {
     pub list: Writer,
 }
 
-// The block of what a body trades. The ledger changes to what the block leaves, and is let go. The digest of the ledger
-// before is waited for last.
-fn closed<R: Threads>(
+// The block of what a body trades. The ledger changes to what the block leaves, by threads where that is worth it, and
+// is let go. The digest of the ledger before is waited for last.
+fn closed<R: Threads + Sync>(
     rt: &R,
     alloc: Global,
     ledger: Ledger,
@@ -73,7 +73,16 @@ fn closed<R: Threads>(
     let Filled { fills, rounding } = filled;
     let height = ledger.height() + 1;
     let snapshot = Snapshot::of(&ledger);
-    let after = digest_after(alloc, ledger, body, &prices, &rounding, fills.items())?;
+    let after = par_digest_after(
+        rt,
+        alloc,
+        ledger,
+        body,
+        &prices,
+        &rounding,
+        fills.items(),
+        WORKERS,
+    )?;
     let terms = Terms {
         mu,
         prices,
@@ -90,7 +99,9 @@ fn closed<R: Threads>(
 
 /// The block that [`clear_many`](crate::clear_many) answers, of a ledger that the caller needs no more and whose digest
 /// it knows or has a thread make. The ledger changes in place to what the block leaves, and so no copy of it is made.
-/// The call waits for that thread last of all. Where it fails before that, the thread is let go.
+/// Threads change the accounts where there are many, and credit the sellers where many offers trade, each in a part of
+/// the accounts. The call waits last of all for the thread that makes the digest. Where it fails before that, this
+/// thread is let go.
 ///
 /// Beside the block it answers the encoding of the transactions. It is written over `spare`, whose bytes are lost, and
 /// takes memory only where that holds too little. With 8,192 transactions or more, a thread writes them while the prices

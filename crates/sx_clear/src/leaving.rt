@@ -1,6 +1,6 @@
 //! The digests of the ledger before a block and of what the block leaves.
 
-ghost use Rattle.std.specs.Prelude.{◌≡◌, List, ◌<◌, IfOk};
+ghost use Rattle.std.specs.Prelude.{◌≡◌, List, ◌<◌, ◌≤◌, IfOk};
 ghost use Rattle.sx_block.specs.Digest.{IsDigest};
 ghost use Rattle.sx_block.specs.Validity.{digest_of_ledger};
 ghost use Rattle.sx_clear.specs.Digests.{IsParentDigest};
@@ -23,6 +23,7 @@ use sx_body::apply_accounts;
 use sx_bytes::NoMemory;
 use sx_ledger::{Fill, Ledger};
 use sx_price::Prices;
+use sx_spread::{par_apply_accounts, par_execute};
 
 // From how many bytes of a ledger on its digest is made on a thread of its own. Hashing takes a millisecond there, and
 // to start a thread a small part of one.
@@ -45,6 +46,29 @@ pub fn digest_after(
     let Body { tally, offers } = body;
     let with_body = apply_accounts(alloc, ledger, &tally, offers)?;
     let left = execute(alloc, with_body, prices, rounding, fills)?;
+    ledger_digest(alloc, &left)
+}
+
+// The same, with at most so many threads that change the accounts and credit the sellers.
+pub fn par_digest_after<R: Threads + Sync>(
+    rt: &R,
+    alloc: Global,
+    ledger: Ledger,
+    body: Body,
+    prices: &Prices,
+    rounding: &Balances,
+    fills: &[Fill],
+    workers: u32,
+) -> Result<Digest, NoMemory>
+    requires some_worker { 1 ≤ workers }
+    requires below_last { ledger.height < most_height }
+    requires body { CanLeave ledger body prices.now rounding.now fills.now }
+    ensures hash { (txs : List Tx) (flow : Flow) → IsAdmissible ledger txs → IsBodyOf ledger txs body → fills.now ≡ all_fills prices.now flow (body_after ledger txs).offers → IfOk result (λ digest. digest ≡ digest_of_ledger (traded (body_after ledger txs) prices.now flow rounding.now)) }
+    ensures digest { IfOk result IsDigest }
+{
+    let Body { tally, offers } = body;
+    let with_body = par_apply_accounts(rt, alloc, ledger, &tally, offers, workers)?;
+    let left = par_execute(rt, alloc, with_body, prices, rounding, fills, workers)?;
     ledger_digest(alloc, &left)
 }
 

@@ -16,7 +16,9 @@
 //! makes the digest of a large body beside the search for prices, and that of a large ledger beside a copy and its digest.
 //! In [`clear_in_place`] that thread writes the body, and others hash what it has written; the block and the body as it
 //! was written are answered.
-//! Threads also look up the accounts and offers that a large body names, but in [`clear_at`] and [`curves_of`].
+//! Threads also look up the accounts and offers that a large body names, but in [`clear_at`] and [`curves_of`]. In
+//! [`clear_in_place`] they change the accounts too where there are many, and credit the sellers where many offers trade,
+//! each in a part of the accounts (`sx_spread`).
 //!
 //! ```text
 //!                  .-> curves -> prices -.                .-> fills, rounding -.

@@ -27,8 +27,9 @@ use sx_tx::Tx;
 // start a thread a small part of one.
 const MANY_TRANSACTIONS: usize = 1 << 13;
 
-// How many threads look up the accounts and offers that a body names. The answer is the same for every number.
-const LOOKING_UP: u32 = 4;
+// At most how many threads look up the accounts and offers that a body names, change the accounts, and credit the
+// sellers. The answer is the same for every number.
+pub const WORKERS: u32 = 4;
 
 // The same prices once more.
 pub fn copy_of(alloc: Global, prices: &Prices) -> Result<Prices, NoMemory>
@@ -92,7 +93,7 @@ fn open<R: Threads + Sync>(
     ensures prices { IfOk result (λ opened. opened.prices ≡ posted_at ledger.now txs.now by.mu by.rounds by.searches) }
 {
     let assets = ledger.assets();
-    let body = par_body_of(rt, alloc, ledger, txs, LOOKING_UP)?;
+    let body = par_body_of(rt, alloc, ledger, txs, WORKERS)?;
     let prices = posted(rt, alloc, ledger, assets, body.offers.items(), by)?;
     Ok(Opened { body, prices })
 }

@@ -20,24 +20,24 @@ trade_body-requires-clause-assets g c =
     c.args.searches
 
 pub closed-requires-clause-hash : goal.closed-requires-clause-hash
-closed-requires-clause-hash g c =
+closed-requires-clause-hash g c = λ κs out.
     subst (λ (xs : List Tx). IsBodyDigest xs c.in_ok-written.written.digest) c.items.ensures
     c.in_ok-written.ensures.written.digest
 
 pub closed-requires-clause-body : goal.closed-requires-clause-body
-closed-requires-clause-body g c =
+closed-requires-clause-body g c = λ κs out.
     subst (λ (xs : List Tx). IsBodyOf c.args.ledger xs c.in_ok-written.opened.body) c.items.ensures
     c.in_ok-written.ensures.body
 
 pub closed-requires-clause-assets : goal.closed-requires-clause-assets
-closed-requires-clause-assets g c =
+closed-requires-clause-assets g c = λ κs out.
     let parts = c.args.ledger in
     ap length c.in_ok-written.ensures.prices
     ∙ posted_length (quotes_of (body_after parts c.items.result.now).offers) parts.prices c.args.mu c.args.rounds
     c.args.searches
 
 pub closed-requires-clause-trading : goal.closed-requires-clause-trading
-closed-requires-clause-trading g c =
+closed-requires-clause-trading g c = λ κs out.
     let opened = c.in_ok-written.opened in
     subst (λ (xs : List Tx). IsTrading c.args.ledger xs opened.body opened.prices c.args.mu c.in_ok-trading.trading)
     c.items-2.ensures c.in_ok-trading.ensures.trading
