@@ -28,8 +28,9 @@
 //!
 //! Cost: that of `sx_gather` for each candidate, divided among the workers, and a split, a join and a thread
 //! for each worker but the first. The memory is that of one gathering, and of the outcomes once more, since
-//! the first pass has room for all of them. [`gather_list`] makes the body in the memory of the candidates,
-//! which its caller hands over, and [`gather_all`] in a copy of them.
+//! the first pass takes in those of the others: a byte for each, and 16 bytes more for an overdraft.
+//! [`gather_list`] makes the body in the memory of the candidates, which its caller hands over, and
+//! [`gather_all`] in a copy of them.
 //!
 //! Not here: what a pass decides, and why its outcomes are right whatever others do (`sx_gather`). Nothing is
 //! promised of which of two candidates that exclude each other is accepted, nor that workers run at the
