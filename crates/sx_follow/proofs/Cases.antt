@@ -1,6 +1,5 @@
 -- The definitions of chains and followers, at lists of few blocks.
 use Rattle.std.proofs.Common.{◌≡◌, ◌≢◌, ℕ, zero, suc, ◌+◌, List, [], ◌∷◌, refl, sym, ap, ◌∙◌, arith}
-use Rattle.std.specs.Prelude.{Contains}
 use Rattle.sx_block.specs.declared.header.Block.{Block}
 use Rattle.sx_block.specs.Validity.{IsValid, ledger_after}
 use Rattle.sx_follow.specs.declared.waiting.Waiting.{Waiting}

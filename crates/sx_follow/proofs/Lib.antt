@@ -1,8 +1,12 @@
+pub mod Results
 pub mod Chains
 pub mod Existence
 pub mod Places
+pub mod HeightPlaces
 pub mod Entering
 pub mod NextBlock
+pub mod Chosen
 pub mod Steps
 pub mod Followers
+pub mod AheadSteps
 mod Cases

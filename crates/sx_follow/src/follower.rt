@@ -1,11 +1,14 @@
 //! A follower.
 
-ghost use Rattle.std.specs.Prelude.{◌≡◌, ◌++◌, ◌∷◌, [], ◌<◌, ◌≤◌, true, false, length, IfOk, OnErr, OnOk};
+ghost use Rattle.std.specs.Prelude.{◌≡◌, ◌+◌, ◌++◌, ◌∷◌, [], ◌<◌, ◌≤◌, true, false, length, IfOk, OnErr, OnOk};
 ghost use Rattle.sx_block.specs.Block.{IsBlock};
 ghost use Rattle.sx_follow.specs.Chain.{NoneIsValid};
-ghost use Rattle.sx_follow.specs.Follower.{Advances, HasWholeChain, IsFollower, begun, most_blocks};
+ghost use Rattle.sx_follow.specs.Follower.{Advances, HasWholeChain, IsFollower, NextLeaves, begun, most_blocks};
+
+mod running;
 
 use crate::finding::find;
+use crate::leaving::Leaving;
 use crate::spare::Spare;
 use crate::waiting::Waiting;
 use std::alloc::Global;
@@ -117,14 +120,24 @@ impl Follower {
             &mut self.spare,
         )? {
             Some(left) => {
-                self.steps += 1;
-                let earlier = mem::replace(&mut self.head, left.ledger);
-                self.spare.keep(earlier);
-                self.digest = left.digest;
+                self.take(left);
                 Ok(true)
             }
             None => Ok(false),
         }
+    }
+
+    // Makes what the next block leaves the head.
+    fn take(&mut self, left: Leaving)
+        requires next { NextLeaves self.old.head self.old.blocks left }
+        ensures advances { Advances self.old self.new }
+        ensures left { self.new ≡ record self.old { steps = self.old.steps + 1; head = left.ledger } }
+        ensures follows { IsFollower self.new }
+    {
+        self.steps += 1;
+        let earlier = mem::replace(&mut self.head, left.ledger);
+        self.spare.keep(earlier);
+        self.digest = left.digest;
     }
 
     /// Applies blocks until none is valid for the head. Where memory runs out, those stay applied that were by then.

@@ -3,7 +3,7 @@
 ghost use Rattle.std.specs.Prelude.{◌≡◌, IfNone, IfOk, IfSome};
 ghost use Rattle.sx_apply.specs.Effects.{AreEffects};
 ghost use Rattle.sx_block.specs.Block.{IsBlock};
-ghost use Rattle.sx_block.specs.Validity.{IsSound, IsValid, digest_of_ledger};
+ghost use Rattle.sx_block.specs.Validity.{IsSound, IsValid, digest_of_ledger, ledger_after};
 ghost use Rattle.sx_follow.specs.Follower.{Leaves};
 
 use crate::spare::Spare;
@@ -21,8 +21,32 @@ pub struct Leaving {
     pub digest: Digest,
 }
 
-// Applies a sound block to a copy of the head. It leaves something where the block names the digest of that;
-// otherwise the copy is spare.
+// What a sound block leaves, where this is the ledger after it: something where the block names the digest of that.
+// Otherwise the ledger is spare.
+pub(crate) fn closed(
+    head: &Ledger,
+    block: &Block,
+    ledger: Ledger,
+    spare: &mut Spare,
+) -> Result<Option<Leaving>, NoMemory>
+    requires sound { IsSound head.now block.now }
+    requires after { ledger ≡ ledger_after head.now block.now }
+    ensures valid { IfOk result (λ found. IfSome found (Leaves head.now block.now)) }
+    ensures refused { IfOk result (λ found. IfNone found (¬ IsValid head.now block.now)) }
+{
+    validity_laws();
+    check_laws();
+    let digest = spare.digest(&ledger)?;
+    match close(&block.header, &digest) {
+        Ok(()) => Ok(Some(Leaving { ledger, digest })),
+        Err(_) => {
+            spare.keep(ledger);
+            Ok(None)
+        }
+    }
+}
+
+// Applies a sound block to a copy of the head.
 fn leave(
     alloc: Global,
     head: &Ledger,
@@ -36,17 +60,9 @@ fn leave(
     ensures refused { IfOk result (λ found. IfNone found (¬ IsValid head.now block.now)) }
 {
     validity_laws();
-    check_laws();
     let copy = spare.copy(alloc, head)?;
     let ledger = apply(alloc, copy, block, effects)?;
-    let digest = spare.digest(&ledger)?;
-    match close(&block.header, &digest) {
-        Ok(()) => Ok(Some(Leaving { ledger, digest })),
-        Err(_) => {
-            spare.keep(ledger);
-            Ok(None)
-        }
-    }
+    closed(head, block, ledger, spare)
 }
 
 // What a block leaves of the head, if it is valid for it.

@@ -31,12 +31,17 @@
 //! parent the one that came first counts, and nothing says which of them others take.
 #![tactic(auto)]
 
+mod ahead;
+mod choosing;
 mod finding;
 mod follower;
+mod hashing;
 mod laws;
 mod leaving;
+mod pipeline;
 mod refilling;
 mod spare;
+mod spreading;
 mod waiting;
 
 pub use follower::Follower;

@@ -1,8 +1,9 @@
 //! Memory that is used again.
 
-ghost use Rattle.std.specs.Prelude.{◌≡◌, IfOk};
+ghost use Rattle.std.specs.Prelude.{◌≡◌, IfOk, take};
 ghost use Rattle.sx_block.specs.Validity.{digest_of_ledger};
 
+use crate::leaving::Leaving;
 use crate::refilling::copied;
 use std::alloc::Global;
 use sx_block::{Digest, record_digest};
@@ -10,32 +11,43 @@ use sx_bytes::{NoMemory, Writer};
 use sx_ledger::Ledger;
 use sx_record::tag;
 
-// A ledger that is no longer needed, and a state that was written. Nothing is read of either: a copy and another
-// state are written over them.
+// Ledgers that are no longer needed, and a state that was written. Nothing is read of them: copies and another state
+// are written over them.
 #[derive(Debug, Drop)]
 pub struct Spare {
-    ledger: Option<Ledger>,
+    ledgers: Vec<Ledger>,
     state: Writer,
 }
 
 impl Spare {
     pub(crate) fn new(alloc: Global) -> Spare {
         Spare {
-            ledger: None,
+            ledgers: Vec::new(alloc),
             state: Writer::new(alloc),
         }
     }
 
-    // Keeps a ledger for the next copy.
+    // Keeps a ledger for a later copy. Where there is no memory for a longer list, the ledger is dropped.
     pub(crate) fn keep(&mut self, ledger: Ledger) {
-        self.ledger = Some(ledger);
+        let _ = self.ledgers.push(ledger);
+    }
+
+    // Keeps the ledgers of all but the first so many of a list, which it leaves in the list.
+    pub(crate) fn cut(&mut self, list: &mut Vec<Leaving>, count: usize)
+        ensures { list.new.items ≡ take count list.old.items }
+    {
+        while list.len() > count {
+            if let Some(left) = list.pop() {
+                self.keep(left.ledger);
+            }
+        }
     }
 
     // A ledger of its own with the same parts. It takes no memory where one with as many entries is kept.
     pub(crate) fn copy(&mut self, alloc: Global, ledger: &Ledger) -> Result<Ledger, NoMemory>
         ensures { IfOk result (λ copy. copy ≡ ledger.now) }
     {
-        copied(alloc, ledger, self.ledger.take())
+        copied(alloc, ledger, self.ledgers.pop())
     }
 
     // The digest of a ledger. It takes no memory where a state as long was written before.

@@ -1,23 +1,24 @@
-use Rattle.std.proofs.Common.{◌≡◌, ℕ, get_or, subst, sym, ap, ◌∙◌, inl, inr, arith}
+use Rattle.std.proofs.Common.{◌≡◌, ℕ, ◌+◌, get_or, subst, sym, ap, ◌∙◌, inl, inr, arith}
 use Rattle.std.proofs.lemmas.Bool.{cases_lt}
 use Rattle.std.proofs.lemmas.List.{get_or_default}
 use Rattle.sx_block.specs.declared.header.Block.{Block}
 use Rattle.sx_block.specs.Block.{IsBlock}
 use Rattle.sx_block.specs.Validity.{IsValid}
 use Rattle.sx_follow.specs.Follower.{Leaves}
-use Rattle.sx_follow.proofs.NextBlock.{first_valid, none_valid, places_within}
+use Rattle.sx_follow.proofs.HeightPlaces.{places_within}
+use Rattle.sx_follow.proofs.NextBlock.{first_valid, none_valid}
 use Rattle.sx_follow.proofs.finding.find.Goals as goal
 
 pub bounds-blocks-place : goal.bounds-blocks-place
 bounds-blocks-place c =
-    places_within c.args.head.now c.args.blocks.now c.args.places.now c.requires.places c.loop-place.place-index
+    places_within (c.args.head.now.height + 1) c.args.blocks.now c.args.places.now c.requires.places c.loop-place.place-index
     c.loop-place-test.true
 
 pub step-requires-clause-form : goal.step-requires-clause-form
 step-requires-clause-form c =
     let block = c.index-blocks-place.result in
     let within =
-    places_within c.args.head.now c.args.blocks.now c.args.places.now c.requires.places c.loop-place.place-index
+    places_within (c.args.head.now.height + 1) c.args.blocks.now c.args.places.now c.requires.places c.loop-place.place-index
     c.loop-place-test.true in
     subst IsBlock (sym c.index-blocks-place.is)
     (c.requires.form (get_or c.args.places.now c.loop-place.place-index 0) block within)
@@ -46,7 +47,7 @@ loop-place-preserved c = λ i d lt valid.
       | inl less ↦ c.loop-place.invariant i d less valid
       | inr most ↦
           let same : i ≡ index = omega arith in
-          let within = places_within head blocks places c.requires.places index c.loop-place-test.true in
+          let within = places_within (head.height + 1) blocks places c.requires.places index c.loop-place-test.true in
           let here : get_or blocks (get_or places i 0) d ≡ block =
           ap (λ (n : ℕ). get_or blocks (get_or places n 0) d) same
           ∙ get_or_default blocks (get_or places index 0) d block within

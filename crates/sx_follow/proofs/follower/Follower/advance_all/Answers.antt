@@ -1,4 +1,4 @@
-use Rattle.std.proofs.Common.{◌≡◌, ◌+◌, Bool, Ok, length, ap, subst, sym, ◌∙◌, arith}
+use Rattle.std.proofs.Common.{Bool, Ok, length, ap, subst, sym, ◌∙◌, arith}
 use Rattle.sx_follow.specs.Follower.{Followed, HasWholeChain, IsFollower}
 use Rattle.sx_follow.proofs.Followers.{whole_chain}
 use Rattle.sx_follow.proofs.follower.Follower.advance_all.Goals as goal

@@ -1,5 +1,4 @@
 use Rattle.std.proofs.Common.{◌≡◌, ◌-◌, length}
-use Rattle.sx_follow.specs.Follower.{IsFollower}
 use Rattle.sx_follow.proofs.follower.Follower.advance_all.Given as goal
 
 abbrev pub invariant-loop : goal.invariant-loop
