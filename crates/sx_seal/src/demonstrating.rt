@@ -115,5 +115,6 @@ pub fn demonstrate<R: Threads + Sync, G: Gate + Sync, L: ledger::Ledger>(
     let numbers = numbers_of(workers);
     let made = made(rt, alloc, &ledger, number, numbers, gate, steps)?;
     let checked = checked(alloc, &ledger, &made.block)?;
-    Ok(demo_lines(alloc, number, &made.outcomes, &checked, &made.block.header)?)
+    let outcomes = made.outcomes.to_list(alloc)?;
+    Ok(demo_lines(alloc, number, &outcomes, &checked, &made.block.header)?)
 }

@@ -22,7 +22,7 @@ use sx_bytes::{NoMemory, Writer};
 use sx_clear::{Cleared, clear_in_place, clear_many};
 use sx_gather::{GatherFault, Sealed};
 use sx_input::Head;
-use sx_layout::{Outcomes, gathering_laws};
+use sx_layout::{PackedOutcomes, gathering_laws};
 use sx_ledger::Ledger;
 use sx_net::Steps;
 use sx_price::Mu;
@@ -44,14 +44,14 @@ pub struct Numbers {
 #[derive(Debug, Drop)]
 pub struct Made {
     pub block: Block,
-    pub outcomes: Outcomes,
+    pub outcomes: PackedOutcomes,
 }
 
 // The same, and the encoding of the transactions of the block.
 #[derive(Debug, Drop)]
 pub struct MadeInPlace {
     pub cleared: Cleared,
-    pub outcomes: Outcomes,
+    pub outcomes: PackedOutcomes,
 }
 
 // What worker threads make of the candidates, in their memory.

@@ -31,7 +31,7 @@ use sx_check::Invalid;
 use sx_clear::Cleared;
 use sx_gather::GatherFault;
 use sx_input::{Head, Stop, end, take_head, take_with_spare};
-use sx_layout::{Outcomes, outcome_list_laws, write_outcomes};
+use sx_layout::{PackedOutcomes, outcome_list_laws, write_packed};
 use sx_net::Steps;
 use sx_record::tag;
 use sx_tx::TxList;
@@ -98,7 +98,7 @@ fn in_pieces(
 }
 
 // The record of a block, and then that of outcomes. The transactions stand in it where they were written.
-fn written(alloc: Global, cleared: Cleared, outcomes: &Outcomes) -> Result<Pieces, NoMemory>
+fn written(alloc: Global, cleared: Cleared, outcomes: &PackedOutcomes) -> Result<Pieces, NoMemory>
     requires block { IsBlock cleared.block }
     requires list { cleared.list ≡ list_bytes cleared.block.txs }
     requires outcomes { AreOutcomes outcomes.now }
@@ -108,7 +108,7 @@ fn written(alloc: Global, cleared: Cleared, outcomes: &Outcomes) -> Result<Piece
     let Cleared { block, list } = cleared;
     let front = front_of_block(alloc, &block, list.bytes())?;
     let mut told = Writer::new(alloc);
-    write_outcomes(&mut told, outcomes)?;
+    write_packed(&mut told, outcomes)?;
     let next_front = front_of_outcomes(alloc, told.bytes().len() as u32)?;
     in_pieces(alloc, front, list, next_front, told)
 }

@@ -1,3 +1,6 @@
+use Rattle.std.proofs.Common.{List, ap, ◌∙◌}
+use Rattle.sx_layout.specs.declared.outcome.Outcome.{Outcome}
+use Rattle.sx_text.specs.Demonstration.{demo_text}
 use Rattle.sx_seal.proofs.Demonstrations.{demonstrates, eight_assets, summed_up}
 use Rattle.sx_seal.proofs.demonstrating.demonstrate.Goals as goal
 
@@ -11,4 +14,7 @@ returns-clause-found g c = λ before.
     demonstrates c.args.number c.args.workers before c.in_ok-demo_lines.field-0
     (summed_up c.args.number numbers.result.mu numbers.result.rounds numbers.result.searches made.block made.outcomes
     c.in_ok-checked.checked c.in_ok-demo_lines.field-0 numbers.ensures.mu numbers.ensures.rounds numbers.ensures.searches
-    c.in_ok-made.ensures.made c.in_ok-checked.ensures c.in_ok-demo_lines.ensures)
+    c.in_ok-made.ensures.made c.in_ok-checked.ensures
+    (c.in_ok-demo_lines.ensures
+    ∙ ap (λ (told : List Outcome). demo_text c.args.number told c.in_ok-checked.checked made.block.header)
+    c.in_ok-outcomes.ensures))
