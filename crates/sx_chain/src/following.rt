@@ -20,7 +20,7 @@ use sx_input::{Stop, decoded, end_of, next, take, written};
 use sx_layout::Outcomes;
 use sx_ledger::Ledger;
 use sx_record::{Record, tag};
-use sx_words::Command;
+use sx_words::{Command, Setting};
 
 // Where reading stands: the follower, the offset of the next record, and whether the last record is a block.
 #[derive(Debug, Drop)]
@@ -95,11 +95,16 @@ fn step<R: Threads + Sync>(
     }
 }
 
-// The record of the ledger after the chain that the blocks make.
-fn followed(alloc: Global, mut follower: Follower) -> Result<Writer, NoMemory>
+// The record of the ledger after the chain that the blocks make. As many workers apply them as a replay has where its
+// words name none.
+fn followed<R: Threads + Sync>(
+    rt: &R,
+    alloc: Global,
+    mut follower: Follower,
+) -> Result<Writer, NoMemory>
     ensures { IfOk result (λ text. IsFollowed follower.opening follower.blocks text) }
 {
-    follower.advance_all()?;
+    follower.par_advance_all(rt, Setting::Workers.default())?;
     written(alloc, follower.head(), None)
 }
 
@@ -123,5 +128,5 @@ pub fn follow<R: Threads + Sync, S: Source>(
     while let Some(found) = next(alloc, source, place.at, tags(place.after_block))? {
         place = step(rt, alloc, place, &found)?;
     }
-    Ok(followed(alloc, place.follower)?)
+    Ok(followed(rt, alloc, place.follower)?)
 }
