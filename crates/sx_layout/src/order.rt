@@ -53,13 +53,14 @@ pub fn sort_txs(txs: &mut [Tx])
 // How many threads sort at most.
 const MOST_THREADS: usize = 4;
 
-// A list of fewer transactions is sorted by one thread, since to start another would take longer than it saves.
+// A list of fewer transactions is sorted by one thread, since to start another would hardly pay.
 const LEAST_FOR_TWO: usize = 16_384;
 
-// How many transactions are compared to find one near the middle.
-const SAMPLES: usize = 511;
+// How many transactions are looked at to find one near the middle of the order. With so many it is rarely more than
+// 3 hundredths of the list away from the middle.
+const SAMPLES: usize = 1023;
 
-// A transaction that stands near the middle of the order: the middle one of samples that are equally far apart.
+// A transaction near the middle of the order: the middle one of samples that lie equally far apart in the list.
 fn near_middle(txs: &[Tx]) -> Tx
     requires enough { SAMPLES ≤ length txs.now }
 {
@@ -72,8 +73,8 @@ fn near_middle(txs: &[Tx]) -> Tx
     samples[SAMPLES / 2]
 }
 
-// Moves what stands before a transaction in front of the rest, and says where the rest begins. The swap has no
-// branch: what it moves from there to `place` belongs to the rest, or is the same transaction.
+// Moves the transactions that stand before a given one in front of the rest, and answers where the rest begins. Each
+// changes places with the first of the rest even if it does not go in front, since that is faster than a branch.
 fn part(txs: &mut [Tx], by: &Tx) -> usize
     ensures moves { IsPermutation txs.old txs.new }
     ensures within { result ≤ length txs.new }
@@ -89,8 +90,8 @@ fn part(txs: &mut [Tx], by: &Tx) -> usize
     end
 }
 
-// Sorts by up to so many threads. What stands before a transaction near the middle is moved in front of the rest, so
-// that the two sides are about equally long. Half of the threads then sort the front, and the other half the rest.
+// Sorts by up to so many threads. The list is parted at a transaction near the middle of its order, so that the front
+// and the rest are about equally long. Then half of the threads sort the front, and the other half the rest.
 fn sort_by_halves<R: Threads + Sync>(rt: &R, threads: usize, txs: &mut [Tx])
     ensures moves { IsPermutation txs.old txs.new }
     ensures sorted { IsSortedBy tx_before txs.new }
@@ -116,8 +117,8 @@ fn sort_by_halves<R: Threads + Sync>(rt: &R, threads: usize, txs: &mut [Tx])
     );
 }
 
-/// The same by up to four threads, and by none where the transactions come in the order of a body. It returns where
-/// the threads that it joins return.
+/// The same by up to four threads, which sort about equally many transactions, and by none where the transactions
+/// come in the order of a body. It returns where the threads that it joins return.
 pub fn par_sort_txs<R: Threads + Sync>(rt: &R, txs: &mut [Tx])
     ensures moves { IsPermutation txs.old txs.new }
     ensures sorted { IsSortedBy tx_before txs.new }
