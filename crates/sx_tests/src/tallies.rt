@@ -1,0 +1,83 @@
+//! What a tally tells where all amounts together do not fit 8 bytes.
+
+use std::alloc::Global;
+use sx_base::{AccountId, Amount, AssetId, Seq};
+use sx_body::{Overdraft, precheck};
+use sx_ledger::read_state;
+use sx_tx::{Kind, Tx};
+
+// Two assets, and five accounts that hold nothing.
+#[rattlefmt::skip]
+fn five_accounts() -> [u8; 210] {
+    [
+        1,
+        0, 0, 0, 0, 0, 0, 0, 0,
+        2,
+        0, 0, 0, 0, 1, 0, 0, 0,
+        0, 0, 0, 0, 1, 0, 0, 0,
+        0, 0, 0, 0, 0, 0, 0, 0,
+        0, 0, 0, 0, 0, 0, 0, 0,
+        0, 0, 0, 5,
+        0, 0, 0, 0, 0, 0, 0, 1, 0, 0, 0, 0, 0, 0, 0, 0, 0, 0, 0, 0, 0, 0, 0, 0, 0, 0, 0, 0, 0, 0, 0, 0,
+        0, 0, 0, 0, 0, 0, 0, 2, 0, 0, 0, 0, 0, 0, 0, 0, 0, 0, 0, 0, 0, 0, 0, 0, 0, 0, 0, 0, 0, 0, 0, 0,
+        0, 0, 0, 0, 0, 0, 0, 3, 0, 0, 0, 0, 0, 0, 0, 0, 0, 0, 0, 0, 0, 0, 0, 0, 0, 0, 0, 0, 0, 0, 0, 0,
+        0, 0, 0, 0, 0, 0, 0, 4, 0, 0, 0, 0, 0, 0, 0, 0, 0, 0, 0, 0, 0, 0, 0, 0, 0, 0, 0, 0, 0, 0, 0, 0,
+        0, 0, 0, 0, 0, 0, 0, 5, 0, 0, 0, 0, 0, 0, 0, 0, 0, 0, 0, 0, 0, 0, 0, 0, 0, 0, 0, 0, 0, 0, 0, 0,
+        0, 0, 0, 0,
+    ]
+}
+
+// Puts a payment of units of the first asset behind others.
+fn push_payment(txs: &mut Vec<Tx>, from: u64, seq: u64, to: u64, units: u64) -> Option<()> {
+    txs.push(Tx {
+        account: AccountId(from),
+        seq: Seq::new(seq).ok()?,
+        kind: Kind::Pay {
+            asset: AssetId::new(0).ok()?,
+            to: AccountId(to),
+            amount: Amount::new(units).ok()?,
+        },
+    })
+    .ok()
+}
+
+// First 256 payments of one unit: 64 by each of the accounts 1 to 4 to the next of them. Then six payments of 2^62
+// units by account 5 to account 1, whose sums have to keep what they were.
+fn payments(alloc: Global) -> Option<Vec<Tx>> {
+    let mut txs = Vec::new(alloc);
+    for seq in 1..65 {
+        for from in 1..5 {
+            push_payment(&mut txs, from, seq, from % 4 + 1, 1)?;
+        }
+    }
+    for seq in 1..7 {
+        push_payment(&mut txs, 5, seq, 1, 1 << 62)?;
+    }
+    Some(txs)
+}
+
+// The first overdraft of these payments by the rule of a version.
+fn overdraft(alloc: Global, version: u8) -> Option<Overdraft> {
+    let ledger = read_state(alloc, &five_accounts()).ok()?;
+    let txs = payments(alloc)?;
+    let tally = precheck(alloc, &ledger, &txs).ok()?;
+    tally.first_overdraft(&ledger, version)
+}
+
+// The overdraft of an account that holds nothing of the first asset.
+fn first_asset(account: u64, credits: u128, debits: u128) -> Option<Overdraft> {
+    Some(Overdraft {
+        account: AccountId(account),
+        asset: AssetId::new(0).ok()?,
+        opening: 0,
+        credits,
+        debits,
+    })
+}
+
+#[test]
+fn sums_are_exact_below_and_above_8_bytes(rt: HostRuntime) {
+    let great = 6 << 62;
+    assert_eq!(rt; overdraft(rt.alloc(), 1), first_asset(1, great + 64, 64));
+    assert_eq!(rt; overdraft(rt.alloc(), 2), first_asset(5, 0, great));
+}
