@@ -71,8 +71,8 @@ pub fn seal_list(candidates: TxList, outcomes: PackedOutcomes) -> Sealed
     }
 }
 
-/// The same, with the body sorted by several threads, up to two for each processor. It returns where the
-/// threads that it joins return.
+/// The same, with the body sorted by up to four threads. It returns where the threads that it joins
+/// return.
 pub fn par_seal_list<R: Threads + Sync>(
     rt: &R,
     candidates: TxList,
@@ -143,8 +143,8 @@ impl<'a> Gather<'a> {
         Ok(seal_list(candidates, outcomes))
     }
 
-    /// The same, with the body sorted by several threads, up to two for each processor. It returns where
-    /// the threads that it joins return.
+    /// The same, with the body sorted by up to four threads. It returns where the threads that it joins
+    /// return.
     pub fn par_seal<R: Threads + Sync>(self, rt: &R, pass: Pass) -> Result<Sealed, NoMemory>
         requires of { IsPassOf self pass }
         requires from { pass.from ≡ 0 }

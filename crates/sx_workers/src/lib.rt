@@ -20,9 +20,9 @@
 //! nobody, so a worker that stops keeps no other from going on. Each worker has its pass on its own stack
 //! meanwhile: passes that stand side by side in memory share cache lines. The calling thread is a worker too,
 //! so that for w workers w - 1 threads are started. Where there are several workers, the body is sorted by
-//! several threads too, up to two for each processor, unless it comes in order. Where no thread can be started
-//! for a part of this, it is done in a thread that is there: the answer is as good, and there is none that
-//! speaks of threads. All threads have ended when the call returns.
+//! up to four threads, unless it comes in order. Where no thread can be started for a part of this, it is done
+//! in a thread that is there: the answer is as good, and there is none that speaks of threads. All threads have
+//! ended when the call returns.
 //!
 //! A [`Gate`] is called before each candidate. No clause speaks of it, and [`NoGate`] does nothing.
 //!
