@@ -1,11 +1,13 @@
 //! Payloads of outcomes and of scripts, worked out by hand, and the first fault of each that is cut or changed.
 
+ghost use Rattle.std.specs.Prelude.{◌≡◌, IfOk};
+
 use std::alloc::Global;
 use std::test::Fail;
-use sx_bytes::{Form, FormFault, ReadError, Writer};
+use sx_bytes::{Form, FormFault, NoMemory, ReadError, Writer};
 use sx_layout::{
-    Outcome, outcome_laws, outcome_list_laws, read_outcomes, read_script, script_laws,
-    write_outcomes, write_script,
+    Outcome, OutcomeLog, Outcomes, outcome_laws, outcome_list_laws, read_outcomes, read_script,
+    script_laws, write_outcomes, write_packed, write_script,
 };
 use sx_ledger::Static;
 
@@ -44,6 +46,31 @@ fn each_outcome_has_its_encoding(rt: HostRuntime) -> Result<(), Fail> {
     let mut to = Writer::new(rt.alloc());
     write_outcomes(&mut to, &outcomes)?;
     assert_eq!(rt; to.bytes(), payload.as_slice());
+    Ok(())
+}
+
+// A log of these outcomes.
+fn log_of(alloc: Global, outcomes: &Outcomes) -> Result<OutcomeLog, NoMemory>
+    ensures { IfOk result (λ log. log.outcomes ≡ outcomes.now) }
+{
+    let items = outcomes.items();
+    let mut log = OutcomeLog::with_capacity(alloc, items.len())?;
+    for outcome in items {
+        log.push(*outcome);
+    }
+    Ok(log)
+}
+
+#[test]
+fn logged_outcomes_have_the_same_encoding(rt: HostRuntime) -> Result<(), Fail> {
+    let payload = outcomes_payload();
+    let outcomes = read_outcomes(rt.alloc(), payload.as_slice())?;
+    let packed = log_of(rt.alloc(), &outcomes)?.into_packed();
+    let mut to = Writer::new(rt.alloc());
+    write_packed(&mut to, &packed)?;
+    assert_eq!(rt; to.bytes(), payload.as_slice());
+    let list = packed.to_list(rt.alloc())?;
+    assert_eq!(rt; list.items(), outcomes.items());
     Ok(())
 }
 

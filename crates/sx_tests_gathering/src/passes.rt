@@ -78,7 +78,8 @@ fn gathers<R: Threads + Sync>(rt: &R, alloc: Global) -> Option<bool> {
     let ledger = read_state(alloc, &two_accounts()).ok()?;
     let debits = debits()?;
     let sealed = gather_two(rt, alloc, &ledger, &debits).ok()?;
-    let outcomes = sealed.outcomes.items();
+    let outcomes = sealed.outcomes.to_list(alloc).ok()?;
+    let outcomes = outcomes.items();
     Some(outcomes.len() == 2 && are_allowed(outcomes) && sealed.txs.items().len() == 1)
 }
 

@@ -153,7 +153,9 @@ fn gathers<R: Threads + Sync, G: Gate + Sync>(
     let list = TxList::of(candidates.to_vec(alloc).ok()?);
     let sealed = gather_all(rt, alloc, &ledger, candidates, SHARDS, workers, gate).ok()?;
     let other = gather_list(rt, alloc, &ledger, list, SHARDS, workers, gate).ok()?;
-    Some(are_allowed(sealed.outcomes.items()) && are_allowed(other.outcomes.items()))
+    let outcomes = sealed.outcomes.to_list(alloc).ok()?;
+    let others = other.outcomes.to_list(alloc).ok()?;
+    Some(are_allowed(outcomes.items()) && are_allowed(others.items()))
 }
 
 #[test]
