@@ -27,6 +27,16 @@
 //! of the ledger, so that one that names a wrong digest leaves the head as it was. The copy, and the bytes of which
 //! its digest is made, are written over those of the block before, and take no fresh memory where they are as long.
 //!
+//! To hash the ledger that a block leaves takes longer than to apply the block, and the next block cannot be valid
+//! before the digest is known. But a block names the digests of the ledgers before and after it, so that the next
+//! blocks are found by these names alone. [`Follower::par_advance_all`] applies them ahead, up to eight on one thread,
+//! each on the ledger that the one before it leaves. Meanwhile the ledgers of the eight before them are hashed, each
+//! by a thread of its own. Then digests and names are compared in order, and the blocks up to the first that differ
+//! are steps of the follower. It ends where [`Follower::advance_all`] does. A forged block costs time: what was
+//! applied on top of it is dropped, and the other blocks of its height are tried one by one. The state records of the
+//! ledgers ahead have about 8 MiB at most. Where two of them are longer than 4 MiB, nothing is applied ahead, and
+//! threads only share the work of a long block.
+//!
 //! Not here: no block is ever dropped, so a follower takes 1,000,000 at most. Of two valid blocks with one
 //! parent the one that came first counts, and nothing says which of them others take.
 #![tactic(auto)]

@@ -99,10 +99,10 @@ impl Follower {
         let mut next = made.next;
         self.spare.cut(&mut batch, made.right);
         self.take_all(batch);
-        if made.right < count {
-            self.spare.cut(&mut next, 0);
+        if made.right >= count {
             return Ok(next);
         }
+        self.spare.cut(&mut next, 0);
         Ok(next)
     }
 
@@ -143,12 +143,14 @@ impl Follower {
         self.par_advance(rt, workers)
     }
 
-    /// The same as [`Follower::advance_all`], by several threads. Blocks that follow one another by the digests that they
-    /// name are applied by one thread, at most eight ahead, while others hash the ledgers that they leave. A block counts
-    /// as applied once the ledgers before and after it have the digests that it names. Where one has not, those that
-    /// were applied on top of it are dropped. A block of many transactions that is not applied ahead is judged and
-    /// applied by so many workers. With one worker no thread is started, and where none can be started, one thread does
-    /// all in turn. Where memory runs out, those stay applied that were by then.
+    /// The same as [`Follower::advance_all`], by several threads. Blocks that follow one another by the digests that
+    /// they name are applied by one thread, at most eight at a time, while others hash the ledgers that earlier ones
+    /// left. A block counts as applied once the ledgers before and after it have the digests that it names. Where one
+    /// has not, what was applied on top of it is dropped.
+    ///
+    /// A block of many transactions that is not applied ahead is judged and applied by so many workers. With one
+    /// worker no thread is started, and where none can be started, one thread does all in turn. Where memory runs out,
+    /// those stay applied that were by then.
     pub fn par_advance_all<R: Threads + Sync>(
         &mut self,
         rt: &R,
