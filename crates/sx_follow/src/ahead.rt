@@ -28,15 +28,24 @@ const MOST_BLOCKS: u32 = 8;
 // How many bytes the state records of these ledgers have about, at most.
 const MOST_BYTES: u32 = 1 << 22;
 
+// From how many bytes on a state record is worth a thread of its own. Hashing takes some 50 microseconds there, and to
+// start a thread about as long.
+const LEAST_BYTES: u32 = 1 << 14;
+
 // How many bytes a record has before its payload.
 const FRAME_BYTES: u32 = 5;
 
-// How many blocks are applied ahead of a ledger: none where its copies would take much memory.
+// How many blocks are applied ahead of a ledger: none where hashing it is not worth a thread, and none where copies of
+// it would take much memory.
 fn most_ahead(ledger: &Ledger) -> u32
     ensures { result ≤ 8 }
 {
-    let most = MOST_BYTES / (FRAME_BYTES + ledger.state_length());
-    if most < 2 { 0 } else { most.min(MOST_BLOCKS) }
+    let length = FRAME_BYTES + ledger.state_length();
+    let most = MOST_BYTES / length;
+    if length < LEAST_BYTES || most < 2 {
+        return 0;
+    }
+    most.min(MOST_BLOCKS)
 }
 
 // The ledger that a block leaves, whatever digests it names, where it can be applied.

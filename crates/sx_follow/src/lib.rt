@@ -33,9 +33,11 @@
 //! each on the ledger that the one before it leaves. Meanwhile the ledgers of the eight before them are hashed, each
 //! by a thread of its own. Then digests and names are compared in order, and the blocks up to the first that differ
 //! are steps of the follower. It ends where [`Follower::advance_all`] does. A forged block costs time: what was
-//! applied on top of it is dropped, and the other blocks of its height are tried one by one. The state records of the
-//! ledgers ahead have about 8 MiB at most. Where two of them are longer than 4 MiB, nothing is applied ahead, and
-//! threads only share the work of a long block.
+//! applied on top of it is dropped, and the other blocks of its height are tried one by one.
+//!
+//! The state records of the ledgers ahead have about 8 MiB at most. Where two of them are longer than 4 MiB, or one is
+//! shorter than 16 KiB, nothing is applied ahead, and threads only share the work of a block of 8,192 transactions or
+//! more.
 //!
 //! Not here: no block is ever dropped, so a follower takes 1,000,000 at most. Of two valid blocks with one
 //! parent the one that came first counts, and nothing says which of them others take.
