@@ -1,4 +1,3 @@
-pub mod Results
 pub mod Chains
 pub mod Existence
 pub mod Places
@@ -9,4 +8,5 @@ pub mod Chosen
 pub mod Steps
 pub mod Followers
 pub mod AheadSteps
+mod RightOnes
 mod Cases

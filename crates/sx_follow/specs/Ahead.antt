@@ -1,12 +1,10 @@
 -- Blocks that are applied ahead of the digests: each on the ledger that the one before it leaves, before it is known
 -- whether these ledgers have the digests that the blocks name.
 use Rattle.std.specs.Prelude.{◌≡◌, ◌≢◌, ℕ, ◌+◌, ◌<◌, List, [], ◌∷◌, length, slice_index_or}
-use Rattle.sha2.specs.Sha256.{sha256}
 use Rattle.sx_block.specs.declared.header.Block.{Block}
 use Rattle.sx_block.specs.Validity.{IsApplicable, digest_of_ledger, ledger_after}
 use Rattle.sx_follow.specs.declared.leaving.Leaving.{Leaving}
 use Rattle.sx_ledger.specs.declared.parts.Parts.{Parts}
-use Rattle.sx_tx.specs.Transactions.{list_bytes}
 
 -- ---- by the digests that blocks name
 
@@ -25,12 +23,6 @@ abbrev pub AreChosen : ℕ → List ℕ → List Block → List ℕ → Type 0
 AreChosen height named blocks [] = Unit {0}
 AreChosen height named blocks (place ∷ places) =
     (chosen : IsChosen height named blocks place) × AreChosen (height + 1) chosen.block.header.after blocks places
-
--- a digest for each place: that of the transactions of the block there
-pub record AreBodies (blocks : List Block) (places : List ℕ) (bodies : List (List ℕ)) : Type 0 where
-  pub one_each : length bodies ≡ length places
-  pub each : (i : ℕ) (body : List ℕ) (block : Block) → i < length places
-      → slice_index_or bodies i body ≡ sha256 (list_bytes (slice_index_or blocks (slice_index_or places i 0) block).txs)
 
 -- ---- applied
 

@@ -2,22 +2,19 @@
 
 ghost use Rattle.std.specs.Prelude.{◌≡◌, ℕ, ◌+◌, ◌<◌, ◌≤◌, length, IfErr, IfOk, IfSome};
 ghost use Rattle.std.specs.List.{All};
-ghost use Rattle.sha2.specs.Sha256.{sha256};
 ghost use Rattle.sx_block.specs.Block.{IsBlock};
 ghost use Rattle.sx_block.specs.Validity.{IsApplicable, ledger_after};
-ghost use Rattle.sx_follow.specs.Ahead.{AreAhead, AreBodies, AreChosen, last_digest, last_ledger};
+ghost use Rattle.sx_follow.specs.Ahead.{AreAhead, AreChosen, last_digest, last_ledger};
 ghost use Rattle.sx_follow.specs.Waiting.{AreWaiting};
-ghost use Rattle.sx_tx.specs.Transactions.{list_bytes};
 
 use crate::choosing::choose;
-use crate::hashing::bodies_of;
 use crate::leaving::Leaving;
 use crate::spare::Spare;
 use crate::waiting::Waiting;
 use std::alloc::Global;
 use std::thread::Threads;
 use sx_apply::apply;
-use sx_block::{Block, Digest};
+use sx_block::{Block, Digest, body_digest};
 use sx_bytes::NoMemory;
 use sx_check::{CheckFault, judge_applicable, survey_of};
 use sx_ledger::Ledger;
@@ -54,16 +51,16 @@ fn on_top<R: Threads + Sync>(
     alloc: Global,
     ledger: &Ledger,
     block: &Block,
-    body: &Digest,
     spare: &mut Spare,
 ) -> Result<Option<Ledger>, NoMemory>
     requires form { IsBlock block.now }
-    requires body { body.now ≡ sha256 (list_bytes block.now.txs) }
     ensures applicable { IfOk result (λ found. IfSome found (λ _. IsApplicable ledger.now block.now)) }
     ensures after { IfOk result (λ found. IfSome found (λ after. after ≡ ledger_after ledger.now block.now)) }
 {
-    let found = survey_of(alloc, ledger, block.txs.items());
-    match judge_applicable(rt, alloc, ledger, block, body, found, 1) {
+    let txs = block.txs.items();
+    let body = body_digest(alloc, txs)?;
+    let found = survey_of(alloc, ledger, txs);
+    match judge_applicable(rt, alloc, ledger, block, &body, found, 1) {
         Ok(judged) => {
             let copy = spare.copy(alloc, ledger)?;
             Ok(Some(apply(alloc, copy, block, judged.effects)?))
@@ -91,19 +88,17 @@ fn apply_chosen<R: Threads + Sync>(
     digest: &Digest,
     blocks: &[Block],
     places: &[u32],
-    bodies: &[Digest],
     spare: &mut Spare,
 ) -> Result<Vec<Leaving>, NoMemory>
     requires form { All IsBlock blocks.now }
     requires chosen { AreChosen (ledger.now.height + 1) digest.now blocks.now places.now }
-    requires bodies { AreBodies blocks.now places.now bodies.now }
     ensures { IfOk result (λ batch. AreAhead ledger.now digest.now blocks.now batch.items) }
 {
     let mut batch: Vec<Leaving> = Vec::new(alloc);
     for index in 0..places.len() {
         let block = &blocks[places[index] as usize];
         let last = last_of(ledger, &batch);
-        let Some(after) = on_top(rt, alloc, last, block, &bodies[index], spare)? else {
+        let Some(after) = on_top(rt, alloc, last, block, spare)? else {
             break;
         };
         batch.push(Leaving {
@@ -134,6 +129,5 @@ pub(crate) fn ahead<R: Threads + Sync>(
     if places.len() < 2 {
         return Ok(Vec::new(alloc));
     }
-    let bodies = bodies_of(rt, alloc, blocks, &places)?;
-    apply_chosen(rt, alloc, ledger, digest, blocks, &places, &bodies, spare)
+    apply_chosen(rt, alloc, ledger, digest, blocks, &places, spare)
 }

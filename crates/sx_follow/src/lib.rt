@@ -30,9 +30,9 @@
 //! To hash the ledger that a block leaves takes longer than to apply the block, and the next block cannot be valid
 //! before the digest is known. But a block names the digests of the ledgers before and after it, so that the next
 //! blocks are found by these names alone. [`Follower::par_advance_all`] applies them ahead, up to eight on one thread,
-//! each on the ledger that the one before it leaves. Meanwhile the ledgers of the eight before them are hashed, each
-//! by a thread of its own. Then digests and names are compared in order, and the blocks up to the first that differ
-//! are steps of the follower. It ends where [`Follower::advance_all`] does. A forged block costs time: what was
+//! each on the ledger that the one before it leaves. Meanwhile the other threads hash the ledgers of the eight before
+//! them. Then digests and names are compared in order, and the blocks up to the first that differ are steps of the
+//! follower. It ends where [`Follower::advance_all`] does. A forged block costs time: what was
 //! applied on top of it is dropped, and the other blocks of its height are tried one by one.
 //!
 //! The state records of the ledgers ahead have about 8 MiB at most. Where two of them are longer than 4 MiB, or one is

@@ -6,7 +6,7 @@
 //!                                             compare                          compare
 //! ```
 
-ghost use Rattle.std.specs.Prelude.{◌≡◌, ℕ, List, IfOk, take};
+ghost use Rattle.std.specs.Prelude.{◌≡◌, ◌≤◌, ℕ, List, IfOk, take};
 ghost use Rattle.std.specs.List.{All};
 ghost use Rattle.std.specs.Thread.{IsSync};
 ghost use Rattle.sx_block.specs.Block.{IsBlock};
@@ -59,7 +59,7 @@ fn on_last<R: Threads + Sync>(
     }
 }
 
-// Hashes the ledgers of a batch, each by a thread of its own, while one thread applies the batch on top.
+// Has so many threads hash the ledgers of a batch, while one more applies the batch on top.
 pub(crate) fn hash_and_apply<R: Threads + Sync>(
     rt: &R,
     alloc: Global,
@@ -67,7 +67,9 @@ pub(crate) fn hash_and_apply<R: Threads + Sync>(
     blocks: &[Block],
     waiting: &Waiting,
     spare: &mut Spare,
+    threads: usize,
 ) -> Result<Hashed, NoMemory>
+    requires some { 1 ≤ threads }
     requires form { All IsBlock blocks.now }
     requires waiting { AreWaiting blocks.now waiting.now }
     ensures right { IfOk result (λ hashed. All IsRight (take hashed.right batch.now)) }
@@ -77,9 +79,9 @@ pub(crate) fn hash_and_apply<R: Threads + Sync>(
     let (right, next) = join(
         rt,
         || -> Result<usize, NoMemory>
-            requires { IsSync R.row }
+            requires { IsSync R.row × (1 ≤ threads) }
             ensures { IfOk result (λ right. All IsRight (take right batch.entry.now)) }
-        { right_of(rt, alloc, batch) },
+        { right_of(rt, alloc, batch, threads) },
         || -> Result<Vec<Leaving>, NoMemory>
             requires { IsSync R.row × All IsBlock blocks.now × AreWaiting blocks.now waiting.now }
             ensures { IfOk result (λ next. (parts : Parts) (named : List ℕ)

@@ -154,8 +154,8 @@ fn conclude<K: Sink>(sink: &mut K, found: Result<Output, Stop>) -> Status
 /// `steps` counts the searches of circulations, which these two alone make.
 ///
 /// `seal`, `filter`, `prove` and `demo` return where their worker threads return, and `show` where those do, at most
-/// four, that write the lines of many accounts, offers or transactions. `follow` has threads make the digests of at most
-/// eight blocks and of as many ledgers at once, and returns where these return. At most four threads share the reading
+/// four, that write the lines of many accounts, offers or transactions. `follow` has at most four threads apply
+/// blocks and make the digests of ledgers, and returns where these return. At most four threads share the reading
 /// of a state with many offers and of many candidates, and a call returns where these return. For `check`, `replay` and
 /// `seal` a thread makes the digest of a state whose payload has 1 MiB or more while what follows is read, and the call waits for
 /// it where it needs the digest; a call that stops before leaves the thread to end by itself. A block whose transactions

@@ -74,7 +74,9 @@ impl Follower {
         &mut self,
         rt: &R,
         batch: Vec<Leaving>,
+        threads: usize,
     ) -> Result<Vec<Leaving>, NoMemory>
+        requires threads { 1 ≤ threads }
         requires ahead { AreAhead self.old.head (digest_of_ledger self.old.head) self.old.blocks batch.items }
         requires some { 1 ≤ length batch.items }
         ensures opening { self.new.opening ≡ self.old.opening }
@@ -93,6 +95,7 @@ impl Follower {
             &self.blocks,
             &self.waiting,
             &mut self.spare,
+            threads,
         )?;
         let count = batch.len();
         let mut batch = batch;
@@ -106,8 +109,9 @@ impl Follower {
         Ok(next)
     }
 
-    // Takes blocks that are applied ahead, batch by batch.
-    fn run_ahead<R: Threads + Sync>(&mut self, rt: &R) -> Result<(), NoMemory>
+    // Takes blocks that are applied ahead, batch by batch, while so many threads hash ledgers.
+    fn run_ahead<R: Threads + Sync>(&mut self, rt: &R, threads: usize) -> Result<(), NoMemory>
+        requires { 1 ≤ threads }
         ensures opening { self.new.opening ≡ self.old.opening }
         ensures blocks { self.new.blocks ≡ self.old.blocks }
         ensures steps { self.old.steps ≤ self.new.steps }
@@ -124,7 +128,7 @@ impl Follower {
             &mut self.spare,
         )?;
         while !batch.is_empty() {
-            batch = self.next_batch(rt, batch)?;
+            batch = self.next_batch(rt, batch, threads)?;
         }
         Ok(())
     }
@@ -139,7 +143,7 @@ impl Follower {
         ensures stays { result ≡ Ok false → NoneIsValid self.new.head self.new.blocks }
         ensures follows { IsFollower self.new }
     {
-        self.run_ahead(rt)?;
+        self.run_ahead(rt, (workers as usize - 1).max(1))?;
         self.par_advance(rt, workers)
     }
 
