@@ -10,8 +10,11 @@
 //!     state, candidates -> gathered -> body, outcomes -> cleared -> block
 //! ```
 //!
-//! [`filter`] reads what a seal does, and answers the record of those candidates that no other one stands in the way of,
-//! in [`Pieces`].
+//! [`filter`] reads what a seal does, and answers the record of those candidates that no other one stands in the way of.
+//!
+//! Both answer [`Pieces`], which are put one after the other. So what is longest is written where it stays: the
+//! transactions of a block over the bytes of the candidates, once these are decoded, and those that a filter keeps by a
+//! thread for each part.
 //!
 //! [`Numbers`] says by how many workers, on how many shards, at which margin, and by how many searches for prices of
 //! how many rounds. What may be answered is defined in `sx_meaning`, and has no word for workers and shards.
