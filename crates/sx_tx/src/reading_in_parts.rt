@@ -1,9 +1,11 @@
 //! Decoding a long list of transactions by several threads.
 //!
-//! One thread steps over the front half of the transactions, by the bytes of their kinds alone, to where the back
-//! half seems to begin. Then half of the threads decode each half, in the same way, into its part of one vector. Where
-//! the front half is decoded whole and ends there, both halves side by side are what the payload says. Where anything
-//! is amiss, one thread decodes the payload from its first byte, and so finds the first fault.
+//! Half of the threads decode the front half of the transactions and half of them the back half, each half in the same
+//! way, into its part of one vector. Where the back half seems to begin is a guess. If the bytes are as many as they
+//! would be if all transactions were as long as the first, the guess is that they are. Otherwise one thread steps over
+//! the front half, by the bytes of the kinds alone. Where the front half is decoded whole and ends at that place, both
+//! halves side by side are what the payload says. Where anything is amiss, one thread decodes the payload from its
+//! first byte, and so finds the first fault.
 
 ghost use Rattle.std.specs.Prelude.{◌≡◌, ◌*◌, ◌≤◌, List, length, IfOk, Ok};
 ghost use Rattle.std.specs.Thread.{IsSync};
@@ -29,8 +31,20 @@ fn fault_at(place: usize, fault: Form) -> FormFault {
     FormFault { at, fault }
 }
 
-// Where so many transactions from a place on seem to end. No field but the byte of each one's kind is looked at.
-fn end_of(payload: &[u8], place: usize, count: usize) -> Result<usize, Short> {
+// The length of each of so many transactions in so many bytes, where all seem to be as long as the first.
+fn length_of_each(bytes: usize, count: usize, first: usize) -> Option<usize> {
+    match count.saturating_mul(first) == bytes {
+        true => Some(first),
+        false => None,
+    }
+}
+
+// Where so many transactions from a place on seem to end, each of which seems to have this length, if one is given.
+// Otherwise the byte of each one's kind is looked at, and no other field.
+fn end_of(payload: &[u8], place: usize, count: usize, each: Option<usize>) -> Result<usize, Short> {
+    if let Some(length) = each {
+        return Ok(place.saturating_add(count.saturating_mul(length)));
+    }
     let mut from = Reader::at(payload, place)?;
     for _ in 0..count {
         let head = from.raw(17)?;
@@ -63,6 +77,7 @@ fn fill_by<R: Threads + Sync>(
     payload: &[u8],
     place: usize,
     threads: usize,
+    each: Option<usize>,
     txs: &mut [Tx],
 ) -> Result<usize, FormFault>
     requires some { 1 ≤ threads }
@@ -73,18 +88,18 @@ fn fill_by<R: Threads + Sync>(
     }
     let few = threads / 2;
     let half = txs.len() / 2;
-    let middle = end_of(payload, place, half)?;
+    let middle = end_of(payload, place, half, each)?;
     let (front, back) = txs.split_at_mut(half);
     let (one, other) = join_mut(
         rt,
         &mut || -> Result<usize, FormFault>
             requires { IsSync R.row × (1 ≤ few) }
             ensures { IfOk result (λ end. AreDecoded payload.entry.now place (length front.entry.now) front.exit.now end) }
-        { fill_by(rt, payload, place, few, front) },
+        { fill_by(rt, payload, place, few, each, front) },
         &mut || -> Result<usize, FormFault>
             requires { IsSync R.row × (1 ≤ few) × (few * 2 ≤ threads) }
             ensures { IfOk result (λ end. AreDecoded payload.entry.now middle (length back.entry.now) back.exit.now end) }
-        { fill_by(rt, payload, middle, threads - few, back) },
+        { fill_by(rt, payload, middle, threads - few, each, back) },
     );
     if one? != middle {
         return Err(fault_at(middle, Form::Short));
@@ -112,8 +127,9 @@ fn listed<R: Threads + Sync>(
     }
     // A slot has some transaction before its own is decoded: the first one serves.
     let first = tx(&mut from)?;
+    let each = length_of_each(payload.len() - begin, count as usize, from.place() - begin);
     let mut txs = vec![in alloc; first; count as usize]?;
-    let end = fill_by(rt, payload, begin, threads, &mut txs)?;
+    let end = fill_by(rt, payload, begin, threads, each, &mut txs)?;
     Ok((TxList::of(txs), end))
 }
 
