@@ -3,6 +3,7 @@ pub mod ScriptFaults
 pub mod OutcomeLaws
 pub mod OutcomeListLaws
 pub mod PackedLaws
+pub mod PackedSteps
 pub mod Counts
 pub mod Turns
 pub mod ScriptLaws

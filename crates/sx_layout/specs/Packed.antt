@@ -1,10 +1,11 @@
 -- Outcomes in a byte each: their kinds, and beside them the figures of those that are overdrafts.
-use Rattle.std.specs.Prelude.{◌≡◌, ℕ, ◌==◌, List, [], ◌∷◌, length, nat_le, if◌then◌else◌}
+use Rattle.std.specs.Prelude.{◌≡◌, ℕ, ◌+◌, ◌==◌, List, [], ◌∷◌, ◌++◌, length, nat_le, if◌then◌else◌, slice_index_or}
 use Rattle.std.specs.List.{count_by}
 use Rattle.sx_layout.specs.declared.kinds.Shortage.{Shortage}
 use Rattle.sx_layout.specs.declared.outcome.Outcome.{Outcome}
 use Rattle.sx_layout.specs.declared.outcome.Outcome.TheVariants as outcome
 use Rattle.sx_layout.specs.OutcomeDecoding.{static_numbered}
+use Rattle.sx_layout.specs.Outcomes.{outcome_bytes}
 use Rattle.sx_ledger.specs.Static.{number_of_static}
 
 -- the kind of an outcome: what it is, without the figures of an overdraft
@@ -33,6 +34,9 @@ plain_outcome kind =
     (if kind == 11 then outcome.SeqTaken else
     (if kind == 12 then outcome.OfferTaken else outcome.NameTaken)))
 
+abbrev pub overdraft_of : Shortage → Outcome
+overdraft_of figures = outcome.Overdraft figures.seen figures.need
+
 -- the outcomes of these kinds, where each overdraft has the next figures
 abbrev pub outcomes_of : List ℕ → List Shortage → List Outcome
 outcomes_of [] figures = []
@@ -48,6 +52,17 @@ overdrafts_among kinds = count_by (λ kind. kind == 14) kinds
 -- there are figures for each overdraft, and no others
 abbrev pub HaveFigures : List ℕ → List Shortage → Type 0
 HaveFigures kinds figures = overdrafts_among kinds ≡ length figures
+
+-- the outcome of a kind, where an overdraft has the figures at this place
+abbrev pub outcome_at : ℕ → List Shortage → ℕ → Outcome
+outcome_at kind figures next =
+    if kind == 14 then overdraft_of (slice_index_or figures next (record { seen = 0; need = 0 })) else plain_outcome kind
+
+-- The encoding of a kind's outcome was appended to these bytes. An overdraft has the figures at this place, and those
+-- at the later place are the next ones.
+pub record IsPut (old new : List ℕ) (kind : ℕ) (figures : List Shortage) (next later : ℕ) : Type 0 where
+  pub written : new ≡ old ++ outcome_bytes (outcome_at kind figures next)
+  pub passed : later ≡ (if kind == 14 then next + 1 else next)
 
 -- what contracts see of a log: its outcomes, and for how many more there is memory
 pub record Logged : Type 0 where

@@ -1,14 +1,27 @@
 //! Encoding outcomes from where they stand in little memory. Where memory runs out, what was written is taken back.
 
-ghost use Rattle.std.specs.Prelude.{◌≡◌, ◌≢◌, ◌≤◌, ◌++◌, length, OnOk, OnErr};
+ghost use Rattle.std.specs.Prelude.{◌≡◌, ℕ, ◌<◌, ◌≤◌, ◌++◌, length, slice_index_or, IfErr, IfOk, OnOk, OnErr};
 ghost use Rattle.sx_bytes.specs.Written.{Begins};
 ghost use Rattle.sx_layout.specs.Outcomes.{outcome_bytes, outcomes_bytes, most_outcomes, AreOutcomes};
-ghost use Rattle.sx_layout.specs.Packed.{HaveFigures, outcomes_of, plain_outcome};
+ghost use Rattle.sx_layout.specs.Packed.{HaveFigures, IsPut, outcomes_of, plain_outcome};
 
 use crate::kinds::{ACCEPTED, OVERDRAFT, Shortage, plain};
 use crate::outcome_writing::{put_outcome, put_overdraft};
 use crate::packed_outcomes::PackedOutcomes;
 use sx_bytes::{NoMemory, Writer};
+
+// How many of these kinds, from the first on, are those of accepted candidates.
+fn accepted_run(kinds: &[u8]) -> usize
+    ensures within { result ≤ length kinds.now }
+    ensures accepted { (k : ℕ) → k < result → slice_index_or kinds.now k 0 ≡ 0 }
+{
+    for place in 0..kinds.len() {
+        if kinds[place] != ACCEPTED {
+            return place;
+        }
+    }
+    kinds.len()
+}
 
 // Appends the outcome of a kind that is not an overdraft's.
 #[inline]
@@ -17,13 +30,32 @@ fn put_plain(to: &mut Writer, kind: u8) -> Result<(), NoMemory>
     ensures ok { OnOk result (to.new ≡ to.old ++ outcome_bytes (plain_outcome kind)) }
     ensures err { OnErr result (Begins to.old to.new) }
 {
-    if kind == ACCEPTED {
-        to.put_u8(0)
-    } else {
-        put_outcome(to, &plain(kind))
-    }
+    put_outcome(to, &plain(kind))
 }
 
+// Appends the outcome of a kind, and answers which figures are the next then. An overdraft has these.
+#[inline]
+#[tactic(auto, using(sx_bytes::proofs::Written::begins))]
+fn put_kind(
+    to: &mut Writer,
+    kind: u8,
+    overdrafts: &[Shortage],
+    next: usize,
+) -> Result<usize, NoMemory>
+    requires figures { kind ≡ 14 → next < length overdrafts.now }
+    ensures ok { IfOk result (λ later. IsPut to.old to.new kind overdrafts.now next later) }
+    ensures err { IfErr result (λ _. Begins to.old to.new) }
+{
+    if kind == OVERDRAFT {
+        let Shortage { seen, need } = overdrafts[next];
+        put_overdraft(to, seen, need)?;
+        return Ok(next + 1);
+    }
+    put_plain(to, kind)?;
+    Ok(next)
+}
+
+// The encoding of an accepted outcome is its kind, so that a run of them is appended at once.
 #[tactic(auto, using(sx_bytes::proofs::Written::begins, sx_bytes::proofs::Written::begins_then))]
 fn put_kinds(to: &mut Writer, kinds: &[u8], overdrafts: &[Shortage]) -> Result<(), NoMemory>
     requires count { length kinds.now ≤ most_outcomes }
@@ -32,14 +64,15 @@ fn put_kinds(to: &mut Writer, kinds: &[u8], overdrafts: &[Shortage]) -> Result<(
     ensures err { OnErr result (Begins to.old to.new) }
 {
     to.put_u32(kinds.len() as u32)?;
+    let mut place = 0;
     let mut next = 0;
-    for kind in kinds {
-        if *kind == OVERDRAFT {
-            let Shortage { seen, need } = overdrafts[next];
-            put_overdraft(to, seen, need)?;
-            next += 1;
-        } else {
-            put_plain(to, *kind)?;
+    while place < kinds.len() {
+        let run = accepted_run(&kinds[place..]);
+        to.raw(&kinds[place..place + run])?;
+        place += run;
+        if place < kinds.len() {
+            next = put_kind(to, kinds[place], overdrafts, next)?;
+            place += 1;
         }
     }
     Ok(())

@@ -1,8 +1,8 @@
 //! Whether a ledger has room for all that candidates ask for.
 
-ghost use Rattle.std.specs.Prelude.{◌≡◌, ◌+◌, ◌≤◌, ◌<◌, ◌^◌, length, is_some, nat_lt, Ok, Err, if◌then◌else◌};
+ghost use Rattle.std.specs.Prelude.{◌≡◌, ◌+◌, ◌≤◌, ◌<◌, ◌^◌, length, nat_lt, Ok, Err, if◌then◌else◌};
 ghost use Rattle.sx_layout.specs.Room.{room_for};
-ghost use Rattle.sx_ledger.specs.Body.{created, created_by, made, made_by};
+ghost use Rattle.sx_ledger.specs.Body.{created, made};
 ghost use Rattle.sx_tx.specs.Transactions.{most_transactions};
 
 use sx_ledger::Ledger;
@@ -21,34 +21,25 @@ pub enum NoRoom {
     Crowded { have: u32, more: u32, limit: u32 },
 }
 
-fn creates_account(tx: &Tx) -> bool
-    ensures { result ≡ is_some (created_by tx.now.kind) }
-{
-    matches!(tx.kind, Kind::Create { .. })
-}
-
-fn makes_offer(tx: &Tx) -> bool
-    ensures { result ≡ is_some (made_by tx.now tx.now.kind) }
-{
-    matches!(tx.kind, Kind::Offer { .. })
-}
-
-// How many candidates create an account.
-fn creations(candidates: &[Tx]) -> u32
+// How many candidates create an account, and how many make an offer.
+fn asked(candidates: &[Tx]) -> (u32, u32)
     requires { length candidates.now ≤ most_transactions }
-    ensures number { result ≡ length (created candidates.now) }
-    ensures few { result ≤ most_transactions }
+    ensures creations { result.0 ≡ length (created candidates.now) }
+    ensures offers { result.1 ≡ length (made candidates.now) }
+    ensures few_creations { result.0 ≤ most_transactions }
+    ensures few_offers { result.1 ≤ most_transactions }
 {
-    candidates.iter().filter(|tx| creates_account(tx)).count() as u32
-}
-
-// How many candidates make an offer.
-fn new_offers(candidates: &[Tx]) -> u32
-    requires { length candidates.now ≤ most_transactions }
-    ensures number { result ≡ length (made candidates.now) }
-    ensures few { result ≤ most_transactions }
-{
-    candidates.iter().filter(|tx| makes_offer(tx)).count() as u32
+    let mut creations = 0;
+    let mut offers = 0;
+    for tx in candidates {
+        match tx.kind {
+            Kind::Create { .. } => creations += 1,
+            Kind::Offer { .. } => offers += 1,
+            Kind::Pay { .. } => {}
+            Kind::Cancel { .. } => {}
+        }
+    }
+    (creations, offers)
 }
 
 // Whether there may be `more` of what there are `have` of.
@@ -74,8 +65,7 @@ pub fn room(ledger: &Ledger, candidates: &[Tx]) -> Result<(), NoRoom>
     if ledger.height() == Ledger::MOST_HEIGHT {
         return Err(NoRoom::Ended);
     }
-    let creations = creations(candidates);
+    let (creations, offers) = asked(candidates);
     check_space(ledger.accounts(), creations, Ledger::MOST_ACCOUNTS)?;
-    let offers = new_offers(candidates);
     check_space(ledger.offers(), offers, Ledger::MOST_OFFERS)
 }
