@@ -8,5 +8,7 @@ pub mod Chosen
 pub mod Steps
 pub mod Followers
 pub mod AheadSteps
+pub mod Taking
+pub mod BodyDigests
 mod RightOnes
 mod Cases

@@ -1,36 +1,36 @@
--- Of a batch, ledgers that have the digests that are named, up to a place.
+-- Of a batch, states that have the digests that are named, up to a place.
 use Rattle.std.proofs.Common.{◌≡◌, ℕ, ◌+◌, ◌-◌, ◌<◌, ◌≤◌, List, ◌++◌, length, take, get_or, refl, sym, subst, inl, inr, arith}
 use Rattle.std.specs.List.{All}
 use Rattle.std.proofs.lemmas.Bool.{cases_eq, cases_lt}
-use Rattle.std.proofs.lemmas.List.{get_or-append_right, get_or-take, get_or_append_left, length-take}
+use Rattle.std.proofs.lemmas.List.{get_or-append_right, get_or-take, get_or_append_left, length-take, take_all}
 use Rattle.sx_follow.specs.Ahead.{IsRight}
-use Rattle.sx_follow.specs.declared.leaving.Leaving.{Leaving}
+use Rattle.sx_follow.specs.declared.batch.Claim.{Claim}
 
 -- so many of the first
-abbrev pub AreRight : ℕ → List Leaving → Type 0
-AreRight count batch = (k : ℕ) (d : Leaving) → k < count → IsRight (get_or batch k d)
+abbrev pub AreRight : ℕ → List Claim → Type 0
+AreRight count claims = (k : ℕ) (d : Claim) → k < count → IsRight (get_or claims k d)
 
-pub taken : (count : ℕ) (batch : List Leaving) → AreRight count batch → All IsRight (take count batch)
-taken count batch each = λ k d lt.
-    let size = length-take count batch in
-    subst IsRight (sym (get_or-take count batch k d (omega (arith, lt, size)))) (each k d (omega (arith, lt, size)))
+pub taken : (count : ℕ) (claims : List Claim) → AreRight count claims → All IsRight (take count claims)
+taken count claims each = λ k d lt.
+    let size = length-take count claims in
+    subst IsRight (sym (get_or-take count claims k d (omega (arith, lt, size)))) (each k d (omega (arith, lt, size)))
 
-pub untaken : (count : ℕ) (batch : List Leaving) → count ≤ length batch → All IsRight (take count batch)
-    → AreRight count batch
-untaken count batch few all k d lt =
-    let size = length-take count batch in
-    subst IsRight (get_or-take count batch k d lt) (all k d (omega (arith, few, lt, size)))
+pub untaken : (count : ℕ) (claims : List Claim) → count ≤ length claims → All IsRight (take count claims)
+    → AreRight count claims
+untaken count claims few all k d lt =
+    let size = length-take count claims in
+    subst IsRight (get_or-take count claims k d lt) (all k d (omega (arith, few, lt, size)))
 
 -- one more
-pub one_more : (count : ℕ) (batch : List Leaving) → count < length batch → All IsRight (take count batch)
-    → ((d : Leaving) → IsRight (get_or batch count d)) → All IsRight (take (count + 1) batch)
-one_more count batch lt all is = taken (count + 1) batch (λ k d less. elim (cases_eq k count) [
-  | inl e ↦ subst (λ (n : ℕ). IsRight (get_or batch n d)) (sym e) (is d)
-  | inr other ↦ untaken count batch (omega arith) all k d (omega arith)
+pub one_more : (count : ℕ) (claims : List Claim) → count < length claims → All IsRight (take count claims)
+    → ((d : Claim) → IsRight (get_or claims count d)) → All IsRight (take (count + 1) claims)
+one_more count claims lt all is = taken (count + 1) claims (λ k d less. elim (cases_eq k count) [
+  | inl e ↦ subst (λ (n : ℕ). IsRight (get_or claims n d)) (sym e) (is d)
+  | inr other ↦ untaken count claims (omega arith) all k d (omega arith)
 ])
 
 -- all of one list, and the first of another one behind it
-pub both : (front back : List Leaving) (one other : ℕ) → one ≡ length front → other ≤ length back
+pub both : (front back : List Claim) (one other : ℕ) → one ≡ length front → other ≤ length back
     → All IsRight (take one front) → All IsRight (take other back)
     → All IsRight (take (length front + other) (front ++ back))
 both front back one other whole few first second = taken (length front + other) (front ++ back) (λ k d lt.
@@ -42,3 +42,8 @@ both front back one other whole few first second = taken (length front + other) 
           subst IsRight (sym (get_or-append_right front back (length front) k d refl (omega arith)))
           (untaken other back few second (k - length front) d (omega arith))
     ])
+
+-- all of them
+pub all_right : (count : ℕ) (claims : List Claim) → length claims ≤ count → All IsRight (take count claims)
+    → All IsRight claims
+all_right count claims most all = subst (All IsRight) (take_all count claims most) all

@@ -1,4 +1,5 @@
 pub mod Ahead
+pub mod Bodies
 pub mod Chain
 pub mod Follower
 pub mod Laws

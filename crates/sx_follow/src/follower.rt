@@ -65,7 +65,7 @@ impl Follower {
         ensures { IfOk result (λ follower. follower ≡ begun ledger) }
     {
         let mut spare = Spare::new(alloc);
-        let digest = spare.digest(&ledger)?;
+        let digest = spare.digest(alloc, &ledger)?;
         let head = ledger.copy()?;
         Ok(Follower {
             opening: ledger,

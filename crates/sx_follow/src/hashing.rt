@@ -1,71 +1,65 @@
-//! Whether ledgers have the digests that are named, by several threads.
+//! Whether states have the digests that are named, by several threads. It takes no memory.
 
-ghost use Rattle.std.specs.Prelude.{◌≡◌, ◌*◌, ◌≤◌, true, length, IfOk, take};
+ghost use Rattle.std.specs.Prelude.{◌≡◌, ◌*◌, ◌≤◌, true, length, take};
 ghost use Rattle.std.specs.List.{All};
 ghost use Rattle.std.specs.Thread.{IsSync};
 ghost use Rattle.sx_follow.specs.Ahead.{IsRight};
 
-use crate::leaving::Leaving;
-use std::alloc::Global;
+use crate::batch::Claim;
 use std::thread::{Threads, join};
-use sx_block::ledger_digest;
-use sx_bytes::NoMemory;
+use sx_block::record_digest;
+use sx_ledger::Ledger;
+use sx_record::tag;
 
-// Whether the ledger has the digest that is named.
-fn is_right(alloc: Global, left: &Leaving) -> Result<bool, NoMemory>
-    ensures { IfOk result (λ right. right ≡ true → IsRight left.now) }
+// Whether the state has the digest that is named. One that is longer than the state of any ledger has not.
+fn is_right(claim: &Claim) -> bool
+    ensures { result ≡ true → IsRight claim.now }
 {
-    Ok(ledger_digest(alloc, &left.ledger)? == left.digest)
+    let state = claim.state.bytes();
+    state.len() <= Ledger::LONGEST as usize && record_digest(tag::STATE, state) == claim.digest
 }
 
-// How many stand before the first whose ledger has another digest than is named.
-fn right_in_turn(alloc: Global, batch: &[Leaving]) -> Result<usize, NoMemory>
-    ensures within { IfOk result (λ right. right ≤ length batch.now) }
-    ensures right { IfOk result (λ right. All IsRight (take right batch.now)) }
+// How many stand before the first whose state has another digest than is named.
+fn right_in_turn(claims: &[Claim]) -> usize
+    ensures within { result ≤ length claims.now }
+    ensures right { All IsRight (take result claims.now) }
 {
     let mut count = 0;
-    while count < batch.len() {
-        if !is_right(alloc, &batch[count])? {
+    while count < claims.len() {
+        if !is_right(&claims[count]) {
             break;
         }
         count += 1;
     }
-    Ok(count)
+    count
 }
 
-// The same by so many threads, each of which hashes some of the ledgers.
-pub(crate) fn right_of<R: Threads + Sync>(
-    rt: &R,
-    alloc: Global,
-    batch: &[Leaving],
-    threads: usize,
-) -> Result<usize, NoMemory>
+// The same by so many threads, each of which hashes some of the states.
+pub(crate) fn right_of<R: Threads + Sync>(rt: &R, claims: &[Claim], threads: usize) -> usize
     requires some { 1 ≤ threads }
-    ensures within { IfOk result (λ right. right ≤ length batch.now) }
-    ensures right { IfOk result (λ right. All IsRight (take right batch.now)) }
+    ensures within { result ≤ length claims.now }
+    ensures right { All IsRight (take result claims.now) }
 {
     if threads < 2 {
-        return right_in_turn(alloc, batch);
+        return right_in_turn(claims);
     }
     let few = threads / 2;
-    let (front, back) = batch.split_at(batch.len() / threads * few);
+    let (front, back) = claims.split_at(claims.len() / threads * few);
     let (one, other) = join(
         rt,
-        || -> Result<usize, NoMemory>
+        || -> usize
             requires { IsSync R.row × (1 ≤ few) }
-            ensures within { IfOk result (λ right. right ≤ length front.entry.now) }
-            ensures right { IfOk result (λ right. All IsRight (take right front.entry.now)) }
-        { right_of(rt, alloc, front, few) },
-        || -> Result<usize, NoMemory>
+            ensures within { result ≤ length front.entry.now }
+            ensures right { All IsRight (take result front.entry.now) }
+        { right_of(rt, front, few) },
+        || -> usize
             requires { IsSync R.row × (1 ≤ few) × (few * 2 ≤ threads) }
-            ensures within { IfOk result (λ right. right ≤ length back.entry.now) }
-            ensures right { IfOk result (λ right. All IsRight (take right back.entry.now)) }
-        { right_of(rt, alloc, back, threads - few) },
+            ensures within { result ≤ length back.entry.now }
+            ensures right { All IsRight (take result back.entry.now) }
+        { right_of(rt, back, threads - few) },
     );
-    let one = one?;
-    let other = other?;
     if one < front.len() {
-        return Ok(one);
+        return one;
     }
-    Ok(front.len() + other)
+    front.len() + other
 }

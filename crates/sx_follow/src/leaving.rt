@@ -24,6 +24,7 @@ pub struct Leaving {
 // What a sound block leaves, where this is the ledger after it: something where the block names the digest of that.
 // Otherwise the ledger is spare.
 pub(crate) fn closed(
+    alloc: Global,
     head: &Ledger,
     block: &Block,
     ledger: Ledger,
@@ -36,7 +37,7 @@ pub(crate) fn closed(
 {
     validity_laws();
     check_laws();
-    let digest = spare.digest(&ledger)?;
+    let digest = spare.digest(alloc, &ledger)?;
     match close(&block.header, &digest) {
         Ok(()) => Ok(Some(Leaving { ledger, digest })),
         Err(_) => {
@@ -62,7 +63,7 @@ fn leave(
     validity_laws();
     let copy = spare.copy(alloc, head)?;
     let ledger = apply(alloc, copy, block, effects)?;
-    closed(head, block, ledger, spare)
+    closed(alloc, head, block, ledger, spare)
 }
 
 // What a block leaves of the head, if it is valid for it.

@@ -29,21 +29,36 @@
 //!
 //! To hash the ledger that a block leaves takes longer than to apply the block, and the next block cannot be valid
 //! before the digest is known. But a block names the digests of the ledgers before and after it, so that the next
-//! blocks are found by these names alone. [`Follower::par_advance_all`] applies them ahead, up to eight on one thread,
-//! each on the ledger that the one before it leaves. Meanwhile the other threads hash the ledgers of the eight before
-//! them. Then digests and names are compared in order, and the blocks up to the first that differ are steps of the
-//! follower. It ends where [`Follower::advance_all`] does. A forged block costs time: what was
-//! applied on top of it is dropped, and the other blocks of its height are tried one by one.
+//! blocks are found by these names alone. [`Follower::par_advance_all`] applies them ahead, up to twelve on one thread,
+//! each to the ledger that the one before it leaves. All of them change one copy of the ledger, and what each leaves is
+//! kept as the encoding that its digest is made of. Meanwhile the other threads hash the encodings of the twelve before
+//! them. Then digests and names are compared. Where all are the same, these blocks are steps of the follower, and the
+//! ledger that the last of them left is the head. It ends where [`Follower::advance_all`] does.
 //!
-//! The state records of the ledgers ahead have about 8 MiB at most. Where two of them are longer than 4 MiB, or one is
+//! ```text
+//!     ledger ──► copy ──► after B1 ──► after B2 ──►  ..  ──► after B12     one thread, in place
+//!                             │            │                     │
+//!                         encoding     encoding     ..       encoding      hashed by the others, then compared
+//! ```
+//!
+//! Before that all threads make the digests of the transactions of the blocks above the head, once a call and only where
+//! blocks are to be applied ahead, so that the thread that applies them hashes nothing.
+//!
+//! A forged block costs time: what was applied on top of it is dropped, those of its twelve that stand before it are
+//! applied once more, each to a copy, and the other blocks of its height are tried one by one. So it costs at most 24
+//! blocks that are applied in vain or twice.
+//!
+//! The encodings of the ledgers ahead have about 8 MiB at most. Where two of them are longer than 4 MiB, or one is
 //! shorter than 16 KiB, nothing is applied ahead, and threads only share the work of a block of 8,192 transactions or
-//! more.
+//! more. The memory of encodings and copies is used again.
 //!
 //! Not here: no block is ever dropped, so a follower takes 1,000,000 at most. Of two valid blocks with one
 //! parent the one that came first counts, and nothing says which of them others take.
 #![tactic(auto)]
 
 mod ahead;
+mod batch;
+mod bodies;
 mod choosing;
 mod finding;
 mod follower;

@@ -1,22 +1,23 @@
-//! Blocks that are applied ahead while the ledgers of those before them are hashed.
+//! Blocks that are applied ahead while the states that those before them leave are hashed.
 //!
 //! ```text
-//!     threads       hash the ledgers of batch 1      hash the ledgers of batch 2      ..
+//!     threads       hash the states of batch 1       hash the states of batch 2       ..
 //!     one thread    apply batch 2 on the last        apply batch 3 on the last        ..
 //!                                             compare                          compare
 //! ```
 
-ghost use Rattle.std.specs.Prelude.{◌≡◌, ◌≤◌, ℕ, List, IfOk, take};
+ghost use Rattle.std.specs.Prelude.{◌≤◌, IfOk, IfSome, take};
 ghost use Rattle.std.specs.List.{All};
 ghost use Rattle.std.specs.Thread.{IsSync};
 ghost use Rattle.sx_block.specs.Block.{IsBlock};
-ghost use Rattle.sx_follow.specs.Ahead.{AreAhead, IsRight, last_digest, last_ledger};
+ghost use Rattle.sx_follow.specs.Ahead.{IsBatch, IsRight};
+ghost use Rattle.sx_follow.specs.Bodies.{AreBodies};
 ghost use Rattle.sx_follow.specs.Waiting.{AreWaiting};
-ghost use Rattle.sx_ledger.specs.declared.parts.Parts.{Parts};
 
 use crate::ahead::ahead;
+use crate::batch::Batch;
+use crate::bodies::Bodies;
 use crate::hashing::right_of;
-use crate::leaving::Leaving;
 use crate::spare::Spare;
 use crate::waiting::Waiting;
 use std::alloc::Global;
@@ -24,72 +25,54 @@ use std::thread::{Threads, join};
 use sx_block::Block;
 use sx_bytes::NoMemory;
 
-// How many blocks of a batch stand before the first whose ledger has another digest than it names, and the batch on top.
+// How many blocks of a batch stand before the first that leaves another digest than it names, and the batch on top, if
+// there is one.
 #[derive(Drop)]
 pub struct Hashed {
     pub right: usize,
-    pub next: Vec<Leaving>,
+    pub next: Option<Batch>,
 }
 
-// The batch on top of another one.
-fn on_last<R: Threads + Sync>(
-    rt: &R,
-    alloc: Global,
-    batch: &[Leaving],
-    blocks: &[Block],
-    waiting: &Waiting,
-    spare: &mut Spare,
-) -> Result<Vec<Leaving>, NoMemory>
-    requires form { All IsBlock blocks.now }
-    requires waiting { AreWaiting blocks.now waiting.now }
-    ensures { IfOk result (λ next. (parts : Parts) (named : List ℕ)
-        → AreAhead (last_ledger parts batch.now) (last_digest named batch.now) blocks.now next.items) }
-{
-    match batch.last() {
-        Some(left) => ahead(
-            rt,
-            alloc,
-            &left.ledger,
-            &left.digest,
-            blocks,
-            waiting,
-            spare,
-        ),
-        None => Ok(Vec::new(alloc)),
-    }
-}
-
-// Has so many threads hash the ledgers of a batch, while one more applies the batch on top.
+// Has so many threads hash the states of a batch, while one more applies the batch on top.
 pub(crate) fn hash_and_apply<R: Threads + Sync>(
     rt: &R,
     alloc: Global,
-    batch: &[Leaving],
+    batch: &Batch,
     blocks: &[Block],
+    bodies: &Bodies,
     waiting: &Waiting,
     spare: &mut Spare,
     threads: usize,
 ) -> Result<Hashed, NoMemory>
     requires some { 1 ≤ threads }
     requires form { All IsBlock blocks.now }
+    requires bodies { AreBodies blocks.now bodies.now }
     requires waiting { AreWaiting blocks.now waiting.now }
-    ensures right { IfOk result (λ hashed. All IsRight (take hashed.right batch.now)) }
-    ensures next { IfOk result (λ hashed. (parts : Parts) (named : List ℕ)
-        → AreAhead (last_ledger parts batch.now) (last_digest named batch.now) blocks.now hashed.next.items) }
+    ensures right { IfOk result (λ hashed. All IsRight (take hashed.right batch.now.claims.items)) }
+    ensures next { IfOk result (λ hashed. IfSome hashed.next (IsBatch batch.now.ledger batch.now.digest blocks.now)) }
 {
     let (right, next) = join(
         rt,
-        || -> Result<usize, NoMemory>
+        || -> usize
             requires { IsSync R.row × (1 ≤ threads) }
-            ensures { IfOk result (λ right. All IsRight (take right batch.entry.now)) }
-        { right_of(rt, alloc, batch, threads) },
-        || -> Result<Vec<Leaving>, NoMemory>
-            requires { IsSync R.row × All IsBlock blocks.now × AreWaiting blocks.now waiting.now }
-            ensures { IfOk result (λ next. (parts : Parts) (named : List ℕ)
-                → AreAhead (last_ledger parts batch.entry.now) (last_digest named batch.entry.now) blocks.entry.now next.items) }
-        { on_last(rt, alloc, batch, blocks, waiting, spare) },
+            ensures { All IsRight (take result batch.entry.now.claims.items) }
+        { right_of(rt, &batch.claims, threads) },
+        || -> Result<Option<Batch>, NoMemory>
+            requires { IsSync R.row × All IsBlock blocks.now × AreBodies blocks.now bodies.now × AreWaiting blocks.now waiting.now }
+            ensures { IfOk result (λ next. IfSome next
+                (IsBatch batch.entry.now.ledger batch.entry.now.digest blocks.entry.now)) }
+        {
+            ahead(
+                rt,
+                alloc,
+                &batch.ledger,
+                &batch.digest,
+                blocks,
+                bodies,
+                waiting,
+                spare,
+            )
+        },
     );
-    Ok(Hashed {
-        right: right?,
-        next: next?,
-    })
+    Ok(Hashed { right, next: next? })
 }

@@ -1,9 +1,10 @@
 //! Memory that is used again.
 
-ghost use Rattle.std.specs.Prelude.{◌≡◌, IfOk, take};
+ghost use Rattle.std.specs.Prelude.{◌≡◌, [], ◌^◌, ◌<◌, length, IfOk};
 ghost use Rattle.sx_block.specs.Validity.{digest_of_ledger};
+ghost use Rattle.sx_ledger.specs.Encoding.{state_bytes};
 
-use crate::leaving::Leaving;
+use crate::batch::{Batch, Claim};
 use crate::refilling::copied;
 use std::alloc::Global;
 use sx_block::{Digest, record_digest};
@@ -11,19 +12,18 @@ use sx_bytes::{NoMemory, Writer};
 use sx_ledger::Ledger;
 use sx_record::tag;
 
-// Ledgers that are no longer needed, and a state that was written. Nothing is read of them: copies and another state
-// are written over them.
+// Ledgers and states that are no longer needed. Nothing is read of them: copies and other states are written over them.
 #[derive(Debug, Drop)]
 pub struct Spare {
     ledgers: Vec<Ledger>,
-    state: Writer,
+    states: Vec<Writer>,
 }
 
 impl Spare {
     pub(crate) fn new(alloc: Global) -> Spare {
         Spare {
             ledgers: Vec::new(alloc),
-            state: Writer::new(alloc),
+            states: Vec::new(alloc),
         }
     }
 
@@ -32,14 +32,29 @@ impl Spare {
         let _ = self.ledgers.push(ledger);
     }
 
-    // Keeps the ledgers of all but the first so many of a list, which it leaves in the list.
-    pub(crate) fn cut(&mut self, list: &mut Vec<Leaving>, count: usize)
-        ensures { list.new.items ≡ take count list.old.items }
-    {
-        while list.len() > count {
-            if let Some(left) = list.pop() {
-                self.keep(left.ledger);
-            }
+    // Keeps the states of claims in the same way.
+    pub(crate) fn keep_states(&mut self, claims: Vec<Claim>) {
+        for claim in claims {
+            let _ = self.states.push(claim.state);
+        }
+    }
+
+    // Keeps the ledger and the states of a batch.
+    pub(crate) fn keep_batch(&mut self, batch: Batch) {
+        let Batch {
+            claims,
+            ledger,
+            digest: _,
+        } = batch;
+        self.keep(ledger);
+        self.keep_states(claims);
+    }
+
+    // Keeps those of a batch, and of the one on top of it, if there is one.
+    pub(crate) fn keep_both(&mut self, batch: Batch, next: Option<Batch>) {
+        self.keep_batch(batch);
+        if let Some(next) = next {
+            self.keep_batch(next);
         }
     }
 
@@ -50,14 +65,38 @@ impl Spare {
         copied(alloc, ledger, self.ledgers.pop())
     }
 
-    // The digest of a ledger. It takes no memory where a state as long was written before.
-    pub(crate) fn digest(&mut self, ledger: &Ledger) -> Result<Digest, NoMemory>
-        ensures { IfOk result (λ digest. digest ≡ digest_of_ledger ledger.now) }
+    // A writer of nothing so far, which has the memory for so many bytes where it was taken before.
+    fn empty(&mut self, alloc: Global, bytes: u32) -> Result<Writer, NoMemory>
+        ensures { IfOk result (λ state. state ≡ []) }
+    {
+        let Some(mut state) = self.states.pop() else {
+            let mut fresh = Writer::new(alloc);
+            fresh.reserve(bytes as usize)?;
+            return Ok(fresh);
+        };
+        state.cut(0);
+        Ok(state)
+    }
+
+    // The state of a ledger. It takes no memory where one as long is kept.
+    pub(crate) fn state(&mut self, alloc: Global, ledger: &Ledger) -> Result<Writer, NoMemory>
+        ensures state { IfOk result (λ state. state ≡ state_bytes ledger.now) }
+        ensures fits { IfOk result (λ state. length state < 2 ^ 32) }
     {
         let length = ledger.state_length();
-        self.state.cut(0);
-        ledger.write_state(&mut self.state)?;
-        prove!(self.state.bytes().len() == length as usize);
-        Ok(record_digest(tag::STATE, self.state.bytes()))
+        let mut state = self.empty(alloc, length)?;
+        ledger.write_state(&mut state)?;
+        prove!(state.bytes().len() == length as usize);
+        Ok(state)
+    }
+
+    // The digest of a ledger. It takes no memory where a state as long is kept.
+    pub(crate) fn digest(&mut self, alloc: Global, ledger: &Ledger) -> Result<Digest, NoMemory>
+        ensures { IfOk result (λ digest. digest ≡ digest_of_ledger ledger.now) }
+    {
+        let state = self.state(alloc, ledger)?;
+        let digest = record_digest(tag::STATE, state.bytes());
+        let _ = self.states.push(state);
+        Ok(digest)
     }
 }

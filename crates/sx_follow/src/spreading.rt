@@ -49,7 +49,7 @@ fn par_leave<R: Threads + Sync>(
     validity_laws();
     let copy = spare.copy(alloc, head)?;
     let ledger = apply_spread(rt, alloc, copy, block, effects, workers)?;
-    closed(head, block, ledger, spare)
+    closed(alloc, head, block, ledger, spare)
 }
 
 // What a block leaves of the head, if it is valid for it, by so many workers. The block names the head as its parent.

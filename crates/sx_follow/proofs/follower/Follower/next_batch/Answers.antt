@@ -1,15 +1,8 @@
-use Rattle.std.proofs.Common.{sym, subst}
-use Rattle.sx_block.specs.Validity.{digest_of_ledger}
-use Rattle.sx_follow.specs.Ahead.{AreAhead}
-use Rattle.sx_follow.specs.Follower.{Followed}
-use Rattle.sx_follow.proofs.AheadSteps.{ahead_take}
+use Rattle.std.proofs.Common.{arith}
+use Rattle.sx_follow.proofs.RightOnes.{all_right}
 use Rattle.sx_follow.proofs.follower.Follower.next_batch.Goals as goal
 
-pub take_all-requires-clause-ahead : goal.take_all-requires-clause-ahead
-take_all-requires-clause-ahead g c =
-    let f = c.self.inside in
-    let batch = c.args.batch.items in
-    let whole : AreAhead f.head (digest_of_ledger f.head) f.blocks.items batch =
-    subst (λ (s : Followed). AreAhead s.head (digest_of_ledger s.head) s.blocks batch) (sym c.self.view_is)
-    c.requires.ahead in
-    rw c.cut.ensures (ahead_take f.head (digest_of_ledger f.head) f.blocks.items c.in_ok-made.made.right batch whole)
+pub take_batch-requires-clause-right : goal.take_batch-requires-clause-right
+take_batch-requires-clause-right g c =
+    all_right c.in_ok-right.field-0.right c.args.batch.claims.items
+    (omega (arith, c.in_ok-right.right-is, c.if-right-len.true)) c.in_ok-right.ensures.right
