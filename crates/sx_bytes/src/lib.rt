@@ -5,7 +5,8 @@
 //! it; [`Reader::field_u64`] and its kin test a range too, and answer a [`FormFault`] at the field.
 //! A [`Writer`] appends exactly the bytes of what it is given, or nothing where memory runs
 //! out. What a format finds wrong is a [`FormFault`]: which fault it is, and where it begins.
-//! [`ListOf`] is the type of every field that is a list.
+//! [`ListOf`] is the type of every field that is a list, and [`ListInParts`] a list in vectors of its own, as threads give
+//! it.
 //!
 //! [`field_laws`] states the law on which every format stands: encoding a field inverts decoding
 //! it, and back.
@@ -17,6 +18,7 @@
 mod fault;
 mod fields;
 mod laws;
+mod list_in_parts;
 mod list_of;
 mod memory;
 mod reader;
@@ -24,6 +26,7 @@ mod writer;
 
 pub use fault::{Form, FormFault, ReadError, Short};
 pub use laws::field_laws;
+pub use list_in_parts::ListInParts;
 pub use list_of::{Bytes, ListOf};
 pub use memory::{NoMemory, all_of};
 pub use reader::Reader;
