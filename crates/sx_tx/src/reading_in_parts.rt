@@ -1,11 +1,9 @@
 //! Decoding a long list of transactions by several threads.
 //!
 //! Half of the threads decode the front half of the transactions and half of them the back half, each half in the same
-//! way, into its part of one vector. Where the back half seems to begin is a guess. If the bytes are as many as they
-//! would be if all transactions were as long as the first, the guess is that they are. Otherwise one thread steps over
-//! the front half, by the bytes of the kinds alone. Where the front half is decoded whole and ends at that place, both
-//! halves side by side are what the payload says. Where anything is amiss, one thread decodes the payload from its
-//! first byte, and so finds the first fault.
+//! way, into its part of one vector. Where the back half seems to begin is a guess. Where the front half is decoded whole
+//! and ends at that place, both halves side by side are what the payload says. Where anything is amiss, one thread decodes
+//! the payload from its first byte, and so finds the first fault.
 
 ghost use Rattle.std.specs.Prelude.{◌≡◌, ◌*◌, ◌≤◌, List, length, IfOk, Ok};
 ghost use Rattle.std.specs.Thread.{IsSync};
@@ -14,49 +12,13 @@ ghost use Rattle.sx_tx.specs.declared.tx.Tx.{Tx as Transaction};
 ghost use Rattle.sx_tx.specs.Transactions.{list_bytes, IsTxList};
 ghost use Rattle.sx_tx.specs.TransactionDecoding.{AreDecoded, IsListAt, candidates_at};
 
+use crate::guess::{end_of, fault_at, length_of_each, threads_for};
 use crate::reading::{read_candidates, tx};
 use crate::tx::Tx;
 use crate::tx_list::{MOST_TRANSACTIONS, TxList};
 use std::alloc::Global;
 use std::thread::{Threads, join_mut};
-use sx_bytes::{Form, FormFault, ReadError, Reader, Short};
-
-// How many bytes are worth a thread of their own: some 8,000 transactions. Decoding them takes a third of a millisecond,
-// and to start a thread a part of that.
-const WORTH_A_THREAD: usize = 262_144;
-
-// A fault at a place. Which one it is makes no difference here.
-fn fault_at(place: usize, fault: Form) -> FormFault {
-    let at = place as u64;
-    FormFault { at, fault }
-}
-
-// The length of each of so many transactions in so many bytes, where all seem to be as long as the first.
-fn length_of_each(bytes: usize, count: usize, first: usize) -> Option<usize> {
-    match count.saturating_mul(first) == bytes {
-        true => Some(first),
-        false => None,
-    }
-}
-
-// Where so many transactions from a place on seem to end, each of which seems to have this length, if one is given.
-// Otherwise the byte of each one's kind is looked at, and no other field.
-fn end_of(payload: &[u8], place: usize, count: usize, each: Option<usize>) -> Result<usize, Short> {
-    if let Some(length) = each {
-        return Ok(place.saturating_add(count.saturating_mul(length)));
-    }
-    let mut from = Reader::at(payload, place)?;
-    for _ in 0..count {
-        let head = from.raw(17)?;
-        let fields = match head[16] {
-            1 => 17,
-            2 => 8,
-            _ => 18,
-        };
-        from.raw(fields)?;
-    }
-    Ok(from.place())
-}
+use sx_bytes::{Form, FormFault, ReadError, Reader};
 
 // Decodes the transactions from a place on, one into each slot, and answers where they end.
 fn fill(payload: &[u8], place: usize, txs: &mut [Tx]) -> Result<usize, FormFault>
@@ -131,14 +93,6 @@ fn listed<R: Threads + Sync>(
     let mut txs = vec![in alloc; first; count as usize]?;
     let end = fill_by(rt, payload, begin, threads, each, &mut txs)?;
     Ok((TxList::of(txs), end))
-}
-
-// How many of so many workers are worth starting for so many bytes.
-fn threads_for(bytes: usize, workers: u32) -> usize
-    requires { 1 ≤ workers }
-    ensures { 1 ≤ result }
-{
-    (bytes / WORTH_A_THREAD).clamp(1, workers as usize)
 }
 
 /// The list of transactions at a place of a payload, its count included, and where it ends. As many as `workers` threads
