@@ -1,3 +1,4 @@
 pub mod RangeSums
 pub mod Splits
 pub mod Sold
+pub mod Columns

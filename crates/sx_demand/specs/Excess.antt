@@ -15,8 +15,9 @@ pub record Excess : Type 0 where
   pub net : List ℤ
   pub volume : List ℕ
 
--- a row of 32 entries and two sums for each of at most 32 assets
-pub record IsRoom (entries : List Entry) (net : List ℤ) (volume : List ℕ) : Type 0 where
+-- a row of 32 entries and three sums for each of at most 32 assets
+pub record IsRoom (entries : List Entry) (sums : List ℕ) (net : List ℤ) (volume : List ℕ) : Type 0 where
   pub few : length net ≤ 32
   pub full : length entries ≡ 32 * length net
+  pub columns : length sums ≡ length net
   pub same : length volume ≡ length net

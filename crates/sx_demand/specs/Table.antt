@@ -36,3 +36,10 @@ net_in entries n asset = pos (into_in entries n asset) -ℤ pos (out_in entries 
 
 abbrev pub volume_in : List Entry → ℕ → ℕ → ℕ
 volume_in entries n asset = into_in entries n asset + out_in entries n asset
+
+-- the sums of the columns over so many rows, and those of all rows
+abbrev pub AreColumns : List Entry → ℕ → List ℕ → Type 0
+AreColumns entries rows sums = (k d : ℕ) → k < length sums → slice_index_or sums k d ≡ into_in entries rows k
+
+abbrev pub AreRows : List Entry → ℕ → List ℕ → Type 0
+AreRows entries n sums = (k d : ℕ) → k < n → slice_index_or sums k d ≡ out_in entries n k

@@ -4,7 +4,7 @@ ghost use Rattle.std.specs.Prelude.{◌≡◌, ◌≤◌, ◌^◌, All, IfOk, le
 ghost use Rattle.sx_demand.specs.Excess.{nets_of, volumes_of};
 
 use crate::imbalance::{Imbalance, Nets, Volumes};
-use crate::sums::{write_nets, write_volumes};
+use crate::sums::write_excess;
 use crate::table::{Entry, FIRST, ROW, fill};
 use std::alloc::Global;
 use std::marker::Model;
@@ -19,6 +19,7 @@ use sx_price::{Mu, Price};
 #[derive(Debug, Drop)]
 pub struct Demand {
     entries: Vec<Entry>,
+    columns: Vec<u128>,
     net: Vec<i128>,
     volume: Vec<u128>,
 }
@@ -30,7 +31,7 @@ impl Model for Demand {
 
     ghost view = { λ d. record { net = d.net.items; volume = d.volume.items } };
 
-    ghost invariant = { λ d. IsRoom d.entries.items d.net.items d.volume.items };
+    ghost invariant = { λ d. IsRoom d.entries.items d.columns.items d.net.items d.volume.items };
 }
 
 impl Demand {
@@ -44,6 +45,7 @@ impl Demand {
         let assets = assets as usize;
         Ok(Demand {
             entries: vec![in alloc; FIRST; assets * ROW]?,
+            columns: vec![in alloc; 0; assets]?,
             net: vec![in alloc; 0; assets]?,
             volume: vec![in alloc; 0; assets]?,
         })
@@ -60,8 +62,12 @@ impl Demand {
         ensures volume_range { All (λ volume. volume ≤ 2 ^ 108) self.new.volume }
     {
         fill(rt, &mut self.entries, curves, prices, mu);
-        write_nets(&self.entries, &mut self.net);
-        write_volumes(&self.entries, &mut self.volume);
+        write_excess(
+            &self.entries,
+            &mut self.columns,
+            &mut self.net,
+            &mut self.volume,
+        );
     }
 
     /// The value that is wanted of each asset, less the value of it that is sold.
