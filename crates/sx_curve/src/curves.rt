@@ -159,9 +159,65 @@ impl Curves {
         ensures weighted_range { result.weighted ≤ 2 ^ 56 * result.amount }
     {
         let (begin, end) = self.ends_of(sell, buy);
+        let before = self.prefix(begin);
+        self.below_here(sell, buy, begin, end, before, num, den, near)
+    }
+
+    /// The sums of a pair up to two limits, each as [`Curves::below_near`] tells it: up to `low` over
+    /// `den`, and up to `high` over `den`. The pair is looked up once.
+    pub fn below_both(
+        &self,
+        sell: AssetId,
+        buy: AssetId,
+        low: u128,
+        high: u128,
+        den: u128,
+        near_low: &mut usize,
+        near_high: &mut usize,
+    ) -> (Sums, Sums)
+        requires { den ≤ 2 ^ 60 }
+        ensures low_amount { result.0.amount ≡ amounts (quotes_below sell buy low den self.now.quotes) }
+        ensures low_weighted { result.0.weighted ≡ weighted_amounts (quotes_below sell buy low den self.now.quotes) }
+        ensures high_amount { result.1.amount ≡ amounts (quotes_below sell buy high den self.now.quotes) }
+        ensures high_weighted { result.1.weighted ≡ weighted_amounts (quotes_below sell buy high den self.now.quotes) }
+        ensures low_range { result.0.amount ≤ 2 ^ 62 }
+        ensures high_range { result.1.amount ≤ 2 ^ 62 }
+        ensures low_weighted_range { result.0.weighted ≤ 2 ^ 56 * result.0.amount }
+        ensures high_weighted_range { result.1.weighted ≤ 2 ^ 56 * result.1.amount }
+    {
+        let (begin, end) = self.ends_of(sell, buy);
+        let before = self.prefix(begin);
+        let up_to_low = self.below_here(sell, buy, begin, end, before, low, den, near_low);
+        let up_to_high = self.below_here(sell, buy, begin, end, before, high, den, near_high);
+        (up_to_low, up_to_high)
+    }
+
+    // The sums of a pair up to a limit, found from a guess. The pair's quotes are those from `begin` to
+    // `end`, and those in front of it have the sums `before`.
+    fn below_here(
+        &self,
+        sell: AssetId,
+        buy: AssetId,
+        begin: usize,
+        end: usize,
+        before: Prefix,
+        num: u128,
+        den: u128,
+        near: &mut usize,
+    ) -> Sums
+        requires den { den ≤ 2 ^ 60 }
+        requires range { IsPairRange self.now.quotes sell buy begin end }
+        requires ordered { begin ≤ end }
+        requires within { end ≤ length self.now.quotes }
+        requires amount_before { before.amount ≡ amounts (take begin self.now.quotes) }
+        requires weighted_before { before.weighted ≡ weighted_amounts (take begin self.now.quotes) }
+        ensures amount { result.amount ≡ amounts (quotes_below sell buy num den self.now.quotes) }
+        ensures weighted { result.weighted ≡ weighted_amounts (quotes_below sell buy num den self.now.quotes) }
+        ensures amount_range { result.amount ≤ 2 ^ 62 }
+        ensures weighted_range { result.weighted ≤ 2 ^ 56 * result.amount }
+    {
         let count = count_below(&self.sorted[begin..end], num, den, *near);
         *near = count;
-        let before = self.prefix(begin);
         let through = self.prefix(begin + count);
         Sums {
             amount: (through.amount - before.amount) as u64,

@@ -23,7 +23,7 @@
 //!
 //! [`Curves::below_near`] begins its search at a guess. It goes outward from there in steps that double
 //! and then halves the last one: with d quotes between the guess and the answer it makes two times
-//! log d steps, and two where the guess is right.
+//! log d steps, and two where the guess is right. [`Curves::below_both`] does so for two limits of one pair.
 //!
 //! `specs/Demand` says what all pairs sell at given prices, and by how much more of each asset is
 //! wanted than sold; `specs/Search` says which prices the search ends at, whatever finds them. Both
