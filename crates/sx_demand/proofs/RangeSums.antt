@@ -1,6 +1,6 @@
 -- Sums over the numbers below n.
-use Rattle.std.proofs.Common.{◌≡◌, ℕ, zero, suc, ◌+◌, ◌<◌, ◌*◌, ◌≤◌, ◌++◌, ◌∷◌, [], sum_by, map-id, refl, sym, ap, subst, ◌∙◌}
-use Rattle.std.proofs.Common.{arith}
+use Rattle.std.proofs.Common.{◌≡◌, ℕ, zero, suc, ◌+◌, ◌<◌, ◌*◌, ◌≤◌, ◌++◌, ◌∷◌, [], sum_by, map-id}
+use Rattle.std.proofs.Common.{refl, sym, ap, subst, ◌∙◌, arith}
 use Rattle.std.specs.List.{range_with_len}
 use Rattle.std.proofs.lemmas.List.FromFn.{map-range_with_len_more}
 use Rattle.std.proofs.lemmas.List.Sums.{sum_by_push}
@@ -27,7 +27,8 @@ sum_same f g (suc n) same =
     subst (λ (m : ℕ). sum_by f (range_with_len 0 m) ≡ sum_by g (range_with_len 0 m)) next grown
 
 -- a sum of terms that are at most a bound
-pub sum_at_most : (f : ℕ → ℕ) (n bound : ℕ) → ((k : ℕ) → k < n → f k ≤ bound) → sum_by f (range_with_len 0 n) ≤ n * bound
+pub sum_at_most : (f : ℕ → ℕ) (n bound : ℕ) → ((k : ℕ) → k < n → f k ≤ bound)
+    → sum_by f (range_with_len 0 n) ≤ n * bound
 sum_at_most f zero bound few = omega arith
 sum_at_most f (suc n) bound few =
     let rest : sum_by f (range_with_len 0 n) ≤ n * bound = sum_at_most f n bound (λ k lt. few k (omega arith)) in

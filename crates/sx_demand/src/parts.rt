@@ -1,13 +1,13 @@
 //! How much of a pair's quotes must trade at two prices, and how much may and need not.
 
-ghost use Rattle.std.specs.Prelude.{◌≡◌, ◌+◌, ◌*◌, ◌≤◌, ◌^◌};
+ghost use Rattle.std.specs.Prelude.{◌≡◌, ◌+◌, ◌-◌, ◌*◌, ◌/◌, ◌≤◌, ◌^◌};
 ghost use Rattle.std.specs.List.{filter};
 ghost use Rattle.sx_curve.specs.Demand.{e_mid, e_must, m_mid, may_at, must_at};
 ghost use Rattle.sx_curve.specs.Quotes.{amounts, pair_of, weighted_amounts};
 
 use crate::pair::{ONE, Pair};
 use sx_curve::{Curves, Sums};
-use sx_price::Mu;
+use sx_price::{Mu, Price};
 
 // Guesses of how many quotes of a pair may trade, and of how many must: as many as at the last prices.
 #[derive(Clone, Copy, Debug)]
@@ -16,40 +16,39 @@ pub(crate) struct Guesses {
     pub must: usize,
 }
 
-// The sums over the quotes of a pair that may trade.
-fn sums_may(curves: &Curves, pair: &Pair, near: &mut usize) -> Sums
-    ensures amount { result.amount ≡ amounts (filter (may_at pair.now.sell_price pair.now.buy_price)
-        (pair_of pair.now.sell pair.now.buy curves.now.quotes)) }
-    ensures weighted { result.weighted ≡ weighted_amounts (filter (may_at pair.now.sell_price pair.now.buy_price)
-        (pair_of pair.now.sell pair.now.buy curves.now.quotes)) }
-    ensures in_range { result.amount ≤ 2 ^ 62 }
+// The rates up to which the quotes of a pair must trade, and may: the former is cut by the part `mu`.
+fn rates(sell_price: Price, mu: Mu) -> (u128, u128)
+    ensures must { result.0 ≡ sell_price * 2 ^ 24 - sell_price * 2 ^ 24 / 2 ^ mu }
+    ensures may { result.1 ≡ sell_price * 2 ^ 24 }
+    ensures exponent { mu ≤ 20 }
 {
-    let rate = u128::from(pair.sell_price.get()) * ONE;
-    curves.below_near(
-        pair.sell,
-        pair.buy,
-        rate,
-        u128::from(pair.buy_price.get()),
-        near,
-    )
+    let rate = u128::from(sell_price.get()) * ONE;
+    (rate - (rate >> mu.get()), rate)
 }
 
-// The sums over those that must trade: the rate is cut by the part `mu` of it.
-fn sums_must(curves: &Curves, pair: &Pair, mu: Mu, near: &mut usize) -> Sums
-    ensures amount { result.amount ≡ amounts (filter (must_at pair.now.sell_price pair.now.buy_price mu)
+// The sums over the quotes of a pair that must trade, and over those that may.
+fn sums_of(curves: &Curves, pair: &Pair, mu: Mu, guesses: &mut Guesses) -> (Sums, Sums)
+    ensures must_amount { result.0.amount ≡ amounts (filter (must_at pair.now.sell_price pair.now.buy_price mu)
         (pair_of pair.now.sell pair.now.buy curves.now.quotes)) }
-    ensures weighted { result.weighted ≡ weighted_amounts (filter (must_at pair.now.sell_price pair.now.buy_price mu)
+    ensures must_weighted { result.0.weighted ≡ weighted_amounts
+        (filter (must_at pair.now.sell_price pair.now.buy_price mu)
         (pair_of pair.now.sell pair.now.buy curves.now.quotes)) }
-    ensures in_range { result.amount ≤ 2 ^ 62 }
+    ensures may_amount { result.1.amount ≡ amounts (filter (may_at pair.now.sell_price pair.now.buy_price)
+        (pair_of pair.now.sell pair.now.buy curves.now.quotes)) }
+    ensures may_weighted { result.1.weighted ≡ weighted_amounts (filter (may_at pair.now.sell_price pair.now.buy_price)
+        (pair_of pair.now.sell pair.now.buy curves.now.quotes)) }
+    ensures in_range { result.1.amount ≤ 2 ^ 62 }
 {
-    let parts = 1u128 << mu.get();
-    let rate = u128::from(pair.sell_price.get()) * ONE * (parts - 1);
-    curves.below_near(
+    let (must, may) = rates(pair.sell_price, mu);
+    let price = u128::from(pair.buy_price.get());
+    curves.below_both(
         pair.sell,
         pair.buy,
-        rate,
-        u128::from(pair.buy_price.get()) * parts,
-        near,
+        must,
+        may,
+        price,
+        &mut guesses.must,
+        &mut guesses.may,
     )
 }
 
@@ -71,8 +70,7 @@ pub(crate) fn parts_of(curves: &Curves, pair: &Pair, mu: Mu, guesses: &mut Guess
         (pair_of pair.now.sell pair.now.buy curves.now.quotes) }
     ensures in_range { result.must + result.mid ≤ 2 ^ 62 }
 {
-    let may = sums_may(curves, pair, &mut guesses.may);
-    let must = sums_must(curves, pair, mu, &mut guesses.must);
+    let (must, may) = sums_of(curves, pair, mu, guesses);
     Parts {
         must: must.amount,
         mid: may.amount - must.amount,

@@ -27,3 +27,9 @@ returns-clause-mid_weighted c =
     let pair = c.args.pair.now in
     let quotes = pair_of pair.sell pair.buy c.args.curves.now.quotes in
     omega (arith, weighted_split quotes pair.sell_price pair.buy_price c.args.mu)
+
+pub returns-clause-in_range : goal.returns-clause-in_range
+returns-clause-in_range c =
+    let pair = c.args.pair.now in
+    let quotes = pair_of pair.sell pair.buy c.args.curves.now.quotes in
+    omega (arith, must_and_mid quotes pair.sell_price pair.buy_price c.args.mu)

@@ -20,8 +20,10 @@ overflow_add-columns c =
     let buy = c.loop-buy.buy in
     let inside : buy < n = omega arith in
     let old = c.loop-buy.invariant.left buy 0 (omega arith) inside in
-    let most = into_at_most entries n c.requires.full c.requires.few c.requires.in_range sell buy (omega arith) inside in
-    let entry = entry_at_most entries n c.requires.full c.requires.few c.requires.in_range sell buy (omega arith) inside in
+    let most = into_at_most entries n c.requires.full c.requires.few c.requires.in_range sell buy (omega arith)
+    inside in
+    let entry = entry_at_most entries n c.requires.full c.requires.few c.requires.in_range sell buy (omega arith)
+    inside in
     omega (arith, old, most, entry)
 
 pub overflow_add-row : goal.overflow_add-row
@@ -49,7 +51,8 @@ loop-buy-preserved c =
     ap (λ m. m + value) (c.loop-buy.invariant.left buy 0 (omega arith) inside)
     ∙ sym (sum_more (λ row. value_in entries (row * 32 + buy)) sell) in
     record {
-      row = ap (λ m. m + value) c.loop-buy.invariant.row ∙ sym (sum_more (λ column. value_in entries (sell * 32 + column)) buy);
+      row = ap (λ m. m + value) c.loop-buy.invariant.row
+          ∙ sym (sum_more (λ column. value_in entries (sell * 32 + column)) buy);
       bound = omega (
         arith,
         c.loop-buy.invariant.bound,

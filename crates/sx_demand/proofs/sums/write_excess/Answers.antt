@@ -21,9 +21,15 @@ difference-requires c =
         arith,
         into,
         into_at_most entries n full c.requires.few c.requires.in_range
-            (length c.args.columns.now) asset (omega arith) inside,
+            (length c.args.columns.now) asset
+            (omega arith) inside,
       );
-      out = omega (arith, out, out_at_most entries n full c.requires.few c.requires.in_range n asset (omega arith) inside);
+      out = omega (
+        arith,
+        out,
+        out_at_most entries n full c.requires.few c.requires.in_range n asset (omega arith)
+            inside,
+      );
     }
 
 pub overflow_add-volumes : goal.overflow_add-volumes
@@ -39,7 +45,8 @@ overflow_add-volumes c =
       arith,
       into,
       out,
-      into_at_most entries n full c.requires.few c.requires.in_range (length c.args.columns.now) asset (omega arith) inside,
+      into_at_most entries n full c.requires.few c.requires.in_range (length c.args.columns.now) asset
+          (omega arith) inside,
       out_at_most entries n full c.requires.few c.requires.in_range n asset (omega arith) inside,
     )
 
