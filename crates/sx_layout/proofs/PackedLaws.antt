@@ -10,7 +10,8 @@ use Rattle.sx_layout.specs.declared.outcome.Outcome.{Outcome}
 use Rattle.sx_layout.specs.declared.outcome.Outcome.TheVariants as outcome
 use Rattle.sx_layout.specs.Gathering.{is_accepted}
 use Rattle.sx_layout.specs.OutcomeDecoding.{static_numbered}
-use Rattle.sx_layout.specs.Packed.{figures_of, kind_of, outcomes_of, overdrafts_among, plain_outcome, HaveFigures}
+use Rattle.sx_layout.specs.Packed.{figures_of, kind_of, outcomes_of, overdraft_of, overdrafts_among, plain_outcome}
+use Rattle.sx_layout.specs.Packed.{HaveFigures}
 use Rattle.sx_ledger.specs.declared.statics.Static.{Static}
 use Rattle.sx_ledger.specs.declared.statics.Static.TheVariants.{UnknownAccount, SeqBehind, SeqBeyond, UnknownAsset}
 use Rattle.sx_ledger.specs.declared.statics.Static.TheVariants.{SamePair, UnknownPayee, AccountExists, NoSuchOffer}
@@ -20,14 +21,11 @@ use Rattle.sx_ledger.specs.Static.{number_of_static}
 abbrev is_overdraft : ℕ → Bool
 is_overdraft kind = eqb kind 14
 
-abbrev overdraft : Shortage → Outcome
-overdraft one = outcome.Overdraft one.seen one.need
-
 -- ---- the first of several
 
 abbrev first : ℕ → List Shortage → Outcome
 first kind [] = plain_outcome kind
-first kind (next ∷ figures) = cond (is_overdraft kind) (overdraft next) (plain_outcome kind)
+first kind (next ∷ figures) = cond (is_overdraft kind) (overdraft_of next) (plain_outcome kind)
 
 abbrev figures_after : ℕ → List Shortage → List Shortage
 figures_after kind [] = []
@@ -38,8 +36,8 @@ first_is : (kind : ℕ) (kinds : List ℕ) (figures : List Shortage)
 first_is kind kinds [] = refl
 first_is kind kinds (next ∷ figures) =
     elim (is_overdraft kind) as (λ b.
-    cond b (overdraft next ∷ outcomes_of kinds figures) (plain_outcome kind ∷ outcomes_of kinds (next ∷ figures))
-    ≡ cond b (overdraft next) (plain_outcome kind) ∷ outcomes_of kinds (cond b figures (next ∷ figures))) [
+    cond b (overdraft_of next ∷ outcomes_of kinds figures) (plain_outcome kind ∷ outcomes_of kinds (next ∷ figures))
+    ≡ cond b (overdraft_of next) (plain_outcome kind) ∷ outcomes_of kinds (cond b figures (next ∷ figures))) [
       | true ↦ refl
       | false ↦ refl
     ]
@@ -49,13 +47,13 @@ plain_first : (kind : ℕ) (kinds : List ℕ) (figures : List Shortage) → is_o
 plain_first kind kinds [] plain = refl
 plain_first kind kinds (next ∷ figures) plain =
     ap (λ (b : Bool).
-    cond b (overdraft next ∷ outcomes_of kinds figures) (plain_outcome kind ∷ outcomes_of kinds (next ∷ figures))) plain
+    cond b (overdraft_of next ∷ outcomes_of kinds figures) (plain_outcome kind ∷ outcomes_of kinds (next ∷ figures))) plain
 
 overdraft_first : (kind : ℕ) (kinds : List ℕ) (next : Shortage) (figures : List Shortage) → is_overdraft kind ≡ true
-    → outcomes_of (kind ∷ kinds) (next ∷ figures) ≡ overdraft next ∷ outcomes_of kinds figures
+    → outcomes_of (kind ∷ kinds) (next ∷ figures) ≡ overdraft_of next ∷ outcomes_of kinds figures
 overdraft_first kind kinds next figures over =
     ap (λ (b : Bool).
-    cond b (overdraft next ∷ outcomes_of kinds figures) (plain_outcome kind ∷ outcomes_of kinds (next ∷ figures))) over
+    cond b (overdraft_of next ∷ outcomes_of kinds figures) (plain_outcome kind ∷ outcomes_of kinds (next ∷ figures))) over
 
 -- ---- counts
 
@@ -97,7 +95,7 @@ append_first kind kinds more others later true over [] have =
     absurd (omega (arith, have, count_first true kind kinds over))
 append_first kind kinds more others later true over (next ∷ figures) have =
     overdraft_first kind (kinds ++ more) next (figures ++ others) over
-    ∙ ap (λ (list : List Outcome). overdraft next ∷ list)
+    ∙ ap (λ (list : List Outcome). overdraft_of next ∷ list)
     (later figures (omega (arith, have, count_first true kind kinds over)))
     ∙ ap (λ (list : List Outcome). list ++ outcomes_of more others) (sym (overdraft_first kind kinds next figures over))
 
@@ -191,7 +189,7 @@ plain_accepts kind =
     ]
 
 next_accepts : (b : Bool) (kind : ℕ) (next : Shortage) → is_overdraft kind ≡ b
-    → eqb kind 0 ≡ is_accepted (cond b (overdraft next) (plain_outcome kind))
+    → eqb kind 0 ≡ is_accepted (cond b (overdraft_of next) (plain_outcome kind))
 next_accepts true kind next over = ap (λ (k : ℕ). eqb k 0) (eqb-true kind 14 over)
 next_accepts false kind next plain = plain_accepts kind
 
@@ -262,10 +260,11 @@ module _ {kinds : List ℕ} {figures : List Shortage} {place next : ℕ} (left :
   pub next_within : get_or kinds place 0 ≡ 14 → next < length figures
   next_within over = omega (arith, over_count over)
 
-  next_overdraft : get_or kinds place 0 ≡ 14 → IsNext kinds figures place (next + 1) (overdraft (figures_at figures next))
+  next_overdraft : get_or kinds place 0 ≡ 14
+      → IsNext kinds figures place (next + 1) (overdraft_of (figures_at figures next))
   next_overdraft over =
       let kind = get_or kinds place 0 in
-      is_next there (next + 1) (overdraft (figures_at figures next))
+      is_next there (next + 1) (overdraft_of (figures_at figures next))
       (left.rest ∙ ap (λ (list : List ℕ). outcomes_of list (drop next figures)) (drop_more kinds place 0 there)
       ∙ ap (λ (list : List Shortage). outcomes_of (kind ∷ drop (place + 1) kinds) list)
       (drop_more figures next (record { seen = 0; need = 0 }) (next_within over))
@@ -274,7 +273,7 @@ module _ {kinds : List ℕ} {figures : List Shortage} {place next : ℕ} (left :
 
   pub overdraft_taken : get_or kinds place 0 ≡ 14
       → take (place + 1) (outcomes_of kinds figures)
-      ≡ take place (outcomes_of kinds figures) ++ overdraft (figures_at figures next) ∷ []
+      ≡ take place (outcomes_of kinds figures) ++ overdraft_of (figures_at figures next) ∷ []
   overdraft_taken over = (next_overdraft over).taken
 
   pub left_after_overdraft : get_or kinds place 0 ≡ 14 → AreLeft kinds figures (place + 1) (next + 1)

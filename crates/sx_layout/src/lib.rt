@@ -14,7 +14,8 @@
 //! encodes them from there. Contracts see the list of the outcomes.
 //!
 //! [`room`] answers whether a block may follow on a ledger, and whether all accounts and offers of the
-//! candidates would fit into it. It counts, takes no memory, and looks at no id and no key.
+//! candidates would fit into it. It counts, takes no memory, and looks at no id and no key. [`additions_of`] and
+//! [`room_for_additions`] are its two halves, for candidates that are counted in parts.
 //!
 //! A [`Layout`] says which word of which shard holds what: each balance is a purse, and each sequence
 //! number, each offer and each new id is a bit, at a [`Spot`]. [`layout_laws`] says that no two of them
@@ -90,5 +91,5 @@ pub use script::{MOST_ACTORS, MOST_TURNS, Script};
 pub use script_reading::read_script;
 pub use script_writing::write_script;
 pub use setting::Setting;
-pub use space::{NoRoom, room};
+pub use space::{Additions, NoRoom, additions_of, room, room_for_additions};
 pub use spot::Spot;

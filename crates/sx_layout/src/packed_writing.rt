@@ -33,7 +33,8 @@ fn put_plain(to: &mut Writer, kind: u8) -> Result<(), NoMemory>
     put_outcome(to, &plain(kind))
 }
 
-// Appends the outcome of a kind, and answers which figures are the next then. An overdraft has these.
+// Appends the outcome of a kind. An overdraft has the figures at the place `next`. The answer is the place of those that
+// the next overdraft has.
 #[inline]
 #[tactic(auto, using(sx_bytes::proofs::Written::begins))]
 fn put_kind(
