@@ -1,19 +1,23 @@
 -- A level of the tree as the code keeps it: the first digests, and the one at all places after them.
-use Rattle.std.specs.Prelude.{◌≡◌, ℕ, ◌+◌, ◌*◌, ◌<◌, List, Some, length, slice_get, slice_index_or}
+use Rattle.std.specs.Prelude.{◌≡◌, ℕ, zero, suc, ◌+◌, ◌*◌, ◌<◌, List, length, slice_index_or}
 use Rattle.sha2.specs.Sha256.{sha256}
 use Rattle.sx_commit.specs.declared.level.Level.{Level}
-use Rattle.sx_commit.specs.Commitments.{digest_at, leaf_bytes, node_bytes}
-use Rattle.sx_ledger.specs.declared.account.Account.{Account}
+use Rattle.sx_commit.specs.Commitments.{digest_at, empty_bytes, node_bytes}
 use Rattle.sx_ledger.specs.declared.parts.Parts.{Parts}
 
--- it is the digest of the account at a place
-abbrev pub IsLeaf : ℕ → List Account → ℕ → List ℕ → Type 0
-IsLeaf version accounts place digest =
-    (account : Account) → slice_get accounts place ≡ Some account → digest ≡ sha256 (leaf_bytes version account)
+-- the lowest level that is kept
+abbrev pub lowest : ℕ
+lowest = 7
 
-abbrev pub AreLeaves : ℕ → List Account → List (List ℕ) → Type 0
-AreLeaves version accounts digests =
-    (place : ℕ) (d : List ℕ) → place < length digests → IsLeaf version accounts place (slice_index_or digests place d)
+-- the digest at a level over places without an account
+unfoldable pub nothing_at : ℕ → List ℕ
+nothing_at zero = sha256 empty_bytes
+nothing_at (suc level) = sha256 (node_bytes (nothing_at level) (nothing_at level))
+
+-- they are the first digests of the lowest level
+abbrev pub AreLowest : Parts → List (List ℕ) → Type 0
+AreLowest parts digests =
+    (place : ℕ) (d : List ℕ) → place < length digests → slice_index_or digests place d ≡ digest_at parts lowest place
 
 abbrev pub level_at : Level → ℕ → List ℕ
 level_at level place = slice_index_or level.digests.items place level.empty

@@ -1,20 +1,25 @@
 //! One level of the tree of digests.
 
 ghost use Rattle.std.specs.Prelude.{◌≡◌, ◌<◌, ◌≤◌, ◌^◌, IfOk, length};
-ghost use Rattle.sx_commit.specs.Levels.{AreLeaves, AreNodes, IsAbove, IsLeaf, IsLevel, level_at, node_at};
+ghost use Rattle.sx_commit.specs.Commitments.{digest_at};
+ghost use Rattle.sx_commit.specs.Levels.{AreLowest, AreNodes, IsAbove, IsLevel, level_at, lowest, node_at, nothing_at};
 
-use crate::hashing::{empty_digest, leaf_digest, node_digest};
+use crate::hashing::{empty_digest, node_digest};
+use crate::subtree::digest_over;
 use std::alloc::Global;
 use std::thread::{Threads, for_each_mut};
 use sx_block::Digest;
 use sx_bytes::NoMemory;
-use sx_ledger::{Account, Ledger};
+use sx_ledger::{Ledger, Parts};
 
-// How many digests are worth a thread of their own. Making them takes half a millisecond, and to start a thread a small
-// part of that.
+// The lowest level that is kept. Each of its digests is made of 128 accounts.
+pub(crate) const LOWEST: usize = 7;
+
+// How many accounts are worth a thread of their own. Making their digests takes half a millisecond or more, and to
+// start a thread a small part of that.
 const WORTH_A_THREAD: usize = 1_024;
 
-// How many of the workers make a part of so many digests.
+// How many of the workers make a part of the digests of so many accounts.
 fn makers(count: usize, workers: u32) -> usize
     requires { 1 ≤ workers }
     ensures { 1 ≤ result }
@@ -22,29 +27,34 @@ fn makers(count: usize, workers: u32) -> usize
     (count / WORTH_A_THREAD).clamp(1, workers as usize)
 }
 
-// Makes the digest of each account.
-fn make_leaves<R: Threads + Sync>(
-    rt: &R,
-    version: u8,
-    accounts: &[Account],
-    workers: u32,
-    digests: &mut [Digest],
-)
-    requires some { 1 ≤ workers }
-    requires one_each { length digests.old ≡ length accounts.now }
-    ensures one_each { length digests.new ≡ length accounts.now }
-    ensures leaves { AreLeaves version accounts.now digests.new }
+// The digest at the lowest level over places without an account.
+fn empty_lowest() -> Digest
+    ensures { result ≡ nothing_at lowest }
 {
-    let threads = makers(accounts.len(), workers);
+    let mut empty = empty_digest();
+    for _ in 0..LOWEST {
+        empty = node_digest(&empty, &empty);
+    }
+    empty
+}
+
+// Makes the first digests of the lowest level.
+fn make_lowest<R: Threads + Sync>(rt: &R, parts: &Parts, workers: u32, digests: &mut [Digest])
+    requires some { 1 ≤ workers }
+    requires few { length digests.old ≤ 2 ^ 56 }
+    ensures one_each { length digests.new ≡ length digests.old }
+    ensures digests { AreLowest parts.now digests.new }
+{
+    let threads = makers(parts.accounts.items().len(), workers);
     for_each_mut(
         rt,
         digests,
         threads,
         &|place: usize, digest: &mut Digest|
-            requires { place < length accounts.now }
-            ensures { IsLeaf version accounts.entry.now place digest.exit.now }
+            requires { place < 2 ^ 56 }
+            ensures { digest.exit.now ≡ digest_at parts.entry.now lowest place }
         {
-            *digest = leaf_digest(version, &accounts[place]);
+            *digest = digest_over(parts, LOWEST, place);
         },
     );
 }
@@ -57,21 +67,21 @@ pub(crate) struct Level {
 }
 
 impl Level {
-    // The digests of the accounts. So many workers make them.
-    pub(crate) fn leaves<R: Threads + Sync>(
+    // The lowest level that is kept. So many workers make it.
+    pub(crate) fn lowest<R: Threads + Sync>(
         rt: &R,
         alloc: Global,
         ledger: &Ledger,
         workers: u32,
     ) -> Result<Level, NoMemory>
         requires { 1 ≤ workers }
-        ensures { IfOk result (λ level. IsLevel ledger.now 0 level) }
+        ensures { IfOk result (λ level. IsLevel ledger.now lowest level) }
     {
         let parts = ledger.parts();
-        let accounts = parts.accounts.items();
-        let empty = empty_digest();
-        let mut digests = vec![in alloc; empty; accounts.len()]?;
-        make_leaves(rt, parts.version, accounts, workers, &mut digests);
+        let count = parts.accounts.items().len().div_ceil(1 << LOWEST);
+        let empty = empty_lowest();
+        let mut digests = vec![in alloc; empty; count]?;
+        make_lowest(rt, parts, workers, &mut digests);
         Ok(Level { digests, empty })
     }
 
@@ -97,40 +107,24 @@ impl Level {
     }
 
     // Makes the digest over each two places of this level.
-    fn make_nodes<R: Threads + Sync>(&self, rt: &R, workers: u32, digests: &mut [Digest])
-        requires some { 1 ≤ workers }
+    fn make_nodes(&self, digests: &mut [Digest])
         requires few { length digests.old ≤ 2 ^ 63 }
         ensures one_each { length digests.new ≡ length digests.old }
         ensures nodes { AreNodes self.now digests.new }
     {
-        let threads = makers(digests.len(), workers);
-        for_each_mut(
-            rt,
-            digests,
-            threads,
-            &|place: usize, digest: &mut Digest|
-                requires { place < 2 ^ 63 }
-                ensures { digest.exit.now ≡ node_at self.entry.now place }
-            {
-                *digest = self.node(place);
-            },
-        );
+        for place in 0..digests.len() {
+            digests[place] = self.node(place);
+        }
     }
 
-    // The level above. So many workers make it.
-    pub(crate) fn above<R: Threads + Sync>(
-        &self,
-        rt: &R,
-        alloc: Global,
-        workers: u32,
-    ) -> Result<Level, NoMemory>
-        requires { 1 ≤ workers }
+    // The level above.
+    pub(crate) fn above(&self, alloc: Global) -> Result<Level, NoMemory>
         ensures { IfOk result (λ level. IsAbove self.now level) }
     {
         let count = self.digests.len().div_ceil(2);
         let empty = node_digest(&self.empty, &self.empty);
         let mut digests = vec![in alloc; empty; count]?;
-        self.make_nodes(rt, workers, &mut digests);
+        self.make_nodes(&mut digests);
         Ok(Level { digests, empty })
     }
 }

@@ -26,9 +26,10 @@
 //! proof have it and that each fits a record.
 //!
 //! Cost: all places after the accounts have one digest at each level, so that a root or a proof takes about
-//! twice as many digests as there are accounts, and memory for one level and the one above it. The levels are made
-//! one after the other. Of a level with 2,048 digests or more several threads make a part each, which are started for
-//! it and joined after it.
+//! twice as many digests as there are accounts. Each digest of level 7 is made of its 128 places at once, and no
+//! digest below it is kept; the levels above are made one after the other. So the call takes memory for a digest of
+//! each 128 accounts, and for one level more. Where there are 2,048 accounts or more, several threads make a part of
+//! level 7 each. They are started and joined once.
 //!
 //! Not here: that nobody finds such a collision, for which SHA-256 is trusted.
 //!
@@ -41,9 +42,11 @@ mod collision;
 mod committing;
 mod hashing;
 mod laws;
+mod leaf;
 mod level;
 mod proof;
 mod reading;
+mod subtree;
 mod verifying;
 mod writing;
 

@@ -4,10 +4,10 @@ use Rattle.sx_commit.proofs.Digests.{digest_is}
 use Rattle.sx_commit.proofs.Levels.{one_up}
 use Rattle.sx_commit.proofs.committing.commit.Goals as goal
 
-pub loop-preserved : goal.loop-preserved
-loop-preserved g c =
-    one_up c.args.ledger.now c.loop.counter c.loop.level c.in_ok-level-2.level c.loop.invariant c.in_ok-level-2.ensures
+pub loop-k-preserved : goal.loop-k-preserved
+loop-k-preserved g c =
+    one_up c.args.ledger.now c.loop-k.k c.loop-k.level c.in_ok-level-2.level c.loop-k.invariant c.in_ok-level-2.ensures
 
 pub returns-clause-digest : goal.returns-clause-digest
 returns-clause-digest g c =
-    subst IsDigest (sym (c.at.ensures ∙ c.loop.invariant 0)) (digest_is c.args.ledger.now c.loop.counter 0)
+    subst IsDigest (sym (c.at.ensures ∙ c.loop-k.invariant 0)) (digest_is c.args.ledger.now c.loop-k.k 0)

@@ -1,13 +1,13 @@
-use Rattle.std.proofs.Common.{ap, sym, ◌∙◌}
+use Rattle.std.proofs.Common.{ap, ◌∙◌}
 use Rattle.sx_commit.specs.Commitments.{digest_at, sibling_at}
 use Rattle.sx_commit.proofs.Levels.{one_up}
-use Rattle.sx_commit.proofs.Listing.{listed_none, pushed}
+use Rattle.sx_commit.proofs.Listing.{pushed}
 use Rattle.sx_commit.proofs.committing.siblings.Goals as goal
 
 pub loop-k-init : goal.loop-k-init
 loop-k-init g c = (
   c.in_ok-level.ensures,
-  c.in_ok-siblings.ensures.items ∙ sym (listed_none (sibling_at c.args.ledger.now c.args.place)),
+  c.in_ok-siblings.ensures,
 )
 
 pub loop-k-preserved : goal.loop-k-preserved

@@ -1,5 +1,7 @@
-use Rattle.std.proofs.Common.{◌≡◌, ℕ, List, [], ◌∷◌, ◌++◌, ap, ◌∙◌, append_assoc, rules}
+use Rattle.std.proofs.Common.{◌≡◌, ℕ, List, [], ◌∷◌, ◌++◌, take, ap, sym, ◌∙◌, append_assoc}
 use Rattle.std.specs.List.{flat_map}
+use Rattle.std.proofs.lemmas.Grind.{flat_map-append}
+use Rattle.std.proofs.lemmas.List.{take-append-drop}
 use Rattle.byteorder.specs.Endian.{big_bytes}
 use Rattle.sha2.specs.Sha256.{sha256}
 use Rattle.sx_commit.specs.Commitments.{leaf_bytes}
@@ -10,16 +12,22 @@ pub returns-clause-hash : goal.returns-clause-hash
 returns-clause-hash c =
     let version = c.args.version in
     let account = c.args.account.now in
-    let head = c.as_slice.result.now in
-    let id = c.as_slice-2.result.now in
+    let first = c.split_at.result.0.now in
+    let others = c.split_at.result.1.now in
+    let units = flat_map (big_bytes 8) in
+    let id = big_bytes 8 account.id.0 in
     let window = window_bytes version account.window in
-    let balances = flat_map (big_bytes 8) c.items.result.now in
-    let head_is : head ≡ 0 ∷ version ∷ [] = search rules in
-    let id_is : id ≡ big_bytes 8 account.id.0 = search rules in
-    let held = c.add_balances.ensures ((head ++ id) ++ window)
-    (c.add_window.ensures (head ++ id) (c.update-2.ensures head (c.update.ensures [] c.new-hasher.ensures))) in
-    let pieces : ((head ++ id) ++ window) ++ balances ≡ leaf_bytes version account =
-    (λ i. ((head_is i ++ id_is i) ++ window) ++ flat_map (big_bytes 8) (c.items.ensures i))
-    ∙ ap (λ (rest : List ℕ). 0 ∷ version ∷ rest)
-    (append_assoc (big_bytes 8 account.id.0) window (flat_map (big_bytes 8) account.balances)) in
-    c.of.ensures.bytes ∙ c.finalize.ensures (((head ++ id) ++ window) ++ balances) held ∙ ap sha256 pieces
+    let text = take c.put_leaf-end.result c.put_leaf-end.new.text in
+    let held = c.add_balances.ensures text (c.update.ensures [] c.new-hasher.ensures) in
+    let whole : first ++ others ≡ account.balances =
+    (λ i. c.split_at.ensures.front i ++ c.split_at.ensures.back i)
+    ∙ take-append-drop c.min.result c.items-balances.result.now ∙ c.items-balances.ensures in
+    let all : units first ++ units others ≡ units account.balances =
+    sym (flat_map-append (big_bytes 8) first others) ∙ ap units whole in
+    let pieces : text ++ units others ≡ leaf_bytes version account =
+    ap (λ (laid : List ℕ). laid ++ units others) c.put_leaf-end.ensures.bytes
+    ∙ ap (λ (after : List ℕ). 0 ∷ version ∷ after)
+    (append_assoc id (window ++ units first) (units others)
+    ∙ ap (λ (after : List ℕ). id ++ after)
+    (append_assoc window (units first) (units others) ∙ ap (λ (after : List ℕ). window ++ after) all)) in
+    c.of.ensures.bytes ∙ c.finalize.ensures (text ++ units others) held ∙ ap sha256 pieces

@@ -3,7 +3,7 @@ use Rattle.sx_commit.proofs.Levels.{above_is, node_in, written_is}
 use Rattle.sx_commit.proofs.level.Level.above.Goals as goal
 
 pub returns : goal.returns
-returns g c =
+returns c =
     let below = c.args.self.now.digests.items in
     let nothing = c.args.self.now.empty in
     let digests = c.make_nodes.new.digests in
