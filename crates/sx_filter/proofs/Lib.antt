@@ -18,3 +18,5 @@ pub mod Locals
 pub mod KeptParts
 pub mod Few
 pub mod WholeBodies
+pub mod Joined
+pub mod AdditionLaws

@@ -6,3 +6,4 @@ pub mod Verdicts
 pub mod Named
 pub mod Runs
 pub mod Ranges
+pub mod Additions

@@ -2,7 +2,6 @@
 
 ghost use Rattle.std.specs.Prelude.{◌≡◌, ◌≤◌, length, IfOk, IfErr, Err};
 ghost use Rattle.sx_filter.specs.Fault.{fault_of as the_fault, IsFaultOf};
-ghost use Rattle.std.specs.Thread.{IsSync};
 ghost use Rattle.sx_filter.specs.Kept.{kept_of};
 ghost use Rattle.sx_filter.specs.Ranges.{AreParted};
 ghost use Rattle.sx_layout.specs.declared.space.NoRoom.{NoRoom as WhyNoRoom};
@@ -10,65 +9,58 @@ ghost use Rattle.sx_layout.specs.Room.{room_for};
 ghost use Rattle.sx_ledger.specs.Body.{IsAdmissible};
 ghost use Rattle.sx_tx.specs.Transactions.{most_transactions};
 
+use crate::counting::room_for_parts;
 use crate::fault::FilterFault;
 use crate::keeping::kept_in_parts;
-use crate::kept::Kept;
 use crate::parting::parts_of;
 use std::alloc::Global;
-use std::thread::{Threads, join};
+use std::thread::Threads;
 use sx_bytes::NoMemory;
-use sx_layout::{NoRoom, room};
+use sx_layout::room;
 use sx_ledger::Ledger;
-use sx_tx::{Tx, TxList};
+use sx_tx::{Tx, TxList, TxParts};
 
-// Whether there is room for candidates, and those that pass by ranges of accounts. Where there are several workers, a
-// thread of its own counts what the candidates ask for.
-fn room_and_parts<R: Threads + Sync>(
-    rt: &R,
-    alloc: Global,
-    ledger: &Ledger,
-    candidates: &[Tx],
-    workers: u32,
-) -> (Result<(), NoRoom>, Result<Vec<TxList>, NoMemory>)
-    requires few_candidates { length candidates.now ≤ most_transactions }
-    ensures room { result.0 ≡ room_for ledger.now candidates.now }
-    ensures parts { IfOk result.1 (λ parts. AreParted ledger.now candidates.now parts.items) }
+// A copy of candidates, in one part.
+fn copy_of(alloc: Global, candidates: &[Tx]) -> Result<TxParts, NoMemory>
+    ensures { IfOk result (λ copy. copy ≡ candidates.now) }
 {
-    if workers == 1 {
-        let space = room(ledger, candidates);
-        return (space, parts_of(rt, alloc, ledger, candidates, workers));
-    }
-    join(
-        rt,
-        || -> Result<(), NoRoom>
-            requires { length candidates.now ≤ most_transactions }
-            ensures { result ≡ room_for ledger.entry.now candidates.entry.now }
-        { room(ledger, candidates) },
-        || -> Result<Vec<TxList>, NoMemory>
-            requires { IsSync R.row × (length candidates.now ≤ most_transactions) }
-            ensures { IfOk result (λ parts. AreParted ledger.entry.now candidates.entry.now parts.items) }
-        { parts_of(rt, alloc, ledger, candidates, workers) },
-    )
+    let mut parts = Vec::with_capacity(alloc, 1)?;
+    parts.push(TxList::of(candidates.to_vec(alloc)?))?;
+    Ok(TxParts::of(parts))
 }
 
-// The same of a list, which goes as soon as the parts are found.
-fn room_and_parts_of_list<R: Threads + Sync>(
+// Those that pass, by ranges of accounts. The candidates go as soon as these are found.
+fn passing_parts<R: Threads + Sync>(
     rt: &R,
     alloc: Global,
     ledger: &Ledger,
-    candidates: TxList,
+    candidates: TxParts,
     workers: u32,
-) -> (Result<(), NoRoom>, Result<Vec<TxList>, NoMemory>)
+) -> Result<Vec<TxList>, NoMemory>
     requires few_candidates { length candidates ≤ most_transactions }
-    ensures room { result.0 ≡ room_for ledger.now candidates }
-    ensures parts { IfOk result.1 (λ parts. AreParted ledger.now candidates parts.items) }
+    ensures { IfOk result (λ parts. AreParted ledger.now candidates parts.items) }
 {
-    room_and_parts(rt, alloc, ledger, candidates.items(), workers)
+    parts_of(rt, alloc, ledger, &candidates, workers)
+}
+
+// What is kept of candidates, whether or not there is room for them.
+fn kept<R: Threads + Sync>(
+    rt: &R,
+    alloc: Global,
+    ledger: &Ledger,
+    candidates: TxParts,
+    workers: u32,
+) -> Result<TxParts, NoMemory>
+    requires few_candidates { length candidates ≤ most_transactions }
+    ensures { IfOk result (λ txs. txs ≡ kept_of ledger.now candidates) }
+{
+    let parts = passing_parts(rt, alloc, ledger, candidates, workers)?;
+    kept_in_parts(rt, alloc, ledger, parts)
 }
 
 /// Chooses of at most 1,000,000 candidates of a ledger those that no other candidate stands in the way of,
 /// sorted by account and then by sequence number. The work is shared among 1 to 64 workers by ranges of accounts. The
-/// answer is the same for every number of them.
+/// answer is the same for every number of them. It works on a copy of the candidates, where there is room for them.
 ///
 /// A candidate is kept where the ledger's own test passes it and, among all that pass, no other has its account and
 /// number, no other cancels its offer, no other creates its account, and its account holds of each asset
@@ -93,20 +85,22 @@ pub fn filter<R: Threads + Sync>(
     ensures no_room { (why : WhyNoRoom) → room_for ledger.now candidates.now ≡ Err why → result ≡ Err (the_fault why) }
     ensures fault { IfErr result (IsFaultOf (room_for ledger.now candidates.now)) }
 {
-    let (space, parts) = room_and_parts(rt, alloc, ledger, candidates, workers);
-    space?;
-    let kept = kept_in_parts(rt, alloc, ledger, parts?)?;
-    Ok(kept.into_list(alloc)?)
+    room(ledger, candidates)?;
+    let copy = copy_of(alloc, candidates)?;
+    let txs = kept(rt, alloc, ledger, copy, workers)?;
+    Ok(txs.into_list(alloc)?)
 }
 
-/// The same of a list that the caller needs no more, in parts. Its memory serves again as soon as they are found.
+/// The same of candidates in parts, which the caller needs no more. No copy is made of them, and their memory serves
+/// again as soon as threads have selected those of their ranges. What is kept comes in parts too, one for each range of
+/// accounts. Some may be empty.
 pub fn filter_list<R: Threads + Sync>(
     rt: &R,
     alloc: Global,
     ledger: &Ledger,
-    candidates: TxList,
+    candidates: TxParts,
     workers: u32,
-) -> Result<Kept, FilterFault>
+) -> Result<TxParts, FilterFault>
     requires few_candidates { length candidates ≤ most_transactions }
     requires some_worker { 1 ≤ workers }
     requires few_workers { workers ≤ 64 }
@@ -116,7 +110,6 @@ pub fn filter_list<R: Threads + Sync>(
     ensures no_room { (why : WhyNoRoom) → room_for ledger.now candidates ≡ Err why → result ≡ Err (the_fault why) }
     ensures fault { IfErr result (IsFaultOf (room_for ledger.now candidates)) }
 {
-    let (space, parts) = room_and_parts_of_list(rt, alloc, ledger, candidates, workers);
-    space?;
-    Ok(kept_in_parts(rt, alloc, ledger, parts?)?)
+    room_for_parts(rt, ledger, &candidates, workers)?;
+    Ok(kept(rt, alloc, ledger, candidates, workers)?)
 }

@@ -10,15 +10,13 @@ ghost use Rattle.sx_ledger.specs.Body.{created};
 ghost use Rattle.sx_tx.specs.declared.tx.Tx.{Tx as Transaction};
 
 use crate::alone::alone;
-use crate::kept::Kept;
-use crate::lists::joined;
 use crate::named::{Ids, created_ids};
 use crate::seen::Seen;
 use std::alloc::Global;
 use std::thread::{Threads, map_indices, map_vec};
-use sx_bytes::{NoMemory, all_of};
+use sx_bytes::{ListInParts, NoMemory, all_of};
 use sx_ledger::Ledger;
-use sx_tx::TxList;
+use sx_tx::{TxList, TxParts};
 
 // The ids of the accounts that the candidates of all parts create, since those of two parts may create one account.
 fn ids_of<R: Threads + Sync>(rt: &R, alloc: Global, lists: &[TxList]) -> Result<Seen<u64>, NoMemory>
@@ -35,7 +33,8 @@ fn ids_of<R: Threads + Sync>(rt: &R, alloc: Global, lists: &[TxList]) -> Result<
         { created_ids(alloc, lists[place].items()) },
     )?;
     let found = all_of(alloc, results)?;
-    Ok(Seen::of(joined(alloc, &found)?.into_items()))
+    let ids = ListInParts::of(found).into_list(alloc)?;
+    Ok(Seen::of(ids.into_items()))
 }
 
 // What is kept of each part, where all candidates create the ids.
@@ -68,11 +67,11 @@ pub(crate) fn kept_in_parts<R: Threads + Sync>(
     alloc: Global,
     ledger: &Ledger,
     parts: Vec<TxList>,
-) -> Result<Kept, NoMemory>
+) -> Result<TxParts, NoMemory>
     requires passed { ArePassed ledger.now parts.items }
     ensures { (candidates : List Transaction) → AreParted ledger.now candidates parts.items
         → IfOk result (λ kept. kept ≡ kept_of ledger.now candidates) }
 {
     let ids = ids_of(rt, alloc, &parts)?;
-    Ok(Kept::of(each_alone(rt, alloc, ledger, parts, &ids)?))
+    Ok(TxParts::of(each_alone(rt, alloc, ledger, parts, &ids)?))
 }

@@ -17,22 +17,26 @@
 //! candidates that fall out for another reason. `specs/Kept` says so over plain lists, and the answer is exactly that,
 //! sorted by account and then by number.
 //!
-//! [`filter_list`] does the same of a list that the caller needs no more, and answers [`Kept`]: one list, in the
-//! parts that threads found.
+//! [`filter_list`] does the same of candidates in parts that the caller needs no more, as threads decode them, and
+//! answers what is kept in parts too: one list, in the parts that threads found.
 //!
 //! So the answer is a function of the ledger and the candidates: it is the same for every number of
 //! workers. [`filter_laws`] says that the order of the candidates is of no account, that what is kept is
 //! the body of a block by the rule of version 1, and that a gathering of what is kept accepts all of it.
 //!
-//! Cost: the ids of accounts are cut into ranges, one for each worker and at most eight, where there are enough
+//! Cost: first it is seen whether there is room. For `filter_list`, where there are several parts and workers, threads
+//! count what candidates would add, each in some of the parts. Where there is no room, nothing more is done.
+//!
+//! Then the ids of accounts are cut into ranges, one for each worker and at most eight, where there are enough
 //! candidates. A thread for each range selects its candidates out of all of them, sorts them and puts each to the
 //! ledger's test, with next to no search for an account. Then two of one number are neighbours in a part, and the
 //! candidates of an account are a run in it, of which the debits are summed up with one search for the account. The
 //! offers that candidates of a part cancel are sorted too, and the ids that those of all parts create, and they cost
-//! nothing where there are none. By these, again a thread for each part chooses what is kept of it. Where there are
-//! several workers, a thread of its own sees whether there is room, beside the first of this. Beside the list of
-//! candidates no memory is taken but the lists of those of each range, in which what is kept stays, and one answer of
-//! yes or no for each that passes.
+//! nothing where there are none. By these, again a thread for each part chooses what is kept of it.
+//!
+//! Beside the list of candidates no memory is taken but the lists of those of each range, in which what is kept stays,
+//! and one answer of yes or no for each that passes. `filter` takes memory for a copy of its candidates too, and for
+//! one list of what is kept.
 //!
 //! Not here: what is kept is not the most that could be kept, since of two that exclude each other neither is.
 //! Nothing says that workers run at the same time.
@@ -43,13 +47,12 @@
 #![tactic(auto)]
 
 mod alone;
+mod counting;
 mod fault;
 mod filtering;
 mod keeping;
-mod kept;
 mod kinds;
 mod laws;
-mod lists;
 mod named;
 mod parting;
 mod ranges;
@@ -58,5 +61,4 @@ mod seen;
 
 pub use fault::FilterFault;
 pub use filtering::{filter, filter_list};
-pub use kept::Kept;
 pub use laws::filter_laws;

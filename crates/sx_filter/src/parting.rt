@@ -1,7 +1,7 @@
 //! The candidates that pass the ledger's test, sorted, by ranges of accounts: a thread for each range.
 
-ghost use Rattle.std.specs.Prelude.{◌≡◌, ◌+◌, ◌<◌, ◌≤◌, IfOk, length};
-ghost use Rattle.std.specs.List.{filter as those};
+ghost use Rattle.std.specs.Prelude.{◌≡◌, ◌+◌, ◌++◌, ◌<◌, ◌≤◌, IfOk, OnOk, length};
+ghost use Rattle.std.specs.List.{filter as those, flat_map};
 ghost use Rattle.std.specs.List.Sorted.{IsPermutation, IsSortedBy};
 ghost use Rattle.sx_filter.specs.Kept.{passes, passing};
 ghost use Rattle.sx_filter.specs.Ranges.{AreParted, AreParts, IsPart, is_in};
@@ -16,19 +16,47 @@ use std::thread::{Threads, map_indices};
 use sx_bytes::{NoMemory, all_of};
 use sx_layout::sort_txs;
 use sx_ledger::{AccountIndex, Ledger};
-use sx_tx::{Tx, TxList};
+use sx_tx::{Tx, TxList, TxParts};
 
-// The candidates of a range. Where the ranges are about even, their list does not grow.
-fn select(alloc: Global, candidates: &[Tx], cuts: &[u64], range: usize) -> Result<Vec<Tx>, NoMemory>
-    requires few { length candidates.now ≤ most_transactions }
-    ensures { IfOk result (λ txs. txs.items ≡ those (is_in cuts.now range) candidates.now) }
+// How many candidates stand in all lists.
+fn count_of(lists: &[TxList]) -> usize
+    requires { length (flat_map (λ list. list) lists.now) ≤ most_transactions }
+    ensures { result ≡ length (flat_map (λ list. list) lists.now) }
 {
-    let share = candidates.len() / (cuts.len() + 1);
-    let mut txs = Vec::with_capacity(alloc, share + share / 8)?;
-    for tx in candidates {
+    let mut count = 0;
+    for list in lists {
+        count += list.items().len();
+    }
+    count
+}
+
+// Puts the candidates of a range out of a list behind those that are there.
+fn select_from(list: &[Tx], cuts: &[u64], range: usize, txs: &mut Vec<Tx>) -> Result<(), NoMemory>
+    ensures { OnOk result (txs.new.items ≡ txs.old.items ++ those (is_in cuts.now range) list.now) }
+{
+    for tx in list {
         if range_of(cuts, tx.account.0) == range {
             txs.push(*tx)?;
         }
+    }
+    Ok(())
+}
+
+// The candidates of a range. Where the ranges are about even, their list does not grow.
+fn select(
+    alloc: Global,
+    candidates: &TxParts,
+    cuts: &[u64],
+    range: usize,
+) -> Result<Vec<Tx>, NoMemory>
+    requires few { length candidates.now ≤ most_transactions }
+    ensures { IfOk result (λ txs. txs.items ≡ those (is_in cuts.now range) candidates.now) }
+{
+    let lists = candidates.parts();
+    let share = count_of(lists) / (cuts.len() + 1);
+    let mut txs = Vec::with_capacity(alloc, share + share / 8)?;
+    for list in lists {
+        select_from(list.items(), cuts, range, &mut txs)?;
     }
     Ok(txs)
 }
@@ -64,7 +92,7 @@ fn part_of(
     alloc: Global,
     ledger: &Ledger,
     index: &AccountIndex,
-    candidates: &[Tx],
+    candidates: &TxParts,
     cuts: &[u64],
     range: usize,
 ) -> Result<TxList, NoMemory>
@@ -84,7 +112,7 @@ fn parts_between<R: Threads + Sync>(
     alloc: Global,
     ledger: &Ledger,
     index: &AccountIndex,
-    candidates: &[Tx],
+    candidates: &TxParts,
     cuts: &[u64],
 ) -> Result<Vec<TxList>, NoMemory>
     requires index { index.now ≡ ids ledger.now.accounts }
@@ -108,13 +136,13 @@ pub(crate) fn parts_of<R: Threads + Sync>(
     rt: &R,
     alloc: Global,
     ledger: &Ledger,
-    candidates: &[Tx],
+    candidates: &TxParts,
     workers: u32,
 ) -> Result<Vec<TxList>, NoMemory>
     requires few { length candidates.now ≤ most_transactions }
     ensures { IfOk result (λ parts. AreParted ledger.now candidates.now parts.items) }
 {
     let index = ledger.index()?;
-    let cuts = cuts_of(alloc, ledger, candidates.len(), workers)?;
+    let cuts = cuts_of(alloc, ledger, count_of(candidates.parts()), workers)?;
     parts_between(rt, alloc, ledger, &index, candidates, &cuts)
 }

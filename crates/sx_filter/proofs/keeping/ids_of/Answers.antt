@@ -1,4 +1,4 @@
-use Rattle.std.proofs.Common.{◌≡◌, ℕ, List, Ok, map, subst, ap, nat_cmp, ◌∙◌, arith}
+use Rattle.std.proofs.Common.{◌≡◌, ℕ, List, Ok, map, subst, nat_cmp, ◌∙◌, arith}
 use Rattle.std.specs.List.{flat_map}
 use Rattle.sx_filter.specs.Named.{IsSeen}
 use Rattle.sx_filter.proofs.KeptParts.{ids_found}
@@ -13,8 +13,7 @@ returns g c =
     let found = c.in_ok-found.found.items in
     let are : results.items ≡ map Ok found = c.in_ok-found.ensures in
     let same : c.into_items.result.items ≡ created (flat_map (λ (list : List Tx). list) lists) =
-    c.into_items.ensures ∙ c.in_ok-joined.ensures
-    ∙ ap (λ (xss : List (List ℕ)). flat_map (λ list. list) xss) c.deref.ensures.value
+    c.into_items.ensures ∙ c.in_ok-ids.ensures ∙ c.of.ensures
     ∙ ids_found lists results.items found are (omega (arith, c.in_ok-results.ensures.len, results.ok))
     (λ i d lt. (c.in_ok-results.ensures.each i d (omega (arith, lt, c.in_ok-results.ensures.len, results.ok))).1.met) in
-    subst (λ (keys : List ℕ). IsSeen nat_cmp keys c.of.result) same c.of.ensures
+    subst (λ (keys : List ℕ). IsSeen nat_cmp keys c.of-2.result) same c.of-2.ensures
