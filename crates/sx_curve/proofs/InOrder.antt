@@ -1,4 +1,4 @@
--- Quotes that a sort leaves are in order, and so are their pairs and the limits of each pair.
+-- Quotes that a sort leaves are in order, and so are their pairs. Limits in order part at a quotient.
 use Rattle.std.proofs.Common.{◌≡◌, ℕ, zero, suc, ◌+◌, ◌-◌, ◌<◌, ◌≤◌, false, List, length, get_or, inl, inr, refl, sym}
 use Rattle.std.proofs.Common.{subst, arith}
 use Rattle.std.specs.List.Sorted.{IsNonDecreasingBy, IsPartitionedBy, IsSorted}
@@ -8,9 +8,9 @@ use Rattle.std.specs.Ordering.{is_lt, nat_cmp, ordering_then}
 use Rattle.std.proofs.lemmas.Bool.{cases_order, eq-eqb, le-leb, le-ltb, leb-true, lt-ltb}
 use Rattle.std.proofs.Math.Nat.{mul-le-mul_right}
 use Rattle.sx_curve.specs.contracts.quote.QuoteOrd.TheImpl as derived
+use Rattle.sx_curve.specs.declared.points.Point.{Point}
 use Rattle.sx_curve.specs.declared.quote.Quote.{Quote}
-use Rattle.sx_curve.specs.Curves.{AreInOrder, AreQuotes, IsUpTo, place_of_quote}
-use Rattle.sx_curve.specs.Quotes.{is_below}
+use Rattle.sx_curve.specs.Curves.{AreInOrder, AreQuotes, IsUpTo, is_point_below, place_of_quote}
 
 -- ---- two quotes
 
@@ -99,8 +99,8 @@ places_rise assets quotes market in_order i j d le lt =
       | inr apart ↦ omega (arith, up.sell)
     ]
 
-pub limits_part : (pair : List Quote) (num den : ℕ) → IsNonDecreasingBy (λ quote. quote.limit) pair
-    → IsPartitionedBy (is_below num den) pair
+pub limits_part : (pair : List Point) (num den : ℕ) → IsNonDecreasingBy (λ point. point.limit) pair
+    → IsPartitionedBy (is_point_below num den) pair
 limits_part pair num den rise i j d le lt below =
     let less = mul-le-mul_right den (rise i j d le lt) in
     le-leb _ _ (omega (arith, leb-true _ _ below))

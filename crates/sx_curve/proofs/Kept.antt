@@ -1,10 +1,8 @@
 -- What the entries that curves keep say of the quotes.
-use Rattle.std.proofs.Common.{◌≡◌, ℕ, ◌+◌, ◌<◌, ◌≤◌, List, length, get_or, take, sym, ap, subst, ◌∙◌, arith}
+use Rattle.std.proofs.Common.{◌≡◌, ℕ, ◌+◌, ◌<◌, List, get_or, sym, subst, arith}
 use Rattle.std.proofs.lemmas.List.{get_or_read}
-use Rattle.sx_curve.specs.declared.prefixes.Prefix.{Prefix}
 use Rattle.sx_curve.specs.declared.quote.Quote.{Quote}
-use Rattle.sx_curve.specs.Curves.{AreBegins, ArePrefixSums, BeginsAt, IsPairRange, place_of_pair}
-use Rattle.sx_curve.specs.Quotes.{amounts, weighted_amounts}
+use Rattle.sx_curve.specs.Curves.{AreBegins, BeginsAt, IsPairRange, place_of_pair}
 
 begin_read : (quotes : List Quote) (begins : List ℕ) → AreBegins quotes begins → (place begin : ℕ) → place < 1025
     → begin ≡ get_or begins place begin
@@ -24,11 +22,3 @@ range_read quotes begins pairs sell buy place begin end asset is lt first next =
   ends = subst (λ (p : ℕ). BeginsAt quotes (p + 1) end) is
       (begin_read quotes begins pairs (place + 1) end (omega arith) next);
 }
-
-pub prefix_read : (quotes : List Quote) (prefixes : List Prefix) → ArePrefixSums quotes prefixes
-    → (count : ℕ) (entry : Prefix) → count ≤ length quotes → entry ≡ get_or prefixes count entry
-    → (entry.amount ≡ amounts (take count quotes)) × (entry.weighted ≡ weighted_amounts (take count quotes))
-prefix_read quotes prefixes sums count entry le is = (
-  ap (λ (p : Prefix). p.amount) is ∙ sums.amount count entry le,
-  ap (λ (p : Prefix). p.weighted) is ∙ sums.weighted count entry le,
-)

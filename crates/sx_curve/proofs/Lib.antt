@@ -7,5 +7,5 @@ pub mod InOrder
 pub mod BracketLaws
 pub mod Segments
 pub mod BelowSums
-pub mod FirstSums
+pub mod PointSums
 pub mod Kept

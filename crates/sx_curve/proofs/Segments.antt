@@ -1,4 +1,4 @@
--- The sum over what passes a test, where that is one stretch of the list.
+-- The sum over what passes a test, where that is in the front of the list.
 use Rattle.std.proofs.Common.{◌≡◌, ℕ, zero, suc, ◌+◌, ◌-◌, ◌<◌, ◌≤◌, List, length, get_or, take, sum_by, refl, arith}
 use Rattle.std.specs.List.{AllWithin}
 use Rattle.std.proofs.lemmas.List.{take_all}
@@ -18,25 +18,18 @@ stretch f g xs d from (suc n) end is le same =
     let here : f (get_or xs last d) ≡ g (get_or xs last d) = same last d (omega arith) (omega arith) in
     rw next (omega (arith, sum_by_more f xs last d below, sum_by_more g xs last d below))
 
--- terms that are 0 before and after a stretch, and those of another sum in it
-pub segment : {X : Type 0} (f g : X → ℕ) (xs : List X) (d : X) (from end : ℕ) → from ≤ end → end ≤ length xs
-    → AllWithin (λ x. g x ≡ 0) xs 0 from
-    → AllWithin (λ x. g x ≡ f x) xs from end
+-- terms that are those of another sum in front of a place, and 0 from there on
+pub front : {X : Type 0} (f g : X → ℕ) (xs : List X) (d : X) (end : ℕ) → end ≤ length xs
+    → AllWithin (λ x. g x ≡ f x) xs 0 end
     → AllWithin (λ x. g x ≡ 0) xs end (length xs)
-    → sum_by g xs + sum_by f (take from xs) ≡ sum_by f (take end xs)
-segment {X} f g xs d from end order le before inside after =
+    → sum_by g xs ≡ sum_by f (take end xs)
+front {X} f g xs d end le inside after =
     let nothing : X → ℕ = λ x. 0 in
     let none = λ (ys : List X). sum_by-zero nothing ys (λ k e lt. refl) in
-    let first = stretch g nothing xs d 0 from from (omega arith) (omega arith) before in
-    let middle = stretch g f xs d from (end - from) end (omega arith) le inside in
+    let first = stretch g f xs d 0 end end (omega arith) le inside in
     let last = stretch g nothing xs d end (length xs - end) (length xs) (omega arith) (omega arith) after in
     let all = take_all (length xs) xs (omega arith) in
-    let empty : sum_by g (take 0 xs) ≡ 0 = refl in
+    let no_g : sum_by g (take 0 xs) ≡ 0 = refl in
+    let no_f : sum_by f (take 0 xs) ≡ 0 = refl in
     let whole : sum_by g (take (length xs) xs) ≡ sum_by g xs = rw all refl in
-    omega (
-      arith,
-      none (take 0 xs),
-      none (take from xs),
-      none (take end xs),
-      none (take (length xs) xs),
-    )
+    omega (arith, none (take end xs), none (take (length xs) xs))

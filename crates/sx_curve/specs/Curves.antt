@@ -1,10 +1,11 @@
--- What curves keep: quotes in order, the sums of the first of them, and where each pair begins.
-use Rattle.std.specs.Prelude.{◌≡◌, ◌≢◌, ℕ, ◌+◌, ◌*◌, ◌^◌, ◌<◌, ◌≤◌, true, false, List, length, take, All, slice_index}
-use Rattle.std.specs.Prelude.{slice_index_or}
+-- What curves keep of quotes in order: a point of each, and where each pair begins.
+use Rattle.std.specs.Prelude.{◌≡◌, ◌≢◌, ℕ, ◌+◌, ◌-◌, ◌*◌, ◌^◌, ◌<◌, ◌≤◌, Bool, true, false, nat_le, List, length, take, All}
+use Rattle.std.specs.Prelude.{slice_index, slice_index_or}
 use Rattle.std.specs.List.{AllWithin}
-use Rattle.sx_curve.specs.declared.prefixes.Prefix.{Prefix}
+use Rattle.sx_curve.specs.declared.points.Point.{Point}
 use Rattle.sx_curve.specs.declared.quote.Quote.{Quote}
-use Rattle.sx_curve.specs.Quotes.{amounts, is_below, sellers_of, weighted_amounts}
+use Rattle.sx_curve.specs.declared.sums.Sums.{Sums}
+use Rattle.sx_curve.specs.Quotes.{amounts, pair_of, sellers_of, weighted_amounts}
 
 -- ---- what contracts see
 
@@ -53,13 +54,28 @@ HasLimit quote = quote.limit < 2 ^ 56
 
 -- ---- what is kept beside the quotes
 
--- the sums of the first k quotes, at the place k
-pub record ArePrefixSums (quotes : List Quote) (prefixes : List Prefix) : Type 0 where
-  pub full : length prefixes ≡ length quotes + 1
-  pub amount : (k : ℕ) (d : Prefix) → k ≤ length quotes →
-      (slice_index_or prefixes k d).amount ≡ amounts (take k quotes)
-  pub weighted : (k : ℕ) (d : Prefix) → k ≤ length quotes →
-      (slice_index_or prefixes k d).weighted ≡ weighted_amounts (take k quotes)
+-- of no pair is more than 2^62 for sale
+abbrev pub DoPairsFit : List Quote → Type 0
+DoPairsFit quotes = (sell buy : ℕ) → amounts (pair_of sell buy quotes) ≤ 2 ^ 62
+
+-- the point of the quote at the place k: its limit, and the sums of the quotes of its pair up to and with it
+pub record IsPoint (quotes : List Quote) (k : ℕ) (quote : Quote) (point : Point) : Type 0 where
+  pub limit : point.limit ≡ quote.limit
+  pub amount : point.amount ≡ amounts (pair_of quote.sell quote.buy (take (k + 1) quotes))
+  pub weighted : point.weighted ≡ weighted_amounts (pair_of quote.sell quote.buy (take (k + 1) quotes))
+
+-- the points of the first quotes, so many
+pub record ArePoints (quotes : List Quote) (points : List Point) (count : ℕ) : Type 0 where
+  pub full : length points ≡ count
+  pub each : (k : ℕ) (d : Point) (e : Quote) → k < count →
+      IsPoint quotes k (slice_index_or quotes k e) (slice_index_or points k d)
+
+-- the sums at the last of the first points, so many, or nothing where there is none
+pub record AreSumsAt (points : List Point) (count : ℕ) (sums : Sums) : Type 0 where
+  pub none_amount : count ≡ 0 → sums.amount ≡ 0
+  pub none_weighted : count ≡ 0 → sums.weighted ≡ 0
+  pub amount : (d : Point) → 0 < count → sums.amount ≡ (slice_index_or points (count - 1) d).amount
+  pub weighted : (d : Point) → 0 < count → sums.weighted ≡ (slice_index_or points (count - 1) d).weighted
 
 -- the pairs before a place are those of the quotes before this index
 pub record BeginsAt (quotes : List Quote) (place begin : ℕ) : Type 0 where
@@ -73,27 +89,31 @@ pub record IsPairRange (quotes : List Quote) (sell buy begin end : ℕ) : Type 0
   pub begins : BeginsAt quotes (place_of_pair sell buy) begin
   pub ends : BeginsAt quotes (place_of_pair sell buy + 1) end
 
--- of a pair's quotes those before this index have a limit of at most num / den
-pub record ReachesTo (pair : List Quote) (num den count : ℕ) : Type 0 where
-  pub within : count ≤ length pair
-  pub below : AllWithin (λ quote. is_below num den quote ≡ true) pair 0 count
-  pub above : AllWithin (λ quote. is_below num den quote ≡ false) pair count (length pair)
+-- the limit of a point is at most num / den
+abbrev pub is_point_below : ℕ → ℕ → Point → Bool
+is_point_below num den point = nat_le (point.limit * den) num
 
--- of a pair's quotes those before the one index have such a limit, and those from the other on have none
-pub record IsBracket (pair : List Quote) (num den low high : ℕ) : Type 0 where
+-- of a pair's points those before this index have a limit of at most num / den
+pub record ReachesTo (pair : List Point) (num den count : ℕ) : Type 0 where
+  pub within : count ≤ length pair
+  pub below : AllWithin (λ point. is_point_below num den point ≡ true) pair 0 count
+  pub above : AllWithin (λ point. is_point_below num den point ≡ false) pair count (length pair)
+
+-- of a pair's points those before the one index have such a limit, and those from the other on have none
+pub record IsBracket (pair : List Point) (num den low high : ℕ) : Type 0 where
   pub ordered : low ≤ high
   pub within : high ≤ length pair
-  pub below : AllWithin (λ quote. is_below num den quote ≡ true) pair 0 low
-  pub above : AllWithin (λ quote. is_below num den quote ≡ false) pair high (length pair)
+  pub below : AllWithin (λ point. is_point_below num den point ≡ true) pair 0 low
+  pub above : AllWithin (λ point. is_point_below num den point ≡ false) pair high (length pair)
 
 -- where each pair begins, by its place, and at last the end of the list
 pub record AreBegins (quotes : List Quote) (begins : List ℕ) : Type 0 where
   pub full : length begins ≡ 1025
   pub each : (place : ℕ) → place < 1025 → BeginsAt quotes place (slice_index begins place)
 
-pub record AreCurves (assets : ℕ) (quotes : List Quote) (prefixes : List Prefix) (begins : List ℕ) : Type 0 where
+pub record AreCurves (assets : ℕ) (quotes : List Quote) (points : List Point) (begins : List ℕ) : Type 0 where
   pub market : AreQuotes assets quotes
   pub limits : All HasLimit quotes
   pub in_order : AreInOrder quotes
-  pub sums : ArePrefixSums quotes prefixes
+  pub of_quotes : ArePoints quotes points (length quotes)
   pub pairs : AreBegins quotes begins

@@ -1,6 +1,6 @@
 //! The supply curve of each pair.
 
-ghost use Rattle.std.specs.Prelude.{◌≡◌, ◌*◌, ◌≤◌, ◌^◌, length, take, IfOk};
+ghost use Rattle.std.specs.Prelude.{◌≡◌, ◌*◌, ◌≤◌, ◌^◌, length, IfOk};
 ghost use Rattle.std.specs.Bool.{OnTrue};
 ghost use Rattle.std.specs.List.Sorted.{IsPermutation};
 ghost use Rattle.sx_curve.specs.Curves.{AreInOrder, AreQuotes, IsPairRange, IsUpTo};
@@ -8,21 +8,24 @@ ghost use Rattle.sx_curve.specs.Quotes.{amounts, quotes_below, weighted_amounts}
 
 use crate::limits::count_below;
 use crate::pairs::{begins_of, place_of};
-use crate::prefixes::{Prefix, prefixes_of};
+use crate::points::{Point, points_of, sums_at};
 use crate::quote::Quote;
 use crate::sums::Sums;
 use std::alloc::Global;
 use std::marker::Model;
+use std::snapshot::Snapshot;
 use sx_base::AssetId;
 use sx_bytes::NoMemory;
 
-/// The quotes of a market in order, with their sums, ready for [`Curves::below`]. Contracts see the
-/// number of assets and the list of the quotes.
-#[derive(Debug, Drop)]
+/// The supply curves of a market, ready for [`Curves::below`]: a point of each quote, in the order of the
+/// quotes. Contracts see the number of assets and the list of the quotes, which itself takes no memory.
+#[derive(Drop)]
+#[derive_where(Debug)]
 pub struct Curves {
     number: u32,
-    sorted: Vec<Quote>,
-    prefixes: Vec<Prefix>,
+    #[derive_where(skip)]
+    sorted: Snapshot<Vec<Quote>>,
+    points: Vec<Point>,
     begins: Vec<usize>,
 }
 
@@ -31,9 +34,9 @@ impl Model for Curves {
 
     ghost Value = { Market };
 
-    ghost view = { λ c. record { assets = c.number; quotes = c.sorted.items } };
+    ghost view = { λ c. record { assets = c.number; quotes = c.sorted.value.items } };
 
-    ghost invariant = { λ c. AreCurves c.number c.sorted.items c.prefixes.items c.begins.items };
+    ghost invariant = { λ c. AreCurves c.number c.sorted.value.items c.points.items c.begins.items };
 }
 
 // Whether a quote may stand before another one.
@@ -72,7 +75,7 @@ fn sorted(quotes: Vec<Quote>) -> Vec<Quote>
 impl Curves {
     /// The curves of these quotes, where there are 1 to 32 assets. Each quote sells an asset below
     /// that number for another one, and the amounts that sell an asset add up to at most `2^62`.
-    /// `NoMemory` is the only error. It keeps the list, of which the order is free, sorts it where it
+    /// `NoMemory` is the only error. It takes the list, of which the order is free, sorts it where it
     /// stands unless it is in order, and goes over it: n log n for n quotes, and n for those in order.
     pub fn build(alloc: Global, assets: u32, quotes: Vec<Quote>) -> Result<Curves, NoMemory>
         requires { AreQuotes assets quotes.items }
@@ -80,12 +83,12 @@ impl Curves {
         ensures quotes { IfOk result (λ curves. IsPermutation quotes.items curves.quotes) }
     {
         let sorted = sorted(quotes);
-        let prefixes = prefixes_of(alloc, &sorted)?;
+        let points = points_of(alloc, &sorted)?;
         let begins = begins_of(alloc, &sorted)?;
         Ok(Curves {
             number: assets,
-            sorted,
-            prefixes,
+            sorted: Snapshot::of(&sorted),
+            points,
             begins,
         })
     }
@@ -102,7 +105,7 @@ impl Curves {
     pub fn count(&self) -> usize
         ensures { result ≡ length self.now.quotes }
     {
-        self.sorted.len()
+        self.points.len()
     }
 
     // Where the quotes of a pair begin, and where they end.
@@ -113,15 +116,6 @@ impl Curves {
     {
         let place = place_of(sell, buy);
         (self.begins[place], self.begins[place + 1])
-    }
-
-    // The sums of the first quotes, as many as `count` says.
-    fn prefix(&self, count: usize) -> Prefix
-        requires { count ≤ length self.now.quotes }
-        ensures amount { result.amount ≡ amounts (take count self.now.quotes) }
-        ensures weighted { result.weighted ≡ weighted_amounts (take count self.now.quotes) }
-    {
-        self.prefixes[count]
     }
 
     /// The sums over the quotes that sell `sell` for `buy` at a limit of at most `num` over `den`, in
@@ -159,8 +153,7 @@ impl Curves {
         ensures weighted_range { result.weighted ≤ 2 ^ 56 * result.amount }
     {
         let (begin, end) = self.ends_of(sell, buy);
-        let before = self.prefix(begin);
-        self.below_here(sell, buy, begin, end, before, num, den, near)
+        self.below_here(sell, buy, begin, end, num, den, near)
     }
 
     /// The sums of a pair up to two limits, each as [`Curves::below_near`] tells it: up to `low` over
@@ -186,21 +179,19 @@ impl Curves {
         ensures high_weighted_range { result.1.weighted ≤ 2 ^ 56 * result.1.amount }
     {
         let (begin, end) = self.ends_of(sell, buy);
-        let before = self.prefix(begin);
-        let up_to_low = self.below_here(sell, buy, begin, end, before, low, den, near_low);
-        let up_to_high = self.below_here(sell, buy, begin, end, before, high, den, near_high);
+        let up_to_low = self.below_here(sell, buy, begin, end, low, den, near_low);
+        let up_to_high = self.below_here(sell, buy, begin, end, high, den, near_high);
         (up_to_low, up_to_high)
     }
 
     // The sums of a pair up to a limit, found from a guess. The pair's quotes are those from `begin` to
-    // `end`, and those in front of it have the sums `before`.
+    // `end`.
     fn below_here(
         &self,
         sell: AssetId,
         buy: AssetId,
         begin: usize,
         end: usize,
-        before: Prefix,
         num: u128,
         den: u128,
         near: &mut usize,
@@ -209,19 +200,14 @@ impl Curves {
         requires range { IsPairRange self.now.quotes sell buy begin end }
         requires ordered { begin ≤ end }
         requires within { end ≤ length self.now.quotes }
-        requires amount_before { before.amount ≡ amounts (take begin self.now.quotes) }
-        requires weighted_before { before.weighted ≡ weighted_amounts (take begin self.now.quotes) }
         ensures amount { result.amount ≡ amounts (quotes_below sell buy num den self.now.quotes) }
         ensures weighted { result.weighted ≡ weighted_amounts (quotes_below sell buy num den self.now.quotes) }
         ensures amount_range { result.amount ≤ 2 ^ 62 }
         ensures weighted_range { result.weighted ≤ 2 ^ 56 * result.amount }
     {
-        let count = count_below(&self.sorted[begin..end], num, den, *near);
+        let pair = &self.points[begin..end];
+        let count = count_below(pair, num, den, *near);
         *near = count;
-        let through = self.prefix(begin + count);
-        Sums {
-            amount: (through.amount - before.amount) as u64,
-            weighted: through.weighted - before.weighted,
-        }
+        sums_at(pair, count)
     }
 }

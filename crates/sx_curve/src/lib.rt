@@ -16,10 +16,11 @@
 //!               1   2    3    4
 //! ```
 //!
-//! [`Curves::build`] sorts the quotes of all pairs once and keeps the sums of the first of them, and
-//! where each pair begins. [`Curves::below`] then tells, by one search and without memory, the sums
-//! over a pair's quotes up to any limit: of their amounts, at most `2^62`, and of each amount times its
-//! limit, at most `2^118`. The sums that it keeps are below `2^68` and `2^124`.
+//! [`Curves::build`] sorts the quotes of all pairs once, and keeps where each pair begins and a point of
+//! each quote: its limit, and the sums over the quotes of its pair up to and with it. [`Curves::below`]
+//! then tells, by one search and without memory, the sums over a pair's quotes up to any limit: of their
+//! amounts, at most `2^62`, and of each amount times its limit, at most `2^118`. They stand in the last
+//! point that the limit reaches, so a search reads the points of one pair and nothing else.
 //!
 //! [`Curves::below_near`] begins its search at a guess. It goes outward from there in steps that double
 //! and then halves the last one: with d quotes between the guess and the answer it makes two times
@@ -43,7 +44,7 @@ mod curves;
 mod laws;
 mod limits;
 mod pairs;
-mod prefixes;
+mod points;
 mod quote;
 mod sums;
 

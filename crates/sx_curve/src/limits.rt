@@ -1,4 +1,4 @@
-//! Which quotes of a pair have a limit up to a quotient.
+//! Which points of a pair have a limit up to a quotient.
 //!
 //! Those are the first ones of the pair, and the search for where they end begins at a guess. It goes
 //! outward from there, in the direction that the limit at the guess tells, in steps that double, until
@@ -18,10 +18,9 @@
 ghost use Rattle.std.specs.Prelude.{◌≡◌, ◌*◌, ◌≤◌, ◌^◌, true, false, length, nat_le};
 ghost use Rattle.std.specs.List.{AllWithin};
 ghost use Rattle.std.specs.List.Sorted.{IsNonDecreasingBy};
-ghost use Rattle.sx_curve.specs.Curves.{IsBracket, ReachesTo};
-ghost use Rattle.sx_curve.specs.Quotes.{is_below as is_quote_below};
+ghost use Rattle.sx_curve.specs.Curves.{IsBracket, ReachesTo, is_point_below};
 
-use crate::quote::Quote;
+use crate::points::Point;
 use sx_price::Limit;
 
 // Whether a limit is at most num over den, by the product.
@@ -33,11 +32,11 @@ fn is_below(limit: Limit, num: u128, den: u128) -> bool
 }
 
 // Two places that the answer is between, at or above a place before which all limits are low enough.
-fn bracket_upward(pair: &[Quote], num: u128, den: u128, from: usize) -> (usize, usize)
-    requires in_order { IsNonDecreasingBy (λ quote. quote.limit) pair.now }
+fn bracket_upward(pair: &[Point], num: u128, den: u128, from: usize) -> (usize, usize)
+    requires in_order { IsNonDecreasingBy (λ point. point.limit) pair.now }
     requires den { den ≤ 2 ^ 60 }
     requires within { from ≤ length pair.now }
-    requires below { AllWithin (λ quote. is_quote_below num den quote ≡ true) pair.now 0 from }
+    requires below { AllWithin (λ point. is_point_below num den point ≡ true) pair.now 0 from }
     ensures { IsBracket pair.now num den result.0 result.1 }
 {
     let mut low = from;
@@ -50,11 +49,11 @@ fn bracket_upward(pair: &[Quote], num: u128, den: u128, from: usize) -> (usize, 
 }
 
 // The same, at or below a place from which on no limit is low enough.
-fn bracket_downward(pair: &[Quote], num: u128, den: u128, from: usize) -> (usize, usize)
-    requires in_order { IsNonDecreasingBy (λ quote. quote.limit) pair.now }
+fn bracket_downward(pair: &[Point], num: u128, den: u128, from: usize) -> (usize, usize)
+    requires in_order { IsNonDecreasingBy (λ point. point.limit) pair.now }
     requires den { den ≤ 2 ^ 60 }
     requires within { from ≤ length pair.now }
-    requires above { AllWithin (λ quote. is_quote_below num den quote ≡ false) pair.now from (length pair.now) }
+    requires above { AllWithin (λ point. is_point_below num den point ≡ false) pair.now from (length pair.now) }
     ensures { IsBracket pair.now num den result.0 result.1 }
 {
     let mut high = from;
@@ -67,8 +66,8 @@ fn bracket_downward(pair: &[Quote], num: u128, den: u128, from: usize) -> (usize
 }
 
 // Two places that the answer is between, found from any place.
-fn bracket(pair: &[Quote], num: u128, den: u128, near: usize) -> (usize, usize)
-    requires in_order { IsNonDecreasingBy (λ quote. quote.limit) pair.now }
+fn bracket(pair: &[Point], num: u128, den: u128, near: usize) -> (usize, usize)
+    requires in_order { IsNonDecreasingBy (λ point. point.limit) pair.now }
     requires den { den ≤ 2 ^ 60 }
     ensures { IsBracket pair.now num den result.0 result.1 }
 {
@@ -80,13 +79,13 @@ fn bracket(pair: &[Quote], num: u128, den: u128, near: usize) -> (usize, usize)
     }
 }
 
-// How many quotes of a pair, in order of their limits, have a limit of at most num over den. It is
+// How many points of a pair, in order of their limits, have a limit of at most num over den. It is
 // found soonest where it is near a guess.
-pub(crate) fn count_below(pair: &[Quote], num: u128, den: u128, near: usize) -> usize
-    requires in_order { IsNonDecreasingBy (λ quote. quote.limit) pair.now }
+pub(crate) fn count_below(pair: &[Point], num: u128, den: u128, near: usize) -> usize
+    requires in_order { IsNonDecreasingBy (λ point. point.limit) pair.now }
     requires den { den ≤ 2 ^ 60 }
     ensures { ReachesTo pair.now num den result }
 {
     let (low, high) = bracket(pair, num, den, near);
-    low + pair[low..high].partition_point(|quote| is_below(quote.limit, num, den))
+    low + pair[low..high].partition_point(|point| is_below(point.limit, num, den))
 }

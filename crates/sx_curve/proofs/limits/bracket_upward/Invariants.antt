@@ -1,6 +1,6 @@
 use Rattle.std.proofs.Common.{◌≡◌, ◌+◌, ◌-◌, ◌≤◌, true, length}
 use Rattle.std.specs.List.{AllWithin}
-use Rattle.sx_curve.specs.Quotes.{is_below}
+use Rattle.sx_curve.specs.Curves.{is_point_below}
 use Rattle.sx_curve.proofs.limits.bracket_upward.Given as goal
 
 abbrev pub invariant-loop-step : goal.invariant-loop-step
@@ -8,7 +8,7 @@ invariant-loop-step l = record {
   some : 1 ≤ l.step;
   short : l.step ≤ l.low + 1;
   within : l.low ≤ length l.pair;
-  below : AllWithin (λ quote. is_below l.num l.den quote ≡ true) l.pair 0 l.low;
+  below : AllWithin (λ point. is_point_below l.num l.den point ≡ true) l.pair 0 l.low;
 }
 
 abbrev pub decreases-loop-step : goal.decreases-loop-step

@@ -1,7 +1,7 @@
 use Rattle.std.proofs.Common.{rules}
 use Rattle.std.specs.List.{slice_range}
 use Rattle.std.proofs.lemmas.List.Sorted.{IsPartitionPoint-from_clause}
-use Rattle.sx_curve.specs.Quotes.{is_below}
+use Rattle.sx_curve.specs.Curves.{is_point_below}
 use Rattle.sx_curve.proofs.BracketLaws.{between_rise, reaches_between}
 use Rattle.sx_curve.proofs.InOrder.{limits_part}
 use Rattle.sx_curve.proofs.limits.count_below.Goals as goal
@@ -14,7 +14,7 @@ returns c =
     let low = c.bracket-low.result.0 in
     let high = c.bracket-low.result.1 in
     let rise = between_rise pair num den c.requires.in_order low high c.bracket-low.ensures in
-    let parted = IsPartitionPoint-from_clause (is_below num den) (slice_range pair low high) c.partition_point.result
+    let parted = IsPartitionPoint-from_clause (is_point_below num den) (slice_range pair low high) c.partition_point.result
     c.partition_point.ensures.partitioned (limits_part (slice_range pair low high) num den rise)
     (λ a r g called. search rules) in
     reaches_between pair num den c.requires.in_order low high c.bracket-low.ensures c.partition_point.result
