@@ -32,11 +32,11 @@ no_point = record { limit = 0; amount = 0; weighted = 0 }
 
 -- ---- which quotes are of a pair
 
-pub same_place : (sell buy sell' buy' : ℕ) → buy < 32 → buy' < 32 → place_of_pair sell buy ≡ place_of_pair sell' buy'
+same_place : (sell buy sell' buy' : ℕ) → buy < 32 → buy' < 32 → place_of_pair sell buy ≡ place_of_pair sell' buy'
     → (sell ≡ sell') × (buy ≡ buy')
 same_place sell buy sell' buy' small small' same = (omega arith, omega arith)
 
-pub of_pair : (sell buy : ℕ) (quote : Quote) → buy < 32 → quote.buy < 32 → place_of_quote quote ≡ place_of_pair sell buy
+of_pair : (sell buy : ℕ) (quote : Quote) → buy < 32 → quote.buy < 32 → place_of_quote quote ≡ place_of_pair sell buy
     → is_of sell buy quote ≡ true
 of_pair sell buy quote small small' same =
     let parts = same_place quote.sell quote.buy sell buy small' small same in

@@ -43,7 +43,8 @@ module _ (pair : List Point) (num den : ℕ) (rise : IsNonDecreasingBy (λ point
 
     -- what the search between the two places tells
     pub reaches_between : (count : ℕ) → count ≤ length (slice_range pair low high)
-        → IsPartitionPoint (λ point. is_point_below num den point ≡ true) (λ point. is_point_below num den point ≡ false)
+        → IsPartitionPoint (λ point. is_point_below num den point ≡ true)
+        (λ point. is_point_below num den point ≡ false)
         (slice_range pair low high) count
         → ReachesTo pair num den (low + count)
     reaches_between count fits parted =

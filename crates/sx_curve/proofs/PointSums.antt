@@ -4,8 +4,8 @@ use Rattle.std.proofs.Common.{true, sum_by, inl, inr, refl, sym, ap, subst, ◌�
 use Rattle.std.specs.List.{AllWithin}
 use Rattle.std.specs.List.Sorted.{IsNonDecreasingBy}
 use Rattle.std.proofs.lemmas.Bool.{and_from, cases_lt, eq-eqb}
-use Rattle.std.proofs.lemmas.List.{get_or-take, get_or_append_left, get_or_push, get_or_read, length-take-le, length_push}
-use Rattle.std.proofs.lemmas.List.{take_all}
+use Rattle.std.proofs.lemmas.List.{get_or-take, get_or_append_left, get_or_push, get_or_read, length-take-le}
+use Rattle.std.proofs.lemmas.List.{length_push, take_all}
 use Rattle.std.proofs.lemmas.List.Elements.{All-filter, All-more}
 use Rattle.std.proofs.lemmas.List.Sums.{sum_by-take-le, sum_by_more}
 use Rattle.sx_curve.specs.declared.points.Point.{Point}
@@ -65,7 +65,8 @@ module _ (quotes : List Quote) (count : ℕ) (quote : Quote) (lt : count < lengt
       ≡ sum_by f (pair_of quote.sell quote.buy (take count quotes)) + f quote
   sum_more f =
       let test = is_of quote.sell quote.buy in
-      let its : test quote ≡ true = and_from _ _ (eq-eqb quote.sell quote.sell refl) (eq-eqb quote.buy quote.buy refl) in
+      let its : test quote ≡ true =
+      and_from _ _ (eq-eqb quote.sell quote.sell refl) (eq-eqb quote.buy quote.buy refl) in
       let here : masked test f (get_or quotes count quote) ≡ f quote =
       ap (masked test f) (sym is) ∙ masked_yes test f quote its in
       omega (

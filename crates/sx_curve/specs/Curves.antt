@@ -1,6 +1,6 @@
 -- What curves keep of quotes in order: a point of each, and where each pair begins.
-use Rattle.std.specs.Prelude.{◌≡◌, ◌≢◌, ℕ, ◌+◌, ◌-◌, ◌*◌, ◌^◌, ◌<◌, ◌≤◌, Bool, true, false, nat_le, List, length, take, All}
-use Rattle.std.specs.Prelude.{slice_index, slice_index_or}
+use Rattle.std.specs.Prelude.{◌≡◌, ◌≢◌, ℕ, ◌+◌, ◌-◌, ◌*◌, ◌^◌, ◌<◌, ◌≤◌, Bool, true, false, nat_le, List, length, take}
+use Rattle.std.specs.Prelude.{All, slice_index, slice_index_or}
 use Rattle.std.specs.List.{AllWithin}
 use Rattle.sx_curve.specs.declared.points.Point.{Point}
 use Rattle.sx_curve.specs.declared.quote.Quote.{Quote}
@@ -52,7 +52,7 @@ place_of_quote quote = place_of_pair quote.sell quote.buy
 abbrev pub HasLimit : Quote → Type 0
 HasLimit quote = quote.limit < 2 ^ 56
 
--- ---- what is kept beside the quotes
+-- ---- what is kept of the quotes
 
 -- of no pair is more than 2^62 for sale
 abbrev pub DoPairsFit : List Quote → Type 0

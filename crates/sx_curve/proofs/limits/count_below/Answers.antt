@@ -14,8 +14,8 @@ returns c =
     let low = c.bracket-low.result.0 in
     let high = c.bracket-low.result.1 in
     let rise = between_rise pair num den c.requires.in_order low high c.bracket-low.ensures in
-    let parted = IsPartitionPoint-from_clause (is_point_below num den) (slice_range pair low high) c.partition_point.result
-    c.partition_point.ensures.partitioned (limits_part (slice_range pair low high) num den rise)
-    (λ a r g called. search rules) in
+    let parted = IsPartitionPoint-from_clause (is_point_below num den) (slice_range pair low high)
+    c.partition_point.result c.partition_point.ensures.partitioned
+    (limits_part (slice_range pair low high) num den rise) (λ a r g called. search rules) in
     reaches_between pair num den c.requires.in_order low high c.bracket-low.ensures c.partition_point.result
     c.partition_point.ensures.bound parted
