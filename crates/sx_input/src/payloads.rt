@@ -19,7 +19,7 @@ use sx_commit::{Proof, proof_laws, read_proof};
 use sx_layout::{Outcomes, Script, outcome_list_laws, read_outcomes, read_script, script_laws};
 use sx_ledger::{Ledger, par_read_state, state_laws};
 use sx_record::{Record, tag};
-use sx_tx::{TxList, list_laws, par_read_candidates};
+use sx_tx::{TxList, TxParts, list_laws, par_read_candidates, par_read_candidates_in_parts};
 
 // How many threads share the reading of a long payload. They wait for memory more than they calculate, so more of them
 // win little.
@@ -77,6 +77,26 @@ impl Payload for TxList {
     fn read<R: Threads + Sync>(rt: &R, alloc: Global, payload: &[u8]) -> Result<TxList, ReadError> {
         list_laws();
         par_read_candidates(rt, alloc, payload, WORKERS)
+    }
+}
+
+// The candidates of an input whose parts may stay apart.
+impl Payload for TxParts {
+    ghost TAG = { candidates_tag };
+
+    ghost item = { λ txs. item.candidates txs };
+
+    ghost goes_with = { λ _. Unit {0} };
+
+    const TAG: u8 = tag::CANDIDATES;
+
+    fn read<R: Threads + Sync>(
+        rt: &R,
+        alloc: Global,
+        payload: &[u8],
+    ) -> Result<TxParts, ReadError> {
+        list_laws();
+        par_read_candidates_in_parts(rt, alloc, payload, WORKERS)
     }
 }
 

@@ -17,7 +17,7 @@ use sx_check::Invalid;
 use sx_filter::{FilterFault, filter_list};
 use sx_input::{Stop, end, take};
 use sx_ledger::Ledger;
-use sx_tx::TxList;
+use sx_tx::TxParts;
 use sx_words::Command;
 
 // Why a filter stops.
@@ -42,7 +42,7 @@ fn kept<R: Threads + Sync>(
     rt: &R,
     alloc: Global,
     ledger: &Ledger,
-    candidates: TxList,
+    candidates: TxParts,
     workers: u32,
 ) -> Result<Pieces, Stop>
     requires candidates { IsTxList candidates }
@@ -71,7 +71,7 @@ pub fn filter<R: Threads + Sync, S: Source>(
     ensures read_fault { IsErrOf result Stop.ReadFault → Rose (S.faults source.old) (S.faults source.new) }
 {
     let opening = take::<Ledger, R, S>(rt, alloc, source, 0)?;
-    let candidates = take::<TxList, R, S>(rt, alloc, source, opening.end)?;
+    let candidates = take::<TxParts, R, S>(rt, alloc, source, opening.end)?;
     end(alloc, source, candidates.end)?;
     kept(rt, alloc, &opening.held, candidates.held, workers)
 }

@@ -14,9 +14,8 @@ use crate::pieces::Pieces;
 use std::alloc::Global;
 use std::thread::{Threads, map_indices};
 use sx_bytes::{NoMemory, Writer, all_of};
-use sx_filter::Kept;
 use sx_record::tag;
-use sx_tx::{Tx, TxList, write_tx};
+use sx_tx::{Tx, TxList, TxParts, write_tx};
 
 // How many bytes a transaction takes at most.
 const MOST_TX_BYTES: usize = 35;
@@ -107,7 +106,7 @@ fn behind(alloc: Global, front: Writer, mut others: Vec<Writer>) -> Result<Piece
 pub(crate) fn written<R: Threads + Sync>(
     rt: &R,
     alloc: Global,
-    kept: &Kept,
+    kept: &TxParts,
 ) -> Result<Pieces, NoMemory>
     requires { length kept.now ≤ most_transactions }
     ensures { IfOk result (λ told. told ≡ item_record (item.candidates kept.now)) }
