@@ -27,7 +27,7 @@ const MOST_BALANCES: usize = 32;
 // The length of the leaf of such an account: 2 bytes, its id, its window and its balances.
 const LONGEST_LEAF: usize = 2 + 8 + 16 + 8 * MOST_BALANCES;
 
-// The length of the bytes of two digests.
+// The length of a node: a byte, and the bytes of two digests.
 const NODE_BYTES: usize = 1 + 2 * 32;
 
 // Writes the bytes of an account's leaf in place of what was written before.
