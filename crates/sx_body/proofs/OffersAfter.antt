@@ -1,14 +1,15 @@
 -- The offers after a body: those that are kept and those that are made, in the order of their keys.
-use Rattle.std.proofs.Common.{◌≡◌, ℕ, ◌+◌, ◌<◌, ◌≤◌, Bool, true, false, cond, not, List, [], ◌∷◌, ◌++◌, length, get_or}
+use Rattle.std.proofs.Common.{◌≡◌, ℕ, suc, ◌+◌, ◌<◌, ◌≤◌, Bool, true, false, cond, not, List, [], ◌∷◌, ◌++◌, length, get_or}
 use Rattle.std.proofs.Common.{drop, Some, None, refl, sym, ap, subst, ◌∙◌}
-use Rattle.std.specs.Prelude.{slice_get}
+use Rattle.std.specs.Prelude.{All, slice_get}
 use Rattle.std.specs.List.{filter, list_any}
 use Rattle.std.specs.List.Sorted.{IsPermutation, IsSortedByKey}
 use Rattle.std.specs.declared.cmp.Ordering.{Ordering}
-use Rattle.std.proofs.lemmas.List.{drop_more}
+use Rattle.std.proofs.lemmas.List.{drop_more, nil_from_length}
+use Rattle.std.proofs.lemmas.List.Elements.{All-get_or}
 use Rattle.std.proofs.lemmas.List.Sorted.{IsPermutation-append_left, IsPermutation-sym, IsPermutation-trans}
 use Rattle.std.proofs.lemmas.List.Sorted.{ranks_by, sorted_far}
-use Rattle.std.proofs.lemmas.Option.{same_Some, slice_get-get_or}
+use Rattle.std.proofs.lemmas.Option.{get_or_from_slice_get, same_Some, slice_get-get_or, slice_get_within}
 use Rattle.sx_body.specs.Merging.{merged}
 use Rattle.sx_body.specs.Tally.{AreFlags}
 use Rattle.sx_body.proofs.Merging.{merged_moves, merged_sorted}
@@ -17,7 +18,7 @@ use Rattle.sx_ledger.specs.contracts.key.KeyOrd.TheImpl as derived
 use Rattle.sx_ledger.specs.declared.key.Key.{Key}
 use Rattle.sx_ledger.specs.declared.offer.Offer.{Offer}
 use Rattle.sx_ledger.specs.declared.parts.Parts.{Parts}
-use Rattle.sx_ledger.specs.Body.{IsAdmissibleIn, cancelled, kept_offers, made, offers_after}
+use Rattle.sx_ledger.specs.Body.{IsAdmissibleIn, cancelled, kept_offers, made, offers_after, put_offers}
 use Rattle.sx_ledger.specs.Ledger.{IsLedger}
 use Rattle.sx_ledger.specs.Order.{key_before, key_cmp, key_of, same_key}
 use Rattle.sx_ledger.proofs.BodyKeepsLedger.{keys_in_order}
@@ -53,6 +54,34 @@ kept_more test offers flags are place offer flag lt is there =
     ∙ not_cond (test offer) offer rest
     ∙ ap (λ (o : Offer). filter (λ x. not (test x)) (o ∷ drop (place + 1) offers)) is
     ∙ sym (ap (filter (λ o. not (test o))) (drop_more offers place offer lt))
+
+-- ---- the offers where nothing changes
+
+-- where the test says no of each offer, all are kept
+all_kept : (test : Offer → Bool) (offers : List Offer)
+    → ((place : ℕ) (offer : Offer) → slice_get offers place ≡ Some offer → test offer ≡ false)
+    → filter (λ o. not (test o)) offers ≡ offers
+all_kept test [] none = refl
+all_kept test (offer ∷ others) none = rw (none 0 offer refl)
+    (ap (λ (xs : List Offer). offer ∷ xs) (all_kept test others (λ place. none (suc place))))
+
+-- no flag is set
+unset : (test : Offer → Bool) (offers : List Offer) (flags : List Bool) → AreFlags test offers flags
+    → All (λ flag. flag ≡ false) flags → (place : ℕ) (offer : Offer) → slice_get offers place ≡ Some offer
+    → test offer ≡ false
+unset test offers flags are none place offer here =
+    let there = are place offer here in
+    sym (get_or_from_slice_get flags place (test offer) false there)
+    ∙ All-get_or (λ (flag : Bool). flag ≡ false) flags place false (slice_get_within flags place (test offer) there) none
+
+-- a body that makes and cancels no offer leaves all as they are
+pub offers_stay : (parts : Parts) (txs : List Tx) (flags : List Bool)
+    → AreFlags (λ offer. list_any (same_key (key_of offer)) (cancelled txs)) parts.offers flags
+    → All (λ flag. flag ≡ false) flags → length (made txs) ≡ 0 → parts.offers ≡ offers_after parts txs
+offers_stay parts txs flags are none no_more =
+    let test : Offer → Bool = λ offer. list_any (same_key (key_of offer)) (cancelled txs) in
+    sym (all_kept test parts.offers (unset test parts.offers flags are none))
+    ∙ ap (λ (new : List Offer). put_offers new (kept_offers parts.offers txs)) (sym (nil_from_length (made txs) no_more))
 
 -- ---- the offers after the body
 

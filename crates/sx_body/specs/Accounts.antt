@@ -1,9 +1,10 @@
 -- The accounts of a ledger as they are after a body.
 use Rattle.std.specs.Prelude.{◌≡◌, ℕ, List, Some, map, replicate, slice_get}
+use Rattle.sx_body.specs.declared.offers.OfferChange.{OfferChange}
 use Rattle.sx_body.specs.declared.tally.Tally.{Tally}
+use Rattle.sx_body.specs.OfferChanges.{changed_by}
 use Rattle.sx_body.specs.Tally.{IsTally, IsTallyOfBody}
 use Rattle.sx_ledger.specs.declared.account.Account.{Account}
-use Rattle.sx_ledger.specs.declared.offer.Offer.{Offer}
 use Rattle.sx_ledger.specs.declared.parts.Parts.{Parts}
 use Rattle.sx_ledger.specs.Body.{IsAdmissibleIn, account_after, accounts_after, offers_after}
 use Rattle.sx_ledger.specs.Ledger.{IsLedger}
@@ -44,13 +45,13 @@ fresh assets id = record {
 abbrev pub with_all_accounts : Parts → List Tx → Parts
 with_all_accounts parts txs = record parts { accounts = accounts_after parts txs }
 
--- some ledger has these parts but for its accounts, which are as they are after a body of this tally, and these are the
--- offers after the body
-pub record AreKnownAfter (parts : Parts) (tally : Tally) (offers : List Offer) : Type 0 where
+-- some ledger has these parts but for its accounts, which are as they are after a body of this tally, and this is what
+-- the body changes the offers to
+pub record AreKnownAfter (parts : Parts) (tally : Tally) (change : OfferChange) : Type 0 where
   pub before : Parts
   pub ledger : IsLedger before
   pub txs : List Tx
   pub body : IsAdmissibleIn 2 before txs
   pub is : IsTally before txs tally
   pub known : parts ≡ with_known_accounts before txs
-  pub after : offers ≡ offers_after before txs
+  pub after : changed_by change before.offers ≡ offers_after before txs

@@ -7,3 +7,4 @@ pub mod Known
 pub mod Overdraft
 pub mod Accounts
 pub mod Merging
+pub mod OfferChanges

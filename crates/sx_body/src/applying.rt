@@ -2,6 +2,7 @@
 
 ghost use Rattle.std.specs.Prelude.{◌≡◌, List, IfOk};
 ghost use Rattle.sx_body.specs.Accounts.{AreKnownAfter, with_all_accounts, with_known_accounts};
+ghost use Rattle.sx_body.specs.OfferChanges.{changed_by};
 ghost use Rattle.sx_body.specs.Tally.{IsTally, IsTallyOfBody};
 ghost use Rattle.sx_ledger.specs.declared.parts.Parts.{Parts as Ledgers};
 ghost use Rattle.sx_ledger.specs.Body.{IsAdmissibleIn, body_after, offers_after as all_offers};
@@ -10,10 +11,11 @@ ghost use Rattle.sx_tx.specs.declared.tx.Tx.{Tx as Transaction};
 
 use crate::accounts::apply_to_known;
 use crate::created::with_created;
+use crate::offers::OfferChange;
 use crate::tally::Tally;
 use std::alloc::Global;
 use sx_bytes::NoMemory;
-use sx_ledger::{Accounts, Ledger, Offers, Parts};
+use sx_ledger::{Accounts, Ledger, Parts};
 
 // The parts of a ledger whose accounts are as they are after the body, with those too that are created.
 fn with_all(alloc: Global, parts: Parts, tally: &Tally) -> Result<Parts, NoMemory>
@@ -47,17 +49,18 @@ fn with_all(alloc: Global, parts: Parts, tally: &Tally) -> Result<Parts, NoMemor
 
 /// The ledger after the body of a block, before anything trades, where each account that was there is as
 /// it is after the body already ([`apply_to_account`](crate::apply_to_account)): the accounts that are
-/// created stand among them, and these are the offers, which [`offers_after`](crate::offers_after)
-/// answers. `NoMemory` comes only where an account is created.
+/// created stand among them, and the offers change as [`offers_after`](crate::offers_after) answers.
+/// `NoMemory` comes only where an account is created.
 pub fn complete_accounts(
     alloc: Global,
     parts: Parts,
     tally: &Tally,
-    offers: Offers,
+    change: OfferChange,
 ) -> Result<Ledger, NoMemory>
-    requires { AreKnownAfter parts tally.now offers }
+    requires { AreKnownAfter parts tally.now change }
     ensures { (before : Ledgers) (txs : List Transaction) → IsLedger before → IsAdmissibleIn 2 before txs
-        → IsTally before txs tally.now → parts ≡ with_known_accounts before txs → offers ≡ all_offers before txs
+        → IsTally before txs tally.now → parts ≡ with_known_accounts before txs
+        → changed_by change before.offers ≡ all_offers before txs
         → IfOk result (λ after. after ≡ body_after before txs) }
 {
     let parts = with_all(alloc, parts, tally)?;
@@ -67,25 +70,25 @@ pub fn complete_accounts(
         prices: parts.prices,
         rounding: parts.rounding,
         accounts: parts.accounts,
-        offers,
+        offers: change.applied(parts.offers),
     }))
 }
 
 /// The ledger after the body of a block, before anything trades, where the tally of the body is known
-/// and so are the offers after it: those that [`precheck`](crate::precheck) and
+/// and so is what it changes the offers to: what [`precheck`](crate::precheck) and
 /// [`offers_after`](crate::offers_after) answer. Balances change in place.
 pub fn apply_accounts(
     alloc: Global,
     ledger: Ledger,
     tally: &Tally,
-    offers: Offers,
+    change: OfferChange,
 ) -> Result<Ledger, NoMemory>
     requires body { IsTallyOfBody ledger tally.now }
     requires offers { (txs : List Transaction) → IsAdmissibleIn 2 ledger txs → IsTally ledger txs tally.now
-        → offers ≡ all_offers ledger txs }
+        → changed_by change ledger.offers ≡ all_offers ledger txs }
     ensures { (txs : List Transaction) → IsAdmissibleIn 2 ledger txs → IsTally ledger txs tally.now
         → IfOk result (λ after. after ≡ body_after ledger txs) }
 {
     let parts = apply_to_known(alloc, ledger, tally);
-    complete_accounts(alloc, parts, tally, offers)
+    complete_accounts(alloc, parts, tally, change)
 }

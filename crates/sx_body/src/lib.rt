@@ -15,7 +15,7 @@
 //! [`Tally::par_first_overdraft`] answers the same, and has each of several threads look at a part of the
 //! accounts. Only it and [`par_precheck`] start threads.
 //!
-//! [`offers_after`] answers the offers after an admissible body, and [`apply_accounts`] the ledger after
+//! [`offers_after`] answers what an admissible body changes the offers to, and [`apply_accounts`] the ledger after
 //! it: exactly those of the definitions of `sx_ledger`. [`apply_to_account`] makes one account what it is
 //! after the body, and [`complete_accounts`] the ledger once each account is so, for callers that change
 //! many accounts at the same time.
@@ -24,7 +24,8 @@
 //! stand together. Only accounts that are debited or credited have sums of their own, and only their
 //! balances are read and changed, in place. A sum takes 8 bytes as long as all amounts together are below
 //! 2^64, and 16 bytes from then on. Accounts are sorted only where one is created. Of the offers only
-//! those that are made are sorted, and one pass puts them among those that are kept.
+//! those that are made are sorted, and one pass puts them among those that are kept. Where none is made or
+//! cancelled, [`OfferChange`] says so, and the offers stay where they are.
 //!
 //! Not here: whether transactions stand in order, and what trades afterwards.
 #![tactic(auto)]
@@ -54,7 +55,7 @@ mod used;
 pub use accounts::apply_to_account;
 pub use applying::{apply_accounts, complete_accounts};
 pub use laws::refusal_laws;
-pub use offers::offers_after;
+pub use offers::{OfferChange, offers_after};
 pub use overdraft::Overdraft;
 pub use prechecking::{PrecheckFault, par_precheck, precheck};
 pub use tally::Tally;

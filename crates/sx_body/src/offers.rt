@@ -1,9 +1,11 @@
 //! The offers of a ledger after a body.
 
-ghost use Rattle.std.specs.Prelude.{◌≡◌, ◌++◌, [], ◌∷◌, List, length, drop, take, Bool, not, if◌then◌else◌, IfOk, OnOk};
+ghost use Rattle.std.specs.Prelude.{◌≡◌, ◌++◌, [], ◌∷◌, List, length, drop, take, All, Bool, false, not, if◌then◌else◌, IfOk, OnOk};
+ghost use Rattle.std.specs.Bool.{OnTrue};
 ghost use Rattle.std.specs.List.{filter};
 ghost use Rattle.std.specs.List.Sorted.{IsPermutation, IsSortedByKey};
 ghost use Rattle.sx_body.specs.Merging.{count_before, merged};
+ghost use Rattle.sx_body.specs.OfferChanges.{changed_by};
 ghost use Rattle.sx_body.specs.Tally.{AreFlags, IsTally, IsTallyFor};
 ghost use Rattle.sx_ledger.specs.declared.offer.Offer.{Offer as OneOffer};
 ghost use Rattle.sx_ledger.specs.Body.{IsAdmissibleIn, offers_after as all_after};
@@ -14,6 +16,38 @@ use crate::tally::Tally;
 use std::alloc::Global;
 use sx_bytes::NoMemory;
 use sx_ledger::{Ledger, Offer, Offers};
+
+/// What a body changes the offers of a ledger to. Where it makes and cancels none, they stay where they are, and no
+/// copy of them is made.
+#[derive(Debug, Drop)]
+pub enum OfferChange {
+    /// They stay the same.
+    Same,
+    /// These are the offers after the body, in order of their keys.
+    To(Offers),
+}
+
+impl OfferChange {
+    /// The offers after the body on this ledger.
+    pub fn after<'a>(&'a self, ledger: &'a Ledger) -> &'a [Offer]
+        ensures { result.now ≡ changed_by self.now ledger.now.offers }
+    {
+        match self {
+            OfferChange::Same => ledger.parts().offers.items(),
+            OfferChange::To(after) => after.items(),
+        }
+    }
+
+    /// The same for a caller that needs the offers before the body no more.
+    pub fn applied(self, before: Offers) -> Offers
+        ensures { result ≡ changed_by self before }
+    {
+        match self {
+            OfferChange::Same => before,
+            OfferChange::To(after) => after,
+        }
+    }
+}
 
 // A copy of these offers, in order of their keys.
 fn sorted_copy(alloc: Global, offers: &[Offer]) -> Result<Vec<Offer>, NoMemory>
@@ -84,20 +118,32 @@ fn merge(
     Ok(all)
 }
 
+// Whether no flag is set.
+fn is_none_set(flags: &[bool]) -> bool
+    ensures { OnTrue result (All (λ flag. flag ≡ false) flags.now) }
+{
+    for flag in flags {
+        if *flag {
+            return false;
+        }
+    }
+    true
+}
+
 /// The offers after the body of a block: those of the ledger that are not cancelled, and those that
 /// are made, in order of their keys. Only those that are made are sorted, since those of the ledger are
-/// in order already.
-pub fn offers_after(alloc: Global, ledger: &Ledger, tally: &Tally) -> Result<Offers, NoMemory>
+/// in order already. Where none is made or cancelled, nothing is copied.
+pub fn offers_after(alloc: Global, ledger: &Ledger, tally: &Tally) -> Result<OfferChange, NoMemory>
     requires shape { IsTallyFor ledger.now tally.now }
     ensures { (txs : List Transaction) → IsAdmissibleIn 2 ledger.now txs → IsTally ledger.now txs tally.now
-        → IfOk result (λ offers. offers ≡ all_after ledger.now txs) }
+        → IfOk result (λ change. changed_by change ledger.now.offers ≡ all_after ledger.now txs) }
 {
+    let offers = ledger.parts().offers.items();
+    let flags = &tally.cancellations.flags;
+    if tally.made.is_empty() && is_none_set(flags) {
+        return Ok(OfferChange::Same);
+    }
     let made = sorted_copy(alloc, &tally.made)?;
-    let all = merge(
-        alloc,
-        ledger.parts().offers.items(),
-        &tally.cancellations.flags,
-        &made,
-    )?;
-    Ok(Offers::of(all))
+    let all = merge(alloc, offers, flags, &made)?;
+    Ok(OfferChange::To(Offers::of(all)))
 }
