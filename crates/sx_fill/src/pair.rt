@@ -6,11 +6,37 @@ ghost use Rattle.sx_bytes.specs.Grammar.{in_order};
 ghost use Rattle.sx_fill.specs.PairFills.{pair_fill, trading};
 ghost use Rattle.sx_ledger.specs.Ledger.{keys};
 ghost use Rattle.sx_ledger.specs.Order.{key_before};
+ghost use Rattle.sx_price.specs.Rounding.{rounded_down, rounded_up};
 
 use std::alloc::Global;
 use sx_bytes::NoMemory;
 use sx_ledger::{Fill, Fills, Offer};
 use sx_price::{Price, units_down, units_up};
+
+// The units that an offer gives for a value, where `whole` is what it is worth: its amount, unless it trades only a
+// part. So next to nothing is divided, which takes long for numbers of 128 bits.
+fn given_for(traded: u128, whole: u128, offer: &Offer, sell: Price) -> u64
+    requires whole { whole ≡ sell * offer.now.amount }
+    requires worth_an_amount { traded ≤ sell * most_amount }
+    ensures { result ≡ rounded_up traded sell }
+{
+    if traded == whole {
+        offer.amount.get()
+    } else {
+        units_up(traded, sell)
+    }
+}
+
+// The units that are got for a value. A value below 2^64 is divided as a number of 64 bits.
+fn got_for(traded: u128, buy: Price) -> u64
+    requires { traded ≤ buy * most_amount }
+    ensures { result ≡ rounded_down traded buy }
+{
+    match u64::try_from(traded) {
+        Ok(short) => short / buy.get(),
+        Err(_) => units_down(traded, buy),
+    }
+}
 
 /// Appends the fills of the offers of one pair, which stand in book order, where the sold asset has
 /// the price `sell`, the bought asset the price `buy`, and the pair trades the value `y`, in units of
@@ -37,12 +63,13 @@ pub fn push_fills(
         if left == 0 {
             return Ok(());
         }
-        let traded = left.min(price * u128::from(offer.amount.get()));
+        let whole = price * u128::from(offer.amount.get());
+        let traded = left.min(whole);
         fills.push(Fill {
             place: first + place as u32,
             value: traded,
-            gives: units_up(traded, sell),
-            gets: units_down(traded, buy),
+            gives: given_for(traded, whole, offer, sell),
+            gets: got_for(traded, buy),
         })?;
         left -= traded;
     }

@@ -28,8 +28,8 @@ loop-place-preserved c =
     let fill : Fill = record {
       place = c.args.first + k;
       value = c.min-traded.result;
-      gives = c.units_up.result;
-      gets = c.units_down.result;
+      gives = c.given_for.result;
+      gets = c.got_for.result;
     } in
     let before : List Fill =
     trading (pair_fill c.args.sell c.args.buy c.args.y c.args.offers.now) c.args.first (take k c.args.offers.now) in
@@ -39,8 +39,8 @@ loop-place-preserved c =
           ∙ append_assoc c.args.fills.now.items before (fill ∷ [])
           ∙ ap (λ (fs : List Fill). c.args.fills.now.items ++ fs)
           (more_filled c.args.sell c.args.buy c.args.y c.args.first c.args.offers.now c.requires.in_book_order k
-          left c.min-traded.result c.units_up.result c.units_down.result x c.loop-place-test.true
-          c.index-offers-place.is at.left some value c.units_up.ensures.quotient c.units_down.ensures.quotient);
+          left c.min-traded.result c.given_for.result c.got_for.result x c.loop-place-test.true
+          c.index-offers-place.is at.left some value c.given_for.ensures c.got_for.ensures);
       left = ap (λ (v : ℕ). left - v) value
           ∙ less_left c.args.sell c.args.buy c.args.y c.args.first c.args.offers.now c.requires.in_book_order k left
           x c.loop-place-test.true c.index-offers-place.is at.left;
