@@ -1,8 +1,8 @@
 -- One step: digits that are dropped, and the quotients without them.
-use Rattle.std.proofs.Common.{◌≡◌, ℕ, ◌+◌, ◌*◌, ◌/◌, ◌%◌, ◌^◌, ◌<◌, ◌≤◌, inl, inr, subst, arith}
-use Rattle.std.proofs.Math.Nat.{pow-le-pow_right}
+use Rattle.std.proofs.Common.{◌≡◌, ℕ, ◌+◌, ◌*◌, ◌/◌, ◌^◌, ◌<◌, ◌≤◌, inl, inr, ap, subst, ◌∙◌, arith}
+use Rattle.std.proofs.Math.Nat.{div-div-eq-div-mul, mul_comm, pow-le-pow_right}
 use Rattle.std.proofs.lemmas.Bool.{cases_lt}
-use Rattle.std.proofs.lemmas.Nat.{le-div, mul-le, pow_pos, shl_whole, shr_below}
+use Rattle.std.proofs.lemmas.Nat.{le-div, pow_pos, shr_below}
 use Rattle.sx_curve.specs.Search.{binary_digits, dropped_digits}
 use Rattle.sx_curve.proofs.Digits.{digits_are_least}
 
@@ -28,14 +28,13 @@ dropped_least volume fits some =
 pub cut_below : (n volume dropped : ℕ) → n ≤ volume → volume < 2 ^ (64 + dropped) → n / 2 ^ dropped < 2 ^ 64
 cut_below n volume dropped le most = shr_below n 64 dropped (omega arith)
 
-pub shifted_whole : (volume dropped exponent : ℕ) → volume < 2 ^ (64 + dropped) → exponent ≤ 40
-    → (volume / 2 ^ dropped * 2 ^ exponent) % 2 ^ 128 ≡ volume / 2 ^ dropped * 2 ^ exponent
-shifted_whole volume dropped exponent most few =
-    shl_whole (volume / 2 ^ dropped) 64 exponent 128 (shr_below volume 64 dropped most) (omega arith)
-
-pub shifted_positive : (volume dropped exponent : ℕ) → 2 ^ dropped ≤ volume
-    → 0 < volume / 2 ^ dropped * 2 ^ exponent
-shifted_positive volume dropped exponent least =
+-- without them some digit is left
+pub cut_positive : (volume dropped : ℕ) → 2 ^ dropped ≤ volume → 0 < volume / 2 ^ dropped
+cut_positive volume dropped least =
     let one : 1 ≤ volume / 2 ^ dropped = le-div 1 volume (2 ^ dropped) (pow_pos dropped) (omega arith) in
-    let power = pow_pos exponent in
-    omega (arith, mul-le 1 1 (volume / 2 ^ dropped) (2 ^ exponent) one (omega arith))
+    omega arith
+
+-- to shift first and then to divide is to divide by both
+pub shifted_first : (n divisor exponent : ℕ) → n / 2 ^ exponent / divisor ≡ n / (divisor * 2 ^ exponent)
+shifted_first n divisor exponent =
+    div-div-eq-div-mul n (2 ^ exponent) divisor ∙ ap (λ (d : ℕ). n / d) (mul_comm (2 ^ exponent) divisor)

@@ -15,7 +15,8 @@ fn dropped_digits(volume: u128) -> u32
     (128 - volume.leading_zeros()).saturating_sub(64)
 }
 
-// By how much a price changes: its part net / volume, over 2^exponent. The products are below 2^105.
+// By how much a price changes: its part net / volume, over 2^exponent. The product is below 2^105, and it is shifted
+// before it is divided, so that the divisor has 64 bits.
 fn change_of(exponent: u32, price: u64, net: u128, volume: u128) -> u128
     requires exponent { exponent ≤ 40 }
     requires price { price ≤ 2 ^ 40 }
@@ -27,7 +28,7 @@ fn change_of(exponent: u32, price: u64, net: u128, volume: u128) -> u128
     let dropped = dropped_digits(volume);
     let net = net >> dropped;
     let volume = volume >> dropped;
-    u128::from(price) * net / (volume << exponent)
+    ((u128::from(price) * net) >> exponent) / volume
 }
 
 // The nearest price in range.

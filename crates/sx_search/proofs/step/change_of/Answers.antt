@@ -1,7 +1,7 @@
-use Rattle.std.proofs.Common.{◌-◌, ◌*◌, ◌/◌, ◌%◌, ◌^◌, arith}
+use Rattle.std.proofs.Common.{◌-◌, ◌*◌, ◌/◌, ◌^◌, ◌∙◌, arith}
 use Rattle.std.proofs.Math.Nat.{div-le_self}
 use Rattle.std.proofs.lemmas.Nat.{mul-le}
-use Rattle.sx_search.proofs.Steps.{cut_below, shifted_positive, shifted_whole}
+use Rattle.sx_search.proofs.Steps.{cut_below, cut_positive, shifted_first}
 use Rattle.sx_search.proofs.step.change_of.Goals as goal
 
 pub overflow_mul-result : goal.overflow_mul-result
@@ -13,14 +13,13 @@ overflow_mul-result c =
 pub nonzero_div-result : goal.nonzero_div-result
 nonzero_div-result c =
     let dropped = c.dropped_digits-dropped in
-    rw (shifted_whole c.args.volume dropped.result c.args.exponent dropped.ensures.most c.requires.exponent)
-    (shifted_positive c.args.volume dropped.result c.args.exponent (dropped.ensures.least c.requires.volume))
+    cut_positive c.args.volume dropped.result (dropped.ensures.least c.requires.volume)
 
 pub returns-clause-value : goal.returns-clause-value
 returns-clause-value c =
     let dropped = c.dropped_digits-dropped in
-    rw (shifted_whole c.args.volume dropped.result c.args.exponent dropped.ensures.most c.requires.exponent)
-    (λ i. c.from.ensures i * (c.args.net / 2 ^ dropped.ensures.value i)
+    shifted_first (c.from.result * (c.args.net / 2 ^ dropped.result)) (c.args.volume / 2 ^ dropped.result) c.args.exponent
+    ∙ (λ i. c.from.ensures i * (c.args.net / 2 ^ dropped.ensures.value i)
     / (c.args.volume / 2 ^ dropped.ensures.value i * 2 ^ c.args.exponent))
 
 pub returns-clause-in_range : goal.returns-clause-in_range
@@ -29,8 +28,9 @@ returns-clause-in_range c =
     let net = cut_below c.args.net c.args.volume dropped.result c.requires.net dropped.ensures.most in
     let product = mul-le c.from.result (c.args.net / 2 ^ dropped.result) (2 ^ 40) (2 ^ 64 - 1)
     (omega arith) (omega arith) in
+    let whole = c.from.result * (c.args.net / 2 ^ dropped.result) in
     omega (
       arith,
-      div-le_self (c.from.result * (c.args.net / 2 ^ dropped.result))
-          ((c.args.volume / 2 ^ dropped.result * 2 ^ c.args.exponent) % 2 ^ 128),
+      div-le_self whole (2 ^ c.args.exponent),
+      div-le_self (whole / 2 ^ c.args.exponent) (c.args.volume / 2 ^ dropped.result),
     )
