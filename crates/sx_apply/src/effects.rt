@@ -1,13 +1,13 @@
 //! What a block does, as it is found while the block is judged.
 
-use sx_body::Tally;
-use sx_ledger::{Fills, Offers};
+use sx_body::{OfferChange, Tally};
+use sx_ledger::Fills;
 
-/// What a block does to a ledger, as it is found while the block is judged: what its transactions do, the
-/// offers after them, and what of those offers trades, by their places in that list.
+/// What a block does to a ledger, as it is found while the block is judged: what its transactions do, what they change
+/// the offers to, and what of the offers after them trades, by their places in that list.
 #[derive(Debug, Drop)]
 pub struct Effects {
     pub tally: Tally,
-    pub offers: Offers,
+    pub offers: OfferChange,
     pub fills: Fills,
 }
