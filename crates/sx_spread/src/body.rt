@@ -2,6 +2,7 @@
 
 ghost use Rattle.std.specs.Prelude.{◌≡◌, ◌≤◌, List, map, IfOk};
 ghost use Rattle.sx_body.specs.Accounts.{IsAccountAfter, StandsAt, with_known_accounts};
+ghost use Rattle.sx_body.specs.OfferChanges.{changed_by};
 ghost use Rattle.sx_body.specs.Tally.{IsTally, IsTallyOfBody};
 ghost use Rattle.sx_ledger.specs.declared.parts.Parts.{Parts as Ledgers};
 ghost use Rattle.sx_ledger.specs.Body.{IsAdmissibleIn, account_after, body_after, offers_after as all_offers};
@@ -12,9 +13,9 @@ ghost use Rattle.sx_tx.specs.declared.tx.Tx.{Tx as Transaction};
 use crate::sharing::sharers;
 use std::alloc::Global;
 use std::thread::{Threads, for_each_mut};
-use sx_body::{Tally, apply_to_account, complete_accounts};
+use sx_body::{OfferChange, Tally, apply_to_account, complete_accounts};
 use sx_bytes::NoMemory;
-use sx_ledger::{Account, Accounts, Ledger, Offers, Parts};
+use sx_ledger::{Account, Accounts, Ledger, Parts};
 
 // Makes each account what it is after the body, in at most so many threads.
 fn change_all<R: Threads + Sync>(
@@ -79,8 +80,8 @@ fn known_after<R: Threads + Sync>(
     }
 }
 
-/// The ledger after the body of a block, before anything trades, where the tally of the body is known and so are the
-/// offers after it: those that `precheck` and `offers_after` of `sx_body` answer. At most `workers` threads, each with a
+/// The ledger after the body of a block, before anything trades, where the tally of the body is known and so is what it
+/// changes the offers to: what `precheck` and `offers_after` of `sx_body` answer. At most `workers` threads, each with a
 /// part of the accounts, change them in place. The accounts that are created come in on one thread.
 ///
 /// How many workers there are does not change the answer: it is that of [`apply_accounts`](sx_body::apply_accounts).
@@ -90,17 +91,17 @@ pub fn par_apply_accounts<R: Threads + Sync>(
     alloc: Global,
     ledger: Ledger,
     tally: &Tally,
-    offers: Offers,
+    change: OfferChange,
     workers: u32,
 ) -> Result<Ledger, NoMemory>
     requires body { IsTallyOfBody ledger tally.now }
     requires offers { (txs : List Transaction) → IsAdmissibleIn 2 ledger txs → IsTally ledger txs tally.now
-        → offers ≡ all_offers ledger txs }
+        → changed_by change ledger.offers ≡ all_offers ledger txs }
     requires some_worker { 1 ≤ workers }
     ensures after { (txs : List Transaction) → IsAdmissibleIn 2 ledger txs → IsTally ledger txs tally.now
         → IfOk result (λ after. after ≡ body_after ledger txs) }
     ensures kept { IsLedger ledger }
 {
     let known = known_after(rt, alloc, ledger, tally, workers);
-    complete_accounts(alloc, known, tally, offers)
+    complete_accounts(alloc, known, tally, change)
 }
