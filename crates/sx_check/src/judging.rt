@@ -55,8 +55,9 @@ fn judge_trades(
     ensures refused { IfErr result (ExplainsButParent ledger.now block.now) }
 {
     let Survey { tally, offers } = survey;
-    check_market(alloc, ledger, block, offers.items())?;
-    let fills = check_rounding(alloc, ledger, block, offers.items())?;
+    let after = offers.after(ledger);
+    check_market(alloc, ledger, block, after)?;
+    let fills = check_rounding(alloc, ledger, block, after)?;
     Ok(Judged {
         checked: checked(block),
         effects: Effects {

@@ -6,8 +6,8 @@ ghost use Rattle.sx_check.specs.Surveys.{IsSurvey};
 
 use std::alloc::Global;
 use std::thread::Threads;
-use sx_body::{PrecheckFault, Tally, offers_after, par_precheck, precheck};
-use sx_ledger::{Ledger, Offers};
+use sx_body::{OfferChange, PrecheckFault, Tally, offers_after, par_precheck, precheck};
+use sx_ledger::Ledger;
 use sx_tx::Tx;
 
 /// What transactions do to a ledger, as a judgement and an execution need it.
@@ -15,8 +15,8 @@ use sx_tx::Tx;
 pub struct Survey {
     /// What they debit and credit, the numbers that they use, the offers and the accounts that they name.
     pub tally: Tally,
-    /// The offers after them, in order of their keys, where they are the body of a block.
-    pub offers: Offers,
+    /// What they change the offers to, where they are the body of a block.
+    pub offers: OfferChange,
 }
 
 /// The survey of transactions on a ledger, or the first of them that the ledger refuses by itself. It needs
