@@ -6,6 +6,7 @@ use Rattle.std.proofs.lemmas.List.Elements.{All-map}
 use Rattle.std.proofs.lemmas.List.Sums.{sum_by-cons}
 use Rattle.sx_apply.specs.Bounds.{AreOffers}
 use Rattle.sx_apply.proofs.BoundLaws.{ledger_offers}
+use Rattle.sx_body.specs.OfferChanges.{changed_by}
 use Rattle.sx_clear.specs.declared.body.Body.{Body}
 use Rattle.sx_clear.specs.Found.{IsBodyOf}
 use Rattle.sx_clear.specs.Quotes.{quote_of, quotes_of}
@@ -55,12 +56,12 @@ middle_is parts txs body is admissible found = body_keeps_ledger 1 parts txs is 
 
 -- the offers that were found are those after the transactions
 pub offers_is : (parts : Parts) (txs : List Tx) (body : Body) → IsAdmissible parts txs → IsBodyOf parts txs body
-    → body.offers ≡ (body_after parts txs).offers
+    → changed_by body.offers parts.offers ≡ (body_after parts txs).offers
 offers_is parts txs body admissible found =
     found.offers txs (later_admits_more 2 parts txs admissible) found.tally
 
 pub offers_are : (parts : Parts) (txs : List Tx) (body : Body) → IsLedger parts → IsAdmissible parts txs
-    → IsBodyOf parts txs body → AreOffers (assets_of parts) body.offers
+    → IsBodyOf parts txs body → AreOffers (assets_of parts) (changed_by body.offers parts.offers)
 offers_are parts txs body is admissible found =
     subst (AreOffers (assets_of parts)) (sym (offers_is parts txs body admissible found))
     (ledger_offers (body_after parts txs) (middle_is parts txs body is admissible found))

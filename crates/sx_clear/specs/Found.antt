@@ -1,6 +1,6 @@
 -- What is found of a body before anything trades.
 use Rattle.std.specs.Prelude.{ℕ, List}
-use Rattle.sx_apply.specs.Effects.{AreOffersAfter}
+use Rattle.sx_apply.specs.Effects.{IsChangeTo}
 use Rattle.sx_apply.specs.Trading.{CanExecute}
 use Rattle.sx_body.specs.Tally.{IsTally}
 use Rattle.sx_clear.specs.declared.body.Body.{Body}
@@ -9,10 +9,10 @@ use Rattle.sx_ledger.specs.declared.parts.Parts.{Parts}
 use Rattle.sx_ledger.specs.Body.{IsAdmissible, body_after}
 use Rattle.sx_tx.specs.declared.tx.Tx.{Tx}
 
--- what these transactions do, and the offers after them
+-- what these transactions do, and what they change the offers to
 pub record IsBodyOf (parts : Parts) (txs : List Tx) (body : Body) : Type 0 where
   pub tally : IsTally parts txs body.tally
-  pub offers : AreOffersAfter parts body.tally body.offers
+  pub offers : IsChangeTo parts body.tally body.offers
 
 -- these are the fills of the offers after an admissible body that was found, with what rounding keeps
 pub record CanLeave (parts : Parts) (found : Body) (prices rounding : List ℕ) (fills : List Fill) : Type 0 where

@@ -7,16 +7,16 @@ ghost use Rattle.sx_ledger.specs.Body.{IsAdmissible};
 use std::alloc::Global;
 use std::thread::Threads;
 use sx_apply::{par_tally_of, tally_of};
-use sx_body::{Tally, offers_after};
+use sx_body::{OfferChange, Tally, offers_after};
 use sx_bytes::NoMemory;
-use sx_ledger::{Ledger, Offers};
+use sx_ledger::Ledger;
 use sx_tx::Tx;
 
-// What the transactions of a body do, and the offers after them.
+// What the transactions of a body do, and what they change the offers to.
 #[derive(Drop)]
 pub struct Body {
     pub tally: Tally,
-    pub offers: Offers,
+    pub offers: OfferChange,
 }
 
 // What a body does, found by one pass over its transactions.

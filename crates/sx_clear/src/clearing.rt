@@ -61,7 +61,7 @@ pub fn trade_body<L: ledger::Ledger>(
 {
     let _height = ledger.height();
     price_ranges(&opened.prices);
-    let offers = opened.body.offers.items();
+    let offers = opened.body.offers.after(ledger);
     let trade = trade_at(alloc, offers, &opened.prices, mu, steps)?;
     let filled = fill(alloc, offers, &opened.prices, &trade.flow)?;
     Ok(Trading { trade, filled })

@@ -34,5 +34,5 @@ pub fn curves_of(alloc: Global, ledger: &Ledger, txs: &[Tx]) -> Result<Curves, N
     ensures quotes { IfOk result (λ curves. IsPermutation (the_quotes_of (body_after ledger.now txs.now).offers) curves.quotes) }
 {
     let body = body_of(alloc, ledger, txs)?;
-    offer_curves(alloc, ledger.assets(), body.offers.items())
+    offer_curves(alloc, ledger.assets(), body.offers.after(ledger))
 }

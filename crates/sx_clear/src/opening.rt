@@ -94,7 +94,7 @@ fn open<R: Threads + Sync>(
 {
     let assets = ledger.assets();
     let body = par_body_of(rt, alloc, ledger, txs, WORKERS)?;
-    let prices = posted(rt, alloc, ledger, assets, body.offers.items(), by)?;
+    let prices = posted(rt, alloc, ledger, assets, body.offers.after(ledger), by)?;
     Ok(Opened { body, prices })
 }
 
