@@ -8,7 +8,7 @@
 //! and [`MemSink`] are in memory, tell all their bytes and fail at the calls that they are told to;
 //! [`StdSource`] and [`StdSink`] adapt `std::io` and tell nothing of the bytes.
 //! [`AssetId`], [`Seq`] and [`Amount`] keep their ranges, [`AccountId`] is any integer, and
-//! [`Balances`] is a list.
+//! [`Balances`] is a list, of which up to eight stand in the value itself.
 //!
 //! Not here: files, clocks, threads, buffering, retries after a failure, and any claim that a
 //! source ever gives a byte. What `std::io` gives and takes is trusted.
@@ -32,7 +32,7 @@ mod std_source;
 pub use account_id::AccountId;
 pub use amount::{Amount, AmountRange};
 pub use asset_id::{AssetId, AssetRange};
-pub use balances::Balances;
+pub use balances::{BalanceVec, Balances};
 pub use exact::{TakeFault, put_all, take_exact};
 pub use failed::Failed;
 pub use mem_sink::MemSink;
