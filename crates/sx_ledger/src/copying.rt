@@ -6,17 +6,8 @@ use crate::account::{Account, Accounts};
 use crate::ledger::Ledger;
 use crate::offer::Offers;
 use crate::parts::Parts;
-use sx_base::Balances;
 use sx_bytes::NoMemory;
 use sx_price::Prices;
-
-fn copy_balances(balances: &Balances) -> Result<Balances, NoMemory>
-    ensures { IfOk result (λ copy. copy ≡ balances.now) }
-{
-    let mut copy = Vec::with_capacity(balances.allocator(), balances.items().len())?;
-    copy.extend_from_slice(balances.items())?;
-    Ok(Balances::of(copy))
-}
 
 fn copy_prices(prices: &Prices) -> Result<Prices, NoMemory>
     ensures { IfOk result (λ copy. copy ≡ prices.now) }
@@ -34,7 +25,7 @@ impl Account {
         Ok(Account {
             id: self.id,
             window: self.window,
-            balances: copy_balances(&self.balances)?,
+            balances: self.balances.copy()?,
         })
     }
 }
@@ -68,7 +59,7 @@ impl Ledger {
             version: parts.version,
             height: parts.height,
             prices: copy_prices(&parts.prices)?,
-            rounding: copy_balances(&parts.rounding)?,
+            rounding: parts.rounding.copy()?,
             accounts: copy_accounts(&parts.accounts)?,
             offers: copy_offers(&parts.offers)?,
         }))

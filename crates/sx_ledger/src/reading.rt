@@ -18,7 +18,7 @@ use crate::parts::Parts;
 use crate::totals::totals_fit;
 use std::alloc::Global;
 use std::thread::Threads;
-use sx_base::{Amount, AssetId, Balances};
+use sx_base::{Amount, AssetId, BalanceVec, Balances};
 use sx_bytes::{Form, FormFault, ReadError, Reader};
 use sx_price::{Price, Prices};
 
@@ -70,12 +70,12 @@ pub fn read_prices(alloc: Global, from: &mut Reader, assets: u8) -> Result<Price
 }
 
 // Balances, or roundings: one for each asset.
-pub fn units(alloc: Global, from: &mut Reader, assets: u8) -> Result<Vec<u64>, ReadError>
+pub fn units(alloc: Global, from: &mut Reader, assets: u8) -> Result<BalanceVec, ReadError>
     ensures exact { MayDecodeOrStray (λ v. v.items) (many_at units_field_at assets from.old) from.new result }
     ensures same { from.new.bytes ≡ from.old.bytes }
     ensures onward { from.old.place ≤ from.new.place }
 {
-    let mut units = Vec::with_capacity(alloc, usize::from(assets))?;
+    let mut units = BalanceVec::with_capacity(alloc, usize::from(assets))?;
     for _ in 0..assets {
         units.push(from.field_u64(0, Amount::MOST, Form::AmountRange)?)?;
     }
@@ -88,7 +88,7 @@ struct Head {
     version: u8,
     height: u64,
     prices: Prices,
-    rounding: Vec<u64>,
+    rounding: BalanceVec,
 }
 
 #[tactic(auto, unfolding(crate::specs::Decoding::head_at))]
