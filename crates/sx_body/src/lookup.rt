@@ -5,7 +5,7 @@ ghost use Rattle.sx_body.specs.Known.{AreKnown, HasPlaces};
 ghost use Rattle.sx_ledger.specs.Ledger.{ids};
 
 use std::thread::{Threads, for_each_chunk_mut};
-use sx_ledger::{AccountIndex, Ledger, Places};
+use sx_ledger::{Ledger, LedgerIndex, Places};
 use sx_tx::Tx;
 
 // How many transactions are worth a thread of their own. Looking them up takes half a millisecond, and to start a
@@ -13,7 +13,7 @@ use sx_tx::Tx;
 const WORTH_A_THREAD: usize = 2_048;
 
 // The places of a transaction, or `None` where the ledger refuses it.
-fn look_up_one(ledger: &Ledger, index: &AccountIndex, near: u32, tx: &Tx) -> Option<Places>
+fn look_up_one(ledger: &Ledger, index: &LedgerIndex, near: u32, tx: &Tx) -> Option<Places>
     requires index { index.now ≡ ids ledger.now.accounts }
     ensures { IfSome result (HasPlaces ledger.now tx.now) }
 {
@@ -24,7 +24,7 @@ fn look_up_one(ledger: &Ledger, index: &AccountIndex, near: u32, tx: &Tx) -> Opt
 // before it.
 pub(crate) fn look_up_part(
     ledger: &Ledger,
-    index: &AccountIndex,
+    index: &LedgerIndex,
     txs: &[Tx],
     from: usize,
     known: &mut [Option<Places>],
@@ -48,7 +48,7 @@ pub(crate) fn look_up_part(
 pub(crate) fn look_up<R: Threads + Sync>(
     rt: &R,
     ledger: &Ledger,
-    index: &AccountIndex,
+    index: &LedgerIndex,
     txs: &[Tx],
     from: usize,
     workers: u32,

@@ -17,7 +17,7 @@ use std::alloc::Global;
 use std::mem;
 use std::thread::{Threads, join_mut};
 use sx_bytes::NoMemory;
-use sx_ledger::{AccountIndex, Ledger, Places, Static};
+use sx_ledger::{Ledger, LedgerIndex, Places, Static};
 use sx_tx::Tx;
 use thiserror::Error;
 
@@ -56,7 +56,7 @@ impl From<NoMemory> for PrecheckFault {
 // The places of a transaction, which may be known, or the reason why the ledger refuses it.
 fn places_of(
     ledger: &Ledger,
-    index: &AccountIndex,
+    index: &LedgerIndex,
     tx: &Tx,
     known: Option<Places>,
 ) -> Result<Places, Static>
@@ -75,7 +75,7 @@ fn places_of(
 // debits and credits is pending afterwards.
 fn enter_one(
     ledger: &Ledger,
-    index: &AccountIndex,
+    index: &LedgerIndex,
     txs: &[Tx],
     at: usize,
     known: Option<Places>,
@@ -104,7 +104,7 @@ fn enter_one(
 // It posts what they debit and credit when all are entered.
 fn enter_run(
     ledger: &Ledger,
-    index: &AccountIndex,
+    index: &LedgerIndex,
     txs: &[Tx],
     from: usize,
     known: &[Option<Places>],
@@ -132,7 +132,7 @@ fn enter_run(
 // over them run by run.
 fn enter_known(
     ledger: &Ledger,
-    index: &AccountIndex,
+    index: &LedgerIndex,
     txs: &[Tx],
     from: usize,
     known: &[Option<Places>],
@@ -163,7 +163,7 @@ fn enter_known(
 // has as many transactions as there are slots for their places.
 fn enter_alone(
     ledger: &Ledger,
-    index: &AccountIndex,
+    index: &LedgerIndex,
     txs: &[Tx],
     slots: &mut [Option<Places>],
     tally: &mut Tally,
@@ -215,7 +215,7 @@ pub fn precheck(alloc: Global, ledger: &Ledger, txs: &[Tx]) -> Result<Tally, Pre
 fn enter_piece<R: Threads + Sync>(
     rt: &R,
     ledger: &Ledger,
-    index: &AccountIndex,
+    index: &LedgerIndex,
     txs: &[Tx],
     from: usize,
     workers: u32,
@@ -273,7 +273,7 @@ fn enter_piece<R: Threads + Sync>(
 fn enter_pieces<R: Threads + Sync>(
     rt: &R,
     ledger: &Ledger,
-    index: &AccountIndex,
+    index: &LedgerIndex,
     txs: &[Tx],
     workers: u32,
     known: &mut Vec<Option<Places>>,

@@ -15,7 +15,7 @@ use std::alloc::Global;
 use std::thread::{Threads, map_indices};
 use sx_bytes::{NoMemory, all_of};
 use sx_layout::sort_txs;
-use sx_ledger::{AccountIndex, Ledger};
+use sx_ledger::{Ledger, LedgerIndex};
 use sx_tx::{Tx, TxList, TxParts};
 
 // How many candidates stand in all lists.
@@ -70,7 +70,7 @@ fn sort(txs: &mut Vec<Tx>)
 }
 
 // Leaves those that the ledger passes, in their order. Each account is looked for near the one before it.
-fn drop_refused(ledger: &Ledger, index: &AccountIndex, txs: &mut Vec<Tx>)
+fn drop_refused(ledger: &Ledger, index: &LedgerIndex, txs: &mut Vec<Tx>)
     requires { index.now ≡ ids ledger.now.accounts }
     ensures { txs.new.items ≡ passing ledger.now txs.old.items }
 {
@@ -91,7 +91,7 @@ fn drop_refused(ledger: &Ledger, index: &AccountIndex, txs: &mut Vec<Tx>)
 fn part_of(
     alloc: Global,
     ledger: &Ledger,
-    index: &AccountIndex,
+    index: &LedgerIndex,
     candidates: &TxParts,
     cuts: &[u64],
     range: usize,
@@ -111,7 +111,7 @@ fn parts_between<R: Threads + Sync>(
     rt: &R,
     alloc: Global,
     ledger: &Ledger,
-    index: &AccountIndex,
+    index: &LedgerIndex,
     candidates: &TxParts,
     cuts: &[u64],
 ) -> Result<Vec<TxList>, NoMemory>

@@ -18,7 +18,7 @@ use std::alloc::Global;
 use std::marker::Model;
 use sx_base::{AccountId, Amount, AssetId};
 use sx_bytes::NoMemory;
-use sx_ledger::{AccountIndex, Key, Ledger, Places, Static, Target};
+use sx_ledger::{Key, Ledger, LedgerIndex, Places, Static, Target};
 use sx_tx::{Kind, Tx};
 
 /// The candidates of a ledger, and which word of which shard each of them asks for. Contracts see the
@@ -31,7 +31,7 @@ use sx_tx::{Kind, Tx};
 pub struct Setting<'a> {
     ledger: &'a Ledger,
     candidates: &'a [Tx],
-    index: AccountIndex,
+    index: LedgerIndex,
     layout: Layout,
 }
 

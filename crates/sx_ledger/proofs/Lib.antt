@@ -27,6 +27,7 @@ pub mod SearchById
 pub mod KeyOrder
 pub mod OfferOrder
 pub mod SearchByKey
+pub mod KeysBetween
 pub mod Lookup
 pub mod SequenceChecks
 pub mod RunningTotals

@@ -7,7 +7,6 @@ ghost use Rattle.sx_ledger.specs.Buckets.{IsBegin, AreBegins};
 ghost use Rattle.sx_ledger.specs.Ledger.{ids, most_accounts};
 
 use crate::account::Account;
-use crate::ledger::Ledger;
 use std::alloc::Global;
 use std::marker::Model;
 use sx_base::AccountId;
@@ -175,15 +174,5 @@ impl AccountIndex {
             return Some(next);
         }
         self.find(id)
-    }
-}
-
-impl Ledger {
-    /// The ids of the accounts, to look many of them up.
-    pub fn index(&self) -> Result<AccountIndex, NoMemory>
-        ensures { IfOk result (λ index. index ≡ ids self.now.accounts) }
-    {
-        let accounts = &self.parts().accounts;
-        AccountIndex::of(accounts.allocator(), accounts.items())
     }
 }

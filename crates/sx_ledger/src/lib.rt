@@ -15,9 +15,10 @@
 //! [`Ledger::static_check`] answers the first reason,
 //! a [`Static`], why the ledger refuses a transaction by itself, and [`Ledger::places_of`] the same
 //! with the [`Places`] where its account and what it names stand. [`Ledger::find`] and
-//! [`Ledger::find_offer`] search for an account and for an offer, an [`AccountIndex`] finds many
-//! accounts fast, and [`Ledger::copy`] makes a ledger of its own. Any call that takes memory may
-//! answer out of memory instead.
+//! [`Ledger::find_offer`] search for an account and for an offer, a [`LedgerIndex`] finds many of a
+//! ledger's accounts and offers fast and an [`AccountIndex`] many of a list of accounts, and
+//! [`Ledger::copy`] makes a ledger of its own. Any call that takes memory may answer out of memory
+//! instead.
 //!
 //! An [`Account`] has its [`Window`](sx_tx::Window) and its balances, an [`Offer`] its terms and its
 //! amount, and a [`Fill`] what an offer trades. [`Accounts`], [`Offers`] and [`Fills`] are lists.
@@ -41,8 +42,10 @@ mod index;
 mod key;
 mod laws;
 mod ledger;
+mod ledger_index;
 mod offer;
 mod offer_decoding;
+mod offer_marks;
 mod offer_reading;
 mod offer_standing;
 mod offer_sums;
@@ -62,6 +65,7 @@ pub use index::AccountIndex;
 pub use key::Key;
 pub use laws::{account_laws, state_laws};
 pub use ledger::Ledger;
+pub use ledger_index::LedgerIndex;
 pub use offer::{Offer, Offers};
 pub use parts::Parts;
 pub use places::{Places, Target};

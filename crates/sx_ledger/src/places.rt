@@ -5,8 +5,8 @@ ghost use Rattle.sx_ledger.specs.Ledger.{ids};
 ghost use Rattle.sx_ledger.specs.Places.{ArePlaces, IsFound, named_account as account_named};
 ghost use Rattle.sx_ledger.specs.Static.{static_of};
 
-use crate::index::AccountIndex;
 use crate::ledger::Ledger;
+use crate::ledger_index::LedgerIndex;
 use crate::statics::Static;
 use sx_base::AccountId;
 use sx_tx::{Kind, Tx};
@@ -38,7 +38,7 @@ fn named_account(kind: &Kind) -> Option<AccountId>
     }
 }
 
-impl AccountIndex {
+impl LedgerIndex {
     // Where the account that a transaction pays or creates stands.
     fn find_named(&self, kind: &Kind) -> Option<u32>
         ensures { IfSome (account_named kind.now) (λ id. IsFound self.now id.0 result) }
@@ -59,7 +59,7 @@ impl Ledger {
     /// transaction is looked for at the place `near` and at the one after it before it is searched
     /// for, so transactions by account cost next to no search; `near` may be any number. It takes no
     /// memory.
-    pub fn places_of(&self, index: &AccountIndex, near: u32, tx: &Tx) -> Result<Places, Static>
+    pub fn places_of(&self, index: &LedgerIndex, near: u32, tx: &Tx) -> Result<Places, Static>
         requires { index.now ≡ ids self.now.accounts }
         ensures refused { IfErr result (λ why. static_of self.now tx.now ≡ Err why) }
         ensures passes { OnOk result (static_of self.now tx.now ≡ Ok tt) }
@@ -67,6 +67,6 @@ impl Ledger {
     {
         let account = index.find_near(near, tx.account);
         let named = index.find_named(&tx.kind);
-        self.check(tx, account, named)
+        self.check(tx, account, named, Some(index.offers()))
     }
 }

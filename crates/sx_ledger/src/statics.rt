@@ -1,13 +1,14 @@
 //! What a ledger says of one transaction, whatever stands beside it in a block.
 
-ghost use Rattle.std.specs.Prelude.{◌≡◌, ◌*◌, ◌^◌, ◌==◌, ◌||◌, nat_lt, nat_le, not, take, drop, [], ◌∷◌, slice_get, Some, IfOk, IfSome, is_some};
+ghost use Rattle.std.specs.Prelude.{◌≡◌, ◌*◌, ◌^◌, ◌==◌, ◌||◌, nat_lt, nat_le, not, take, drop, [], ◌∷◌, slice_get, Some, IfOk, IfSome, IfNone, is_some};
 ghost use Rattle.sx_ledger.specs.declared.statics.Static.TheVariants.{UnknownAsset, SamePair, UnknownPayee, AccountExists, NoSuchOffer, Dust};
-ghost use Rattle.sx_ledger.specs.Ledger.{assets_of, ids, keys};
+ghost use Rattle.sx_ledger.specs.Ledger.{assets_of, holds_key, ids, keys};
 ghost use Rattle.sx_ledger.specs.Places.{ArePlaces, IsFound, IsNamedOffer, IsTarget, named_account, verdict};
 ghost use Rattle.sx_ledger.specs.Static.{first_holding, has_offer as is_offered, number_of_static, static_list, static_of};
 
 use crate::key::Key;
 use crate::ledger::Ledger;
+use crate::offer_marks::OfferMarks;
 use crate::places::{Places, Target};
 use sx_base::{AccountId, Amount, AssetId};
 use sx_price::Limit;
@@ -130,21 +131,37 @@ impl Ledger {
         Ok(())
     }
 
+    // The place of the offer of this key. With marks the search begins at the guess that they make.
+    fn find_marked(&self, key: &Key, marks: Option<&OfferMarks>) -> Option<u32>
+        ensures found { IfSome result (λ place. slice_get (keys self.now.offers) place ≡ Some key.now) }
+        ensures absent { IfNone result (holds_key self.now key.now → ⊥) }
+    {
+        match marks {
+            Some(marks) => self.find_offer_near(marks.range(key), key),
+            None => self.find_offer(key),
+        }
+    }
+
     // The pair is one, and an offer has this key.
-    fn check_cancellation(&self, key: &Key) -> Result<Target, Static>
+    fn check_cancellation(&self, key: &Key, marks: Option<&OfferMarks>) -> Result<Target, Static>
         ensures tells { verdict result ≡ first_holding ((nat_le (assets_of self.now) key.now.sell || nat_le (assets_of self.now) key.now.buy, UnknownAsset) ∷ (key.now.sell == key.now.buy, SamePair) ∷ (not (is_offered self.now.offers key.now), NoSuchOffer) ∷ []) }
         ensures place { IfOk result (IsNamedOffer self.now key.now) }
     {
         self.check_pair(key.sell, key.buy)?;
-        match self.find_offer(key) {
+        match self.find_marked(key, marks) {
             Some(place) => Ok(Target::Offer(place)),
             None => Err(Static::NoSuchOffer),
         }
     }
 
     // What the kind of the transaction asks of the ledger, where the account that it pays or creates
-    // was looked up.
-    fn check_kind(&self, tx: &Tx, named: Option<u32>) -> Result<Target, Static>
+    // was looked up. With marks of the offers, the one that it cancels is found faster.
+    fn check_kind(
+        &self,
+        tx: &Tx,
+        named: Option<u32>,
+        marks: Option<&OfferMarks>,
+    ) -> Result<Target, Static>
         requires { IfSome (named_account tx.now.kind) (λ id. IsFound (ids self.now.accounts) id.0 named) }
         ensures tells { verdict result ≡ first_holding (drop 4 (static_list self.now tx.now)) }
         ensures target { IfOk result (IsTarget self.now tx.now.account.0 tx.now.kind) }
@@ -169,23 +186,27 @@ impl Ledger {
                 buy,
                 limit,
                 seq,
-            } => self.check_cancellation(&Key {
-                sell,
-                buy,
-                limit,
-                account: tx.account,
-                seq,
-            }),
+            } => {
+                let key = Key {
+                    sell,
+                    buy,
+                    limit,
+                    account: tx.account,
+                    seq,
+                };
+                self.check_cancellation(&key, marks)
+            }
         }
     }
 
     // The static test of a transaction, once its account and the one that it pays or creates were
-    // looked up, and the places of what it names.
+    // looked up, and the places of what it names. With marks of the offers, the one that it cancels is found faster.
     pub(crate) fn check(
         &self,
         tx: &Tx,
         account: Option<u32>,
         named: Option<u32>,
+        marks: Option<&OfferMarks>,
     ) -> Result<Places, Static>
         requires account { IsFound (ids self.now.accounts) tx.now.account.0 account }
         requires named { IfSome (named_account tx.now.kind) (λ id. IsFound (ids self.now.accounts) id.0 named) }
@@ -193,7 +214,7 @@ impl Ledger {
         ensures places { IfOk result (ArePlaces self.now tx.now) }
     {
         let account = self.check_number(tx, account)?;
-        let target = self.check_kind(tx, named)?;
+        let target = self.check_kind(tx, named, marks)?;
         Ok(Places { account, target })
     }
 
@@ -204,7 +225,7 @@ impl Ledger {
     {
         let account = self.find(tx.account);
         let named = self.find_named(&tx.kind);
-        match self.check(tx, account, named) {
+        match self.check(tx, account, named, None) {
             Ok(_) => Ok(()),
             Err(why) => Err(why),
         }
