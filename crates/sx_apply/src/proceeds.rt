@@ -7,7 +7,7 @@ ghost use Rattle.sx_ledger.specs.Ledger.{balance_at, ids};
 
 use std::alloc::Global;
 use std::mem;
-use sx_base::{AssetId, Balances};
+use sx_base::{AssetId, BalanceVec, Balances};
 use sx_bytes::NoMemory;
 use sx_ledger::{Account, AccountIndex, Accounts, Fill, Offer};
 
@@ -17,7 +17,7 @@ fn credit(alloc: Global, account: &mut Account, asset: AssetId, units: u64)
     requires fits { balance_at asset account.old + units < 2 ^ 64 }
     ensures { account.new ≡ record account.old { balances = slice_set account.old.balances asset (balance_at asset account.old + units) } }
 {
-    let none = Balances::of(Vec::new(alloc));
+    let none = Balances::of(BalanceVec::new(alloc));
     let mut balances = mem::replace(&mut account.balances, none).into_items();
     balances[usize::from(asset.get())] += units;
     account.balances = Balances::of(balances);

@@ -7,7 +7,7 @@ ghost use Rattle.sx_fill.specs.AllFills.{all_fills};
 ghost use Rattle.sx_ledger.specs.Fills.{Flow, IsRounding};
 
 use std::alloc::Global;
-use sx_base::Balances;
+use sx_base::{BalanceVec, Balances};
 use sx_bytes::NoMemory;
 use sx_ledger::{Fill, Offer};
 
@@ -53,7 +53,7 @@ pub fn rounding_of(
     ensures one_each { IfOk result (λ rounding. length rounding ≡ assets) }
     ensures kept { IfOk result (λ rounding. (prices : List ℕ) (flow : Flow) (asset : ℕ) → fills.now ≡ all_fills prices flow offers.now → asset < assets → IsRounding prices flow offers.now asset (slice_index rounding asset)) }
 {
-    let mut kept = vec![in alloc; 0; assets as usize]?;
+    let mut kept = BalanceVec::from_elem(alloc, 0, assets as usize)?;
     let mut got = vec![in alloc; 0; assets as usize]?;
     add_fills(&mut kept, &mut got, offers, fills);
     subtract_each(&mut kept, &got);

@@ -10,7 +10,7 @@ use crate::digest::Digest;
 use crate::header::Header;
 use crate::trade_reading::{read_cut, read_flow};
 use std::alloc::Global;
-use sx_base::{Amount, AssetId, Balances};
+use sx_base::{Amount, AssetId, BalanceVec, Balances};
 use sx_bytes::{Form, FormFault, ReadError, Reader};
 use sx_dual::{Cut, Flow, Potentials};
 use sx_ledger::{Ledger, read_prices};
@@ -96,10 +96,10 @@ fn read_potentials(alloc: Global, from: &mut Reader, assets: u8) -> Result<Vec<u
     Ok(potentials)
 }
 
-fn read_rounding(alloc: Global, from: &mut Reader, assets: u8) -> Result<Vec<u64>, ReadError>
+fn read_rounding(alloc: Global, from: &mut Reader, assets: u8) -> Result<BalanceVec, ReadError>
     ensures { MayDecodeOrStray (λ v. v.items) (many_at units_field_at assets from.old) from.new result }
 {
-    let mut rounding = Vec::with_capacity(alloc, usize::from(assets))?;
+    let mut rounding = BalanceVec::with_capacity(alloc, usize::from(assets))?;
     for _ in 0..assets {
         rounding.push(from.field_u64(0, Amount::MOST, Form::AmountRange)?)?;
     }
@@ -110,7 +110,7 @@ fn read_rounding(alloc: Global, from: &mut Reader, assets: u8) -> Result<Vec<u64
 #[derive(Drop)]
 struct Outcome {
     potentials: Potentials,
-    rounding: Vec<u64>,
+    rounding: BalanceVec,
     after: Digest,
 }
 

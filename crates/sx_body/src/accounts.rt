@@ -14,7 +14,7 @@ use crate::postings::Postings;
 use crate::tally::Tally;
 use std::alloc::Global;
 use std::mem;
-use sx_base::Balances;
+use sx_base::{BalanceVec, Balances};
 use sx_ledger::{Account, Accounts, Ledger, Parts};
 
 // A balance with these credits and debits.
@@ -31,17 +31,17 @@ fn balance_after(balance: u64, debits: u128, credits: u128) -> u64
 }
 
 // Adds to balances what is credited to the account at a place, and takes from them what is debited.
-fn post_all(balances: &mut Vec<u64>, postings: &Postings, place: usize)
+fn post_all(balances: &mut [u64], postings: &Postings, place: usize)
     requires place { place < length postings.now.starts.items }
-    requires rows { HasRows postings.now (length postings.now.starts.items) (length balances.old.items) }
-    requires covers { (asset : ℕ) → asset < length balances.old.items
-        → debit_at postings.now place asset ≤ slice_index balances.old.items asset + credit_at postings.now place asset }
-    requires fits { (asset : ℕ) → asset < length balances.old.items
-        → (slice_index balances.old.items asset
+    requires rows { HasRows postings.now (length postings.now.starts.items) (length balances.old) }
+    requires covers { (asset : ℕ) → asset < length balances.old
+        → debit_at postings.now place asset ≤ slice_index balances.old asset + credit_at postings.now place asset }
+    requires fits { (asset : ℕ) → asset < length balances.old
+        → (slice_index balances.old asset
         + credit_at postings.now place asset) - debit_at postings.now place asset < 2 ^ 64 }
-    ensures as_many { length balances.new.items ≡ length balances.old.items }
-    ensures each { (asset : ℕ) → asset < length balances.old.items
-        → slice_index balances.new.items asset ≡ (slice_index balances.old.items asset
+    ensures as_many { length balances.new ≡ length balances.old }
+    ensures each { (asset : ℕ) → asset < length balances.old
+        → slice_index balances.new asset ≡ (slice_index balances.old asset
         + credit_at postings.now place asset) - debit_at postings.now place asset }
 {
     for asset in 0..balances.len() {
@@ -67,7 +67,7 @@ fn post_account(alloc: Global, account: &mut Account, postings: &Postings, place
         → balance_at asset account.new ≡ (balance_at asset account.old
         + credit_at postings.now place asset) - debit_at postings.now place asset }
 {
-    let none = Balances::of(Vec::new(alloc));
+    let none = Balances::of(BalanceVec::new(alloc));
     let mut balances = mem::replace(&mut account.balances, none).into_items();
     post_all(&mut balances, postings, place);
     account.balances = Balances::of(balances);

@@ -5,7 +5,7 @@ ghost use Rattle.std.specs.List.Sorted.{IsNonDecreasingBy, IsPermutation};
 ghost use Rattle.sx_body.specs.Accounts.{fresh};
 
 use std::alloc::Global;
-use sx_base::{AccountId, Balances};
+use sx_base::{AccountId, BalanceVec, Balances};
 use sx_bytes::NoMemory;
 use sx_ledger::Account;
 use sx_tx::Window;
@@ -17,7 +17,7 @@ fn new_account(alloc: Global, id: u64, assets: usize) -> Result<Account, NoMemor
     Ok(Account {
         id: AccountId(id),
         window: Window { last: 0, used: 0 },
-        balances: Balances::of(vec![in alloc; 0; assets]?),
+        balances: Balances::of(BalanceVec::from_elem(alloc, 0, assets)?),
     })
 }
 

@@ -4,7 +4,7 @@ ghost use Rattle.std.specs.Prelude.{◌≡◌, length, IfOk, OnOk};
 
 use std::alloc::Global;
 use std::mem;
-use sx_base::Balances;
+use sx_base::{BalanceVec, Balances};
 use sx_bytes::{ListOf, NoMemory};
 use sx_ledger::{Account, Accounts, Ledger, Parts};
 
@@ -18,15 +18,25 @@ fn refilled<T: Copy>(spare: ListOf<T>, list: &ListOf<T>) -> Result<ListOf<T>, No
     Ok(ListOf::of(copy))
 }
 
+// Balances, in the memory of others.
+fn refilled_balances(spare: Balances, balances: &Balances) -> Result<Balances, NoMemory>
+    ensures { IfOk result (λ copy. copy ≡ balances.now) }
+{
+    let mut copy = spare.into_items();
+    copy.clear();
+    copy.extend_from_slice(balances.items())?;
+    Ok(Balances::of(copy))
+}
+
 // Makes an account a copy of another one.
 fn refill_account(alloc: Global, spare: &mut Account, account: &Account) -> Result<(), NoMemory>
     ensures { OnOk result (spare.new ≡ account.now) }
 {
-    let none = Balances::of(Vec::new(alloc));
+    let none = Balances::of(BalanceVec::new(alloc));
     let balances = mem::replace(&mut spare.balances, none);
     spare.id = account.id;
     spare.window = account.window;
-    spare.balances = refilled(balances, &account.balances)?;
+    spare.balances = refilled_balances(balances, &account.balances)?;
     Ok(())
 }
 
@@ -55,7 +65,7 @@ fn resized(
         list.push(Account {
             id: accounts[place].id,
             window: accounts[place].window,
-            balances: Balances::of(Vec::new(alloc)),
+            balances: Balances::of(BalanceVec::new(alloc)),
         })?;
     }
     Ok(list)
@@ -94,7 +104,7 @@ pub fn copied(alloc: Global, ledger: &Ledger, spare: Option<Ledger>) -> Result<L
         version: parts.version,
         height: parts.height,
         prices: refilled(prices, &parts.prices)?,
-        rounding: refilled(rounding, &parts.rounding)?,
+        rounding: refilled_balances(rounding, &parts.rounding)?,
         accounts: refilled_accounts(alloc, accounts, &parts.accounts)?,
         offers: refilled(offers, &parts.offers)?,
     }))

@@ -4,7 +4,7 @@ ghost use Rattle.std.specs.Prelude.{◌≡◌, ◌^◌, ◌<◌, IfOk, replicate
 ghost use Rattle.sx_gen.specs.State.{account_at, accounts_of, demo_parts};
 
 use std::alloc::Global;
-use sx_base::{AccountId, Balances};
+use sx_base::{AccountId, BalanceVec, Balances};
 use sx_bytes::NoMemory;
 use sx_ledger::{Account, Accounts, Ledger, Offers, Parts};
 use sx_price::{Price, Prices};
@@ -23,7 +23,7 @@ const BALANCE: u64 = 1_000_000;
 fn balances(alloc: Global, units: u64) -> Result<Balances, NoMemory>
     ensures { IfOk result (λ balances. balances ≡ replicate 8 units) }
 {
-    Ok(Balances::of(vec![in alloc; units; ASSETS as usize]?))
+    Ok(Balances::of(BalanceVec::from_elem(alloc, units, ASSETS as usize)?))
 }
 
 fn prices(alloc: Global) -> Result<Prices, NoMemory>

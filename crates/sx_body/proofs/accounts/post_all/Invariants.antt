@@ -4,9 +4,9 @@ use Rattle.sx_body.proofs.accounts.post_all.Given as goal
 
 abbrev pub invariant-loop-asset : goal.invariant-loop-asset
 invariant-loop-asset l = record {
-  as_many : length l.balances.items ≡ length l.initial.balances.items;
-  moved : (asset : ℕ) → asset < l.asset → slice_index l.balances.items asset
-      ≡ (slice_index l.initial.balances.items asset + credit_at l.postings l.place asset) - debit_at l.postings l.place asset;
+  as_many : length l.balances ≡ length l.initial.balances;
+  moved : (asset : ℕ) → asset < l.asset → slice_index l.balances asset
+      ≡ (slice_index l.initial.balances asset + credit_at l.postings l.place asset) - debit_at l.postings l.place asset;
   unmoved : (asset : ℕ) → l.asset ≤ asset
-      → slice_index l.balances.items asset ≡ slice_index l.initial.balances.items asset;
+      → slice_index l.balances asset ≡ slice_index l.initial.balances asset;
 }
