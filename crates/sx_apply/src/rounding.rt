@@ -53,9 +53,9 @@ pub fn rounding_of(
     ensures one_each { IfOk result (λ rounding. length rounding ≡ assets) }
     ensures kept { IfOk result (λ rounding. (prices : List ℕ) (flow : Flow) (asset : ℕ) → fills.now ≡ all_fills prices flow offers.now → asset < assets → IsRounding prices flow offers.now asset (slice_index rounding asset)) }
 {
-    let mut kept = BalanceVec::from_elem(alloc, 0, assets as usize)?;
+    let mut kept = vec![in alloc; 0; assets as usize]?;
     let mut got = vec![in alloc; 0; assets as usize]?;
     add_fills(&mut kept, &mut got, offers, fills);
     subtract_each(&mut kept, &got);
-    Ok(Balances::of(kept))
+    Ok(Balances::of(BalanceVec::from_slice(alloc, &kept)?))
 }

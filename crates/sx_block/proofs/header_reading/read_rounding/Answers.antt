@@ -14,7 +14,7 @@ returns-in_err-field_u64 c =
 
 pub loop-preserved : goal.loop-preserved
 loop-preserved c =
-    rw c.in_ok-push.ensures.items (goes_on units_field_at c.loop.rounding.items c.args.assets c.loop.counter
+    rw c.in_ok-push.ensures.ok (goes_on units_field_at c.loop.rounding.items c.args.assets c.loop.counter
     c.loop.from c.in_ok-field_u64.field-0 c.field_u64.new.self
     (many_at units_field_at c.args.assets c.args.from.now) c.loop-test.true c.in_ok-field_u64.ensures.exact
     c.loop.invariant)
