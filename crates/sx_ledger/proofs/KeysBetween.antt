@@ -162,19 +162,3 @@ module _ (offers : List Offer) (up : in_order key_before None (keys offers) ≡ 
   searched_between p q (Err at) in_range found =
       let both = searched_by (take (q - p) (drop p offers)) (part_ordered p (q - p)) key (Err at) in_range found in
       (tt, λ k from below here. both.1 (held_there p q k from below here))
-
--- no offer has a key that none has before one place, from another on, or between the two
-pub absent_all : (offers : List Offer) (key : Key) (p q : ℕ)
-    → ((k : ℕ) → k < p → slice_get (keys offers) k ≡ Some key → ⊥)
-    → ((k : ℕ) → q ≤ k → slice_get (keys offers) k ≡ Some key → ⊥)
-    → ((k : ℕ) → p ≤ k → k < q → slice_get (keys offers) k ≡ Some key → ⊥) → Contains (keys offers) key → ⊥
-absent_all offers key p q low high inside (k, below, is) =
-    let here : slice_get (keys offers) k ≡ Some key =
-    slice_get-get_or (keys offers) k key below ∙ ap (λ (x : Key). Some x) is in
-    elim (cases_lt k p) [
-      | inl lt ↦ low k lt here
-      | inr ge ↦ elim (cases_lt k q) [
-        | inl lt ↦ inside k ge lt here
-        | inr past ↦ high k past here
-      ]
-    ]

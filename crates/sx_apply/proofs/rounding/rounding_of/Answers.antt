@@ -88,7 +88,7 @@ returns-clause-kept c =
     let now : length c.subtract_each.new.numbers ≡ c.in_ok-kept.kept.len =
     c.subtract_each.auto.numbers ∙ given_long ∙ had in
     let left : c.of.result ≡ c.subtract_each.new.numbers =
-    c.of.ensures
+    c.of.ensures ∙ c.in_ok-from_slice.ensures.ok ∙ c.deref-2.ensures.value
     ∙ written_back c.in_ok-kept.kept.len c.subtract_each.new.numbers _ now
     (ap length (sym c.deref_mut-3.ensures.value) ∙ given_long ∙ had) in
     λ prices flow asset are lt.
