@@ -10,6 +10,7 @@ ghost use Rattle.sx_filter.specs.Ranges.{IsReady};
 ghost use Rattle.sx_filter.specs.Verdicts.{AreVerdicts, IsVerdict};
 ghost use Rattle.sx_ledger.specs.declared.parts.Parts.{Parts as Ledgers};
 ghost use Rattle.sx_ledger.specs.Body.{tx_before};
+ghost use Rattle.sx_ledger.specs.Ledger.{ids as accounts_of};
 ghost use Rattle.sx_tx.specs.declared.tx.Tx.{Tx as Transaction};
 
 use crate::named::{cancelled_keys, is_id_taken, is_offer_taken};
@@ -17,7 +18,7 @@ use crate::runs::cover;
 use crate::seen::Seen;
 use std::alloc::Global;
 use sx_bytes::NoMemory;
-use sx_ledger::{Key, Ledger};
+use sx_ledger::{Key, Ledger, LedgerIndex};
 use sx_tx::{Tx, TxList};
 
 // Whether two candidates have one account and number.
@@ -85,7 +86,15 @@ fn test_all(txs: &[Tx], offers: &Seen<Key>, ids: &Seen<u64>, verdicts: &mut [boo
 }
 
 // Of each candidate whether its account is covered and nothing stands in its way.
-fn judge(ledger: &Ledger, txs: &[Tx], offers: &Seen<Key>, ids: &Seen<u64>, verdicts: &mut [bool])
+fn judge(
+    ledger: &Ledger,
+    index: &LedgerIndex,
+    txs: &[Tx],
+    offers: &Seen<Key>,
+    ids: &Seen<u64>,
+    verdicts: &mut [bool],
+)
+    requires index { index.now ≡ accounts_of ledger.now.accounts }
     requires ready { IsReady ledger.now txs.now }
     requires offers { AreOffers txs.now offers.now }
     requires one_each { length verdicts.old ≡ length txs.now }
@@ -93,7 +102,7 @@ fn judge(ledger: &Ledger, txs: &[Tx], offers: &Seen<Key>, ids: &Seen<u64>, verdi
     ensures verdicts { (passed : List Transaction) → AreIds passed ids.now
         → AreVerdicts (is_alone_in ledger.now passed txs.now) txs.now verdicts.new }
 {
-    cover(ledger, txs, verdicts);
+    cover(ledger, index, txs, verdicts);
     test_all(txs, offers, ids, verdicts);
 }
 
@@ -101,9 +110,11 @@ fn judge(ledger: &Ledger, txs: &[Tx], offers: &Seen<Key>, ids: &Seen<u64>, verdi
 fn verdicts_of(
     alloc: Global,
     ledger: &Ledger,
+    index: &LedgerIndex,
     txs: &[Tx],
     ids: &Seen<u64>,
 ) -> Result<Vec<bool>, NoMemory>
+    requires index { index.now ≡ accounts_of ledger.now.accounts }
     requires ready { IsReady ledger.now txs.now }
     ensures one_each { IfOk result (λ verdicts. length verdicts.items ≡ length txs.now) }
     ensures verdicts { (passed : List Transaction) → AreIds passed ids.now
@@ -111,7 +122,7 @@ fn verdicts_of(
 {
     let offers = Seen::of(cancelled_keys(alloc, txs)?);
     let mut verdicts = vec![in alloc; false; txs.len()]?;
-    judge(ledger, txs, &offers, ids, &mut verdicts);
+    judge(ledger, index, txs, &offers, ids, &mut verdicts);
     Ok(verdicts)
 }
 
@@ -139,15 +150,17 @@ fn keep(txs: &mut Vec<Tx>, verdicts: &[bool])
 pub(crate) fn alone(
     alloc: Global,
     ledger: &Ledger,
+    index: &LedgerIndex,
     part: TxList,
     ids: &Seen<u64>,
 ) -> Result<TxList, NoMemory>
+    requires index { index.now ≡ accounts_of ledger.now.accounts }
     requires ready { IsReady ledger.now part }
     ensures { (passed : List Transaction) → AreIds passed ids.now
         → IfOk result (λ kept. kept ≡ those (is_alone_in ledger.now passed part) part) }
 {
     let mut txs = part.into_items();
-    let verdicts = verdicts_of(alloc, ledger, &txs, ids)?;
+    let verdicts = verdicts_of(alloc, ledger, index, &txs, ids)?;
     keep(&mut txs, &verdicts);
     Ok(TxList::of(txs))
 }

@@ -7,6 +7,7 @@ ghost use Rattle.sx_filter.specs.Ranges.{AreParted};
 ghost use Rattle.sx_layout.specs.declared.space.NoRoom.{NoRoom as WhyNoRoom};
 ghost use Rattle.sx_layout.specs.Room.{room_for};
 ghost use Rattle.sx_ledger.specs.Body.{IsAdmissible};
+ghost use Rattle.sx_ledger.specs.Ledger.{ids};
 ghost use Rattle.sx_tx.specs.Transactions.{most_transactions};
 
 use crate::counting::room_for_parts;
@@ -17,7 +18,7 @@ use std::alloc::Global;
 use std::thread::Threads;
 use sx_bytes::NoMemory;
 use sx_layout::room;
-use sx_ledger::Ledger;
+use sx_ledger::{Ledger, LedgerIndex};
 use sx_tx::{Tx, TxList, TxParts};
 
 // A copy of candidates, in one part.
@@ -34,13 +35,15 @@ fn passing_parts<R: Threads + Sync>(
     rt: &R,
     alloc: Global,
     ledger: &Ledger,
+    index: &LedgerIndex,
     candidates: TxParts,
     workers: u32,
 ) -> Result<Vec<TxList>, NoMemory>
+    requires index { index.now ≡ ids ledger.now.accounts }
     requires few_candidates { length candidates ≤ most_transactions }
     ensures { IfOk result (λ parts. AreParted ledger.now candidates parts.items) }
 {
-    parts_of(rt, alloc, ledger, &candidates, workers)
+    parts_of(rt, alloc, ledger, index, &candidates, workers)
 }
 
 // What is kept of candidates, whether or not there is room for them.
@@ -54,8 +57,9 @@ fn kept<R: Threads + Sync>(
     requires few_candidates { length candidates ≤ most_transactions }
     ensures { IfOk result (λ txs. txs ≡ kept_of ledger.now candidates) }
 {
-    let parts = passing_parts(rt, alloc, ledger, candidates, workers)?;
-    kept_in_parts(rt, alloc, ledger, parts)
+    let index = ledger.index()?;
+    let parts = passing_parts(rt, alloc, ledger, &index, candidates, workers)?;
+    kept_in_parts(rt, alloc, ledger, &index, parts)
 }
 
 /// Chooses of at most 1,000,000 candidates of a ledger those that no other candidate stands in the way of,

@@ -7,6 +7,7 @@ ghost use Rattle.sx_filter.specs.Kept.{kept_of};
 ghost use Rattle.sx_filter.specs.Named.{AreIds};
 ghost use Rattle.sx_filter.specs.Ranges.{AreKept, AreParted, ArePassed, IsReady};
 ghost use Rattle.sx_ledger.specs.Body.{created};
+ghost use Rattle.sx_ledger.specs.Ledger.{ids as accounts_of};
 ghost use Rattle.sx_tx.specs.declared.tx.Tx.{Tx as Transaction};
 
 use crate::alone::alone;
@@ -15,7 +16,7 @@ use crate::seen::Seen;
 use std::alloc::Global;
 use std::thread::{Threads, map_indices, map_vec};
 use sx_bytes::{ListInParts, NoMemory, all_of};
-use sx_ledger::Ledger;
+use sx_ledger::{Ledger, LedgerIndex};
 use sx_tx::{TxList, TxParts};
 
 // The ids of the accounts that the candidates of all parts create, since those of two parts may create one account.
@@ -42,9 +43,11 @@ fn each_alone<R: Threads + Sync>(
     rt: &R,
     alloc: Global,
     ledger: &Ledger,
+    index: &LedgerIndex,
     lists: Vec<TxList>,
     ids: &Seen<u64>,
 ) -> Result<Vec<TxList>, NoMemory>
+    requires index { index.now ≡ accounts_of ledger.now.accounts }
     requires ready { All (IsReady ledger.now) lists.items }
     ensures { (passed : List Transaction) → AreIds passed ids.now
         → IfOk result (λ kept. AreKept ledger.now passed lists.items kept.items) }
@@ -53,10 +56,10 @@ fn each_alone<R: Threads + Sync>(
         rt,
         lists,
         &|part: TxList| -> Result<TxList, NoMemory>
-            requires { IsReady ledger.now part }
+            requires { (index.now ≡ accounts_of ledger.now.accounts) × IsReady ledger.now part }
             ensures { (passed : List Transaction) → AreIds passed ids.entry.now
                 → IfOk result (λ kept. kept ≡ those (is_alone_in ledger.entry.now passed part) part) }
-        { alone(alloc, ledger, part, ids) },
+        { alone(alloc, ledger, index, part, ids) },
     )?;
     all_of(alloc, results)
 }
@@ -66,12 +69,14 @@ pub(crate) fn kept_in_parts<R: Threads + Sync>(
     rt: &R,
     alloc: Global,
     ledger: &Ledger,
+    index: &LedgerIndex,
     parts: Vec<TxList>,
 ) -> Result<TxParts, NoMemory>
+    requires index { index.now ≡ accounts_of ledger.now.accounts }
     requires passed { ArePassed ledger.now parts.items }
     ensures { (candidates : List Transaction) → AreParted ledger.now candidates parts.items
         → IfOk result (λ kept. kept ≡ kept_of ledger.now candidates) }
 {
     let ids = ids_of(rt, alloc, &parts)?;
-    Ok(TxParts::of(each_alone(rt, alloc, ledger, parts, &ids)?))
+    Ok(TxParts::of(each_alone(rt, alloc, ledger, index, parts, &ids)?))
 }

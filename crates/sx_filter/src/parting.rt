@@ -136,13 +136,14 @@ pub(crate) fn parts_of<R: Threads + Sync>(
     rt: &R,
     alloc: Global,
     ledger: &Ledger,
+    index: &LedgerIndex,
     candidates: &TxParts,
     workers: u32,
 ) -> Result<Vec<TxList>, NoMemory>
+    requires index { index.now ≡ ids ledger.now.accounts }
     requires few { length candidates.now ≤ most_transactions }
     ensures { IfOk result (λ parts. AreParted ledger.now candidates.now parts.items) }
 {
-    let index = ledger.index()?;
     let cuts = cuts_of(alloc, ledger, count_of(candidates.parts()), workers)?;
-    parts_between(rt, alloc, ledger, &index, candidates, &cuts)
+    parts_between(rt, alloc, ledger, index, candidates, &cuts)
 }

@@ -10,13 +10,13 @@ ghost use Rattle.sx_filter.specs.Ranges.{IsReady};
 ghost use Rattle.sx_filter.specs.Verdicts.{AreVerdicts};
 ghost use Rattle.sx_ledger.specs.declared.parts.Parts.{Parts as Ledgers};
 ghost use Rattle.sx_ledger.specs.Effects.{debit};
-ghost use Rattle.sx_ledger.specs.Ledger.{assets_of};
+ghost use Rattle.sx_ledger.specs.Ledger.{assets_of, ids};
 ghost use Rattle.sx_ledger.specs.Static.{static_of};
 ghost use Rattle.sx_tx.specs.declared.tx.Tx.{Tx as Transaction};
 
 use crate::kinds::debited_portion;
 use sx_base::{AccountId, AssetId};
-use sx_ledger::Ledger;
+use sx_ledger::{Ledger, LedgerIndex};
 use sx_tx::Tx;
 
 // Where the run ends that begins at a place.
@@ -34,10 +34,11 @@ fn end_of_run(txs: &[Tx], start: usize) -> usize
 }
 
 // What an account holds, by asset, and nothing where it is not there.
-fn balances_of(ledger: &Ledger, account: AccountId) -> &[u64]
+fn balances_of<'a>(ledger: &'a Ledger, index: &LedgerIndex, account: AccountId) -> &'a [u64]
+    requires { index.now ≡ ids ledger.now.accounts }
     ensures { AreHeld ledger.now account.0 result.now }
 {
-    match ledger.find(account) {
+    match index.find(account) {
         Some(place) => ledger.account(place).balances.items(),
         None => &[],
     }
@@ -79,7 +80,14 @@ fn add(balances: &[u64], tx: &Tx, sums: &mut [u64]) -> bool
 }
 
 // Whether the account of a run holds of each asset as much as the run debits. The sums are set to 0 before.
-fn is_covered(ledger: &Ledger, account: AccountId, run: &[Tx], sums: &mut [u64]) -> bool
+fn is_covered(
+    ledger: &Ledger,
+    index: &LedgerIndex,
+    account: AccountId,
+    run: &[Tx],
+    sums: &mut [u64],
+) -> bool
+    requires index { index.now ≡ ids ledger.now.accounts }
     requires passes { All (λ tx. static_of ledger.now tx ≡ Ok tt) run.now }
     requires one { All (λ tx. tx.account.0 ≡ account.0) run.now }
     requires sums { length sums.old ≡ assets_of ledger.now }
@@ -87,7 +95,7 @@ fn is_covered(ledger: &Ledger, account: AccountId, run: &[Tx], sums: &mut [u64])
     ensures covers { result ≡ covers ledger.now run.now account.0 (assets_of ledger.now) }
 {
     sums.fill(0);
-    let balances = balances_of(ledger, account);
+    let balances = balances_of(ledger, index, account);
     for tx in run {
         if !add(balances, tx, sums) {
             return false;
@@ -110,7 +118,8 @@ fn mark(part: &mut [bool], from: usize, end: usize, is: bool)
 }
 
 // Of each candidate whether its account holds of each asset as much as all its candidates debit.
-pub(crate) fn cover(ledger: &Ledger, txs: &[Tx], covered: &mut [bool])
+pub(crate) fn cover(ledger: &Ledger, index: &LedgerIndex, txs: &[Tx], covered: &mut [bool])
+    requires index { index.now ≡ ids ledger.now.accounts }
     requires ready { IsReady ledger.now txs.now }
     requires one_each { length covered.old ≡ length txs.now }
     ensures one_each { length covered.new ≡ length txs.now }
@@ -123,6 +132,7 @@ pub(crate) fn cover(ledger: &Ledger, txs: &[Tx], covered: &mut [bool])
         let end = end_of_run(txs, start);
         let is = is_covered(
             ledger,
+            index,
             txs[start].account,
             &txs[start..end],
             &mut sums[..assets],

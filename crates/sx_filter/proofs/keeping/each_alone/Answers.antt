@@ -9,7 +9,7 @@ use Rattle.sx_tx.specs.declared.tx.Tx.{Tx}
 
 pub map_vec-requires-after_bounds : goal.map_vec-requires-after_bounds
 map_vec-requires-after_bounds g c κs within = λ i x lt e.
-    subst (λ (part : List Tx). IsReady c.args.ledger.now part) (sym e) (c.requires.ready i x lt)
+    (c.requires.index, subst (λ (part : List Tx). IsReady c.args.ledger.now part) (sym e) (c.requires.ready i x lt))
 
 pub returns : goal.returns
 returns g c = λ passed created.
