@@ -3,6 +3,7 @@ pub mod Fault
 pub mod Laws
 pub mod Alone
 pub mod Verdicts
+pub mod Cancellations
 pub mod Named
 pub mod Runs
 pub mod Ranges

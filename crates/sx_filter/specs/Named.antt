@@ -3,10 +3,11 @@ use Rattle.std.specs.Prelude.{ℕ, List}
 use Rattle.std.specs.declared.cmp.Ordering.{Ordering}
 use Rattle.std.specs.List.Sorted.{IsPermutation, IsSorted}
 use Rattle.std.specs.Ordering.{nat_cmp}
+use Rattle.sx_filter.specs.Cancellations.{cancellations}
+use Rattle.sx_filter.specs.contracts.cancellation.CancellationOrd.TheImpl as by_account
+use Rattle.sx_filter.specs.declared.cancellation.Cancellation.{Cancellation}
 use Rattle.sx_filter.specs.declared.seen.Seen.{Seen}
-use Rattle.sx_ledger.specs.contracts.key.KeyOrd.TheImpl as derived
-use Rattle.sx_ledger.specs.declared.key.Key.{Key}
-use Rattle.sx_ledger.specs.Body.{cancelled, created}
+use Rattle.sx_ledger.specs.Body.{created}
 use Rattle.sx_tx.specs.declared.tx.Tx.{Tx}
 
 -- the keys of a list, sorted
@@ -15,8 +16,8 @@ pub record IsSeen {K : Type 0} (cmp : K → K → Ordering) (keys : List K) (see
   pub sorted : IsSorted cmp seen.keys.items
 
 -- what candidates cancel
-abbrev pub AreOffers : List Tx → Seen Key → Type 0
-AreOffers txs seen = IsSeen derived.ghosts.cmp (cancelled txs) seen
+abbrev pub AreOffers : List Tx → Seen Cancellation → Type 0
+AreOffers txs seen = IsSeen by_account.ghosts.cmp (cancellations txs) seen
 
 -- what candidates create
 abbrev pub AreIds : List Tx → Seen ℕ → Type 0

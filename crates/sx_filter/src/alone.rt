@@ -13,12 +13,13 @@ ghost use Rattle.sx_ledger.specs.Body.{tx_before};
 ghost use Rattle.sx_ledger.specs.Ledger.{ids as accounts_of};
 ghost use Rattle.sx_tx.specs.declared.tx.Tx.{Tx as Transaction};
 
+use crate::cancellation::Cancellation;
 use crate::named::{cancelled_keys, is_id_taken, is_offer_taken};
 use crate::runs::cover;
 use crate::seen::Seen;
 use std::alloc::Global;
 use sx_bytes::NoMemory;
-use sx_ledger::{Key, Ledger, LedgerIndex};
+use sx_ledger::{Ledger, LedgerIndex};
 use sx_tx::{Tx, TxList};
 
 // Whether two candidates have one account and number.
@@ -45,7 +46,7 @@ fn is_number_taken(txs: &[Tx], place: usize) -> bool
 fn stands_alone(
     txs: &[Tx],
     place: usize,
-    offers: &Seen<Key>,
+    offers: &Seen<Cancellation>,
     ids: &Seen<u64>,
     covered: bool,
 ) -> bool
@@ -70,7 +71,7 @@ fn stands_alone(
 }
 
 // Tests all candidates, each by itself, where the verdicts told whether their accounts are covered.
-fn test_all(txs: &[Tx], offers: &Seen<Key>, ids: &Seen<u64>, verdicts: &mut [bool])
+fn test_all(txs: &[Tx], offers: &Seen<Cancellation>, ids: &Seen<u64>, verdicts: &mut [bool])
     requires sorted { IsSortedBy tx_before txs.now }
     requires offers { AreOffers txs.now offers.now }
     requires one_each { length verdicts.old ≡ length txs.now }
@@ -90,7 +91,7 @@ fn judge(
     ledger: &Ledger,
     index: &LedgerIndex,
     txs: &[Tx],
-    offers: &Seen<Key>,
+    offers: &Seen<Cancellation>,
     ids: &Seen<u64>,
     verdicts: &mut [bool],
 )

@@ -31,8 +31,9 @@
 //! candidates. A thread for each range selects its candidates out of all of them, sorts them and puts each to the
 //! ledger's test, with next to no search for an account. Then two of one number are neighbours in a part, and the
 //! candidates of an account are a run in it, of which the debits are summed up with one search for the account. The
-//! offers that candidates of a part cancel are sorted too, and the ids that those of all parts create, and they cost
-//! nothing where there are none. By these, again a thread for each part chooses what is kept of it.
+//! offers that candidates of a part cancel are sorted too, by account first, so that each is found near the one before
+//! it, and the ids that those of all parts create, and they cost nothing where there are none. By these, again a thread
+//! for each part chooses what is kept of it.
 //!
 //! Beside the list of candidates no memory is taken but the lists of those of each range, in which what is kept stays,
 //! and one answer of yes or no for each that passes. `filter` takes memory for a copy of its candidates too, and for
@@ -47,6 +48,7 @@
 #![tactic(auto)]
 
 mod alone;
+mod cancellation;
 mod counting;
 mod fault;
 mod filtering;

@@ -1,7 +1,9 @@
-use Rattle.std.proofs.Common.{◌≡◌, ◌+◌, [], ◌∷◌, ◌++◌, Some, None, take, sym, ap, ◌∙◌}
-use Rattle.std.proofs.lemmas.List.{take_more}
+use Rattle.std.proofs.Common.{◌≡◌, ◌+◌, [], ◌∷◌, ◌++◌, Some, None, take, sym, ap, ap₂, ◌∙◌}
+use Rattle.std.specs.Prelude.{map}
+use Rattle.std.proofs.lemmas.List.{map-append, take_more}
 use Rattle.sx_body.specs.Repeats.{cancels}
 use Rattle.sx_body.proofs.Repeated.{done_more, done_none}
+use Rattle.sx_filter.specs.Cancellations.{cancellation_of, cancellations}
 use Rattle.sx_filter.proofs.named.cancelled_keys.Goals as goal
 use Rattle.sx_filter.proofs.named.cancelled_keys.Goals.{in-Some+in_ok-push, in_default}
 use Rattle.sx_ledger.specs.Body.{cancelled}
@@ -18,10 +20,13 @@ loop-tx-preserved c =
       | in-Some+in_ok-push w ↦
           let named : cancels tx ≡ Some w.in-Some.key = sym (w.in-Some.ensures) in
           ap (λ v. v.items) w.keys-is ∙ w.in_ok-push.ensures.items
-          ∙ ap (λ list. list ++ w.in-Some.key ∷ []) c.loop-tx.invariant
-          ∙ sym (done_more cancels (take at txs) tx w.in-Some.key named) ∙ ap cancelled more
+          ∙ ap₂ (λ list last. list ++ last ∷ []) c.loop-tx.invariant w.of.ensures
+          ∙ sym (map-append cancellation_of (cancelled (take at txs)) (w.in-Some.key ∷ []))
+          ∙ ap (map cancellation_of) (sym (done_more cancels (take at txs) tx w.in-Some.key named))
+          ∙ ap cancellations more
       | in_default w ↦
           let nothing : cancels tx ≡ None = sym (w.in_default.ensures) in
           ap (λ v. v.items) w.keys-is ∙ c.loop-tx.invariant
-          ∙ sym (done_none cancels (take at txs) tx nothing) ∙ ap cancelled more
+          ∙ ap (map cancellation_of) (sym (done_none cancels (take at txs) tx nothing))
+          ∙ ap cancellations more
     ]

@@ -1,6 +1,6 @@
 use Rattle.std.proofs.Common.{◌≡◌, take}
+use Rattle.sx_filter.specs.Cancellations.{cancellations}
 use Rattle.sx_filter.proofs.named.cancelled_keys.Given as goal
-use Rattle.sx_ledger.specs.Body.{cancelled}
 
 abbrev pub invariant-loop-tx : goal.invariant-loop-tx
-invariant-loop-tx l = l.keys.items ≡ cancelled (take l.tx-index l.txs)
+invariant-loop-tx l = l.keys.items ≡ cancellations (take l.tx-index l.txs)
