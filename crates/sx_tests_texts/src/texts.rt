@@ -6,7 +6,7 @@ ghost use Rattle.sx_text.specs.Shown.{IsShowable};
 use std::alloc::{AllocError, Global};
 use std::test::Fail;
 use std::thread::Threads;
-use sx_base::{AccountId, AssetId};
+use sx_base::{AccountId, AssetId, BalanceVec, Balances};
 use sx_block::{Digest, read_block};
 use sx_bytes::{Bytes, Form, FormFault, ListOf, NoMemory, Writer};
 use sx_check::{Checked, Invalid};
@@ -294,7 +294,7 @@ fn a_valid_block_is_told(rt: HostRuntime) -> Result<(), Fail> {
 fn proof(alloc: Global) -> Proof {
     let id = AccountId(7);
     let window = Window { last: 0, used: 0 };
-    let balances = ListOf::of(Vec::new(alloc));
+    let balances = Balances::of(BalanceVec::new(alloc));
     Proof {
         version: 2,
         place: 1,
