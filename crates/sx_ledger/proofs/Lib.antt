@@ -35,6 +35,7 @@ pub mod TotalsInRange
 pub mod EntriesInOrder
 pub mod OwnersLater
 pub mod SoundOffers
+pub mod SoundAccounts
 pub mod DependentParts
 pub mod WindowFields
 pub mod AccountLaws

@@ -1,5 +1,6 @@
 pub mod Order
 pub mod SoundOffers
+pub mod SoundAccounts
 pub mod Ledger
 pub mod Encoding
 pub mod Decoding

@@ -96,20 +96,21 @@ fn next_account(
     Ok(account)
 }
 
-// Memory grows with what the bytes left can hold, and not with what the count claims.
-fn accounts(
+// So many accounts. Memory is taken for `room` of them at first, or for as many as the bytes left can hold, if fewer.
+pub fn accounts(
     alloc: Global,
     from: &mut Reader,
     version: u8,
     assets: u8,
-    count: u32,
+    count: usize,
+    room: usize,
 ) -> Result<Vec<Account>, ReadError>
     ensures exact { MayDecodeOrStray (λ v. v.items) (accounts_at version assets count None from.old) from.new result }
     ensures same { from.new.bytes ≡ from.old.bytes }
     ensures onward { from.old.place ≤ from.new.place }
 {
-    let room = from.left() / ACCOUNT_BYTES as usize;
-    let mut accounts = Vec::with_capacity(alloc, room.min(count as usize))?;
+    let most = from.left() / ACCOUNT_BYTES as usize;
+    let mut accounts = Vec::with_capacity(alloc, room.min(most))?;
     let mut before = None;
     for _ in 0..count {
         let account = next_account(alloc, from, version, assets, before)?;
@@ -131,6 +132,6 @@ pub fn account_list(
     ensures same { from.new.bytes ≡ from.old.bytes }
     ensures onward { from.old.place ≤ from.new.place }
 {
-    let count = from.field_u32(0, Ledger::MOST_ACCOUNTS, Form::TooMany)?;
-    accounts(alloc, from, version, assets, count)
+    let count = from.field_u32(0, Ledger::MOST_ACCOUNTS, Form::TooMany)? as usize;
+    accounts(alloc, from, version, assets, count, count)
 }

@@ -8,10 +8,11 @@ ghost use Rattle.sx_ledger.specs.Ledger.{ids, most_offers, offered};
 ghost use Rattle.sx_ledger.specs.SoundOffers.{AreAhead};
 
 use crate::account::Account;
+use crate::account_decoding::account_list_by;
 use crate::account_reading::account_list;
 use crate::index::AccountIndex;
 use crate::offer::{Offer, Offers};
-use crate::offer_decoding::{Ahead, accounts_and_ahead, move_to, offers_seen};
+use crate::offer_decoding::{Ahead, accounts_and_ahead, entries_seen, move_to};
 use crate::offer_reading::sound_list;
 use crate::offer_standing::all_stand_by;
 use crate::offer_sums::{MOST_ASSETS, sums_by, sums_of};
@@ -19,8 +20,8 @@ use std::alloc::Global;
 use std::thread::Threads;
 use sx_bytes::{NoMemory, ReadError, Reader};
 
-// How many offers are worth a thread of their own. To decode them and to look their owners up takes half a millisecond
-// or more, and to start a thread a small part of that.
+// How many accounts or offers are worth a thread of their own. To decode them, and to look the owners of offers up,
+// takes half a millisecond or more, and to start a thread a small part of that.
 const WORTH_A_THREAD: usize = 8_192;
 
 // What reads the accounts and the offers of a state.
@@ -104,18 +105,26 @@ impl EntryReader for Alone {
     }
 }
 
-// At most so many threads, each with a part of the entries.
+// At most so many threads, each with a part of the entries, and one more at most while accounts and offers are decoded.
 #[derive(Drop)]
 pub struct Spread<'a, R> {
     pub rt: &'a R,
     pub workers: u32,
 }
 
-// How many of so many workers are worth starting for so many offers.
-fn threads_for(offers: usize, workers: u32) -> usize
+// How many of so many workers are worth starting for so many entries.
+fn threads_for(entries: usize, workers: u32) -> usize
     ensures { 1 ≤ result }
 {
-    (offers / WORTH_A_THREAD).clamp(1, (workers as usize).max(1))
+    (entries / WORTH_A_THREAD).clamp(1, (workers as usize).max(1))
+}
+
+// How many threads decode so many accounts while others decode the offers. One thread fills the memory of all offers
+// before the others start, so two are free for the accounts until then.
+fn threads_beside_offers(accounts: usize, workers: u32) -> usize
+    ensures { 1 ≤ result }
+{
+    threads_for(accounts, workers).min(2)
 }
 
 impl<'a, R: Threads + Sync> EntryReader for Spread<'a, R> {
@@ -130,12 +139,27 @@ impl<'a, R: Threads + Sync> EntryReader for Spread<'a, R> {
         version: u8,
         assets: u8,
     ) -> Result<(Vec<Account>, Option<Ahead>), ReadError> {
-        let (begin, offers) = offers_seen(from, version, assets).unwrap_or((0, 0));
-        let threads = threads_for(offers as usize, self.workers);
-        if threads < 2 {
+        let Ok(seen) = entries_seen(from, version, assets) else {
             return Ok((account_list(alloc, from, version, assets)?, None));
+        };
+        let (accounts, offers) = (seen.accounts as usize, seen.offers as usize);
+        let threads = threads_for(offers, self.workers);
+        if threads < 2 {
+            let threads = threads_for(accounts, self.workers);
+            let accounts = account_list_by(self.rt, threads, alloc, from, version, assets)?;
+            return Ok((accounts, None));
         }
-        accounts_and_ahead(self.rt, threads - 1, alloc, from, begin, version, assets)
+        let beside = threads_beside_offers(accounts, self.workers);
+        accounts_and_ahead(
+            self.rt,
+            threads - 1,
+            beside,
+            alloc,
+            from,
+            seen.begin,
+            version,
+            assets,
+        )
     }
 
     #[tactic(auto, using(crate::proofs::SoundOffers::all_listed))]

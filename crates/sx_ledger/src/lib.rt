@@ -8,7 +8,7 @@
 //!
 //! [`read_state`] answers a ledger exactly where the bytes are the encoding of one, and else the
 //! first fault from left to right, and [`par_read_state`] the same, with threads that decode the
-//! offers and look up their owners; [`Ledger::write_state`] writes the one encoding, and
+//! accounts and the offers and look up the owners of these; [`Ledger::write_state`] writes the one encoding, and
 //! [`read_prices`] reads a price for each asset. [`read_account`] and [`write_account`] do the same
 //! for one account. A ledger is of version 1, in which the sequence numbers that a block skipped are lost, or of
 //! version 2, in which they stay open; [`Ledger::migrate`] makes a ledger one of version 2.
@@ -32,6 +32,7 @@
 #![tactic(auto)]
 
 mod account;
+mod account_decoding;
 mod account_reading;
 mod copying;
 mod effect_laws;

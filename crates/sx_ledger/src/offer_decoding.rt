@@ -1,4 +1,4 @@
-//! Decoding the offers of a long state by several threads, while another one reads the accounts before them.
+//! Decoding the offers of a long state by several threads, while other ones read the accounts before them.
 //!
 //! Each account takes as many bytes as the other ones, so where the offers begin follows from the number of accounts. An
 //! offer takes the same number of bytes always, so that the offers are cut into parts, which the threads decode each into
@@ -14,11 +14,11 @@ ghost use Rattle.sx_ledger.specs.Decoding.{account_list_at};
 ghost use Rattle.sx_ledger.specs.SoundOffers.{AreAhead, AreOffersAt};
 
 use crate::account::Account;
-use crate::account_reading::account_list;
+use crate::account_decoding::account_list_by;
 use crate::ledger::Ledger;
 use crate::offer::{Offer, Offers};
 use crate::offer_reading::offer;
-use crate::sizes::{ACCOUNT_BYTES, OFFER_BYTES, map_bytes};
+use crate::sizes::{OFFER_BYTES, account_width};
 use std::alloc::Global;
 use std::thread::{Threads, join_mut};
 use sx_bytes::{Form, FormFault, ReadError, Reader, Short};
@@ -130,25 +130,36 @@ fn offers_ahead<R: Threads + Sync>(
     Ok(Ahead { offers, end })
 }
 
-// Where the offers seem to begin after the accounts at the place, and how many there seem to be, as the number of
-// accounts says.
-pub fn offers_seen(from: &mut Reader, version: u8, assets: u8) -> Result<(usize, u32), Short>
-    ensures { from.new ≡ from.old }
-{
-    let payload = from.bytes();
-    let mut seen = Reader::at(payload, from.place())?;
-    let accounts = seen.get_u32()?;
-    let each = ACCOUNT_BYTES + map_bytes(version) + 8 * u32::from(assets);
-    seen.raw(accounts as usize * each as usize)?;
-    let begin = seen.place();
-    Ok((begin, seen.get_u32()?))
+// How many accounts and offers there seem to be, and where the offers seem to begin.
+#[derive(Clone, Copy)]
+pub struct Seen {
+    pub accounts: u32,
+    pub offers: u32,
+    pub begin: usize,
 }
 
-// The accounts at the place, and the offers after them, which so many threads decode meanwhile, where they begin at the
-// place given.
+// What seems to stand at the place, where the number of accounts says it.
+pub fn entries_seen(from: &mut Reader, version: u8, assets: u8) -> Result<Seen, Short>
+    ensures { from.new ≡ from.old }
+{
+    let mut seen = Reader::at(from.bytes(), from.place())?;
+    let accounts = seen.get_u32()?;
+    seen.raw(accounts as usize * account_width(version, assets))?;
+    let begin = seen.place();
+    let offers = seen.get_u32()?;
+    Ok(Seen {
+        accounts,
+        offers,
+        begin,
+    })
+}
+
+// The accounts at the place, by so many threads, and the offers after them, which other threads decode meanwhile, where
+// they begin at the place given.
 pub fn accounts_and_ahead<R: Threads + Sync>(
     rt: &R,
     threads: usize,
+    account_threads: usize,
     alloc: Global,
     from: &mut Reader,
     begin: usize,
@@ -156,6 +167,7 @@ pub fn accounts_and_ahead<R: Threads + Sync>(
     assets: u8,
 ) -> Result<(Vec<Account>, Option<Ahead>), ReadError>
     requires some_thread { 1 ≤ threads }
+    requires some_account_thread { 1 ≤ account_threads }
     requires some { 1 ≤ assets }
     requires few { assets ≤ most_assets }
     ensures exact { MayDecodeOrStray (λ read. read.0.items) (account_list_at version assets from.old) from.new result }
@@ -169,9 +181,10 @@ pub fn accounts_and_ahead<R: Threads + Sync>(
             ensures { IfOk result (λ ahead. AreAhead assets (record { bytes = payload.entry.now; place = begin }) ahead.offers ahead.end) }
         { offers_ahead(rt, threads, alloc, payload, begin, assets) },
         &mut || -> Result<Vec<Account>, ReadError>
+            requires { IsSync R.row × (1 ≤ account_threads) }
             ensures exact { MayDecodeOrStray (λ v. v.items) (account_list_at version assets from.entry.now) from.exit.now result }
             ensures same { from.exit.now.bytes ≡ from.entry.now.bytes }
-        { account_list(alloc, from, version, assets) },
+        { account_list_by(rt, account_threads, alloc, from, version, assets) },
     );
     let accounts = accounts?;
     if from.place() != begin {

@@ -1,6 +1,6 @@
 //! How many bytes the entries of a state take.
 
-ghost use Rattle.std.specs.Prelude.{◌≡◌, ◌==◌, if◌then◌else◌};
+ghost use Rattle.std.specs.Prelude.{◌≡◌, ◌==◌, ◌+◌, ◌*◌, if◌then◌else◌};
 
 // A state without its assets, accounts and offers.
 pub const FRAME_BYTES: u32 = 18;
@@ -13,6 +13,13 @@ pub fn map_bytes(version: u8) -> u32
     ensures { result ≡ if version == 1 then 0 else 8 }
 {
     if version == 1 { 0 } else { 8 }
+}
+
+// An account of a state of this version with so many assets.
+pub fn account_width(version: u8, assets: u8) -> usize
+    ensures { result ≡ 16 + (if version == 1 then 0 else 8) + 8 * assets }
+{
+    ACCOUNT_BYTES as usize + map_bytes(version) as usize + 8 * usize::from(assets)
 }
 
 pub const OFFER_BYTES: u32 = 34;
