@@ -1,21 +1,21 @@
 //! What reads the accounts and the offers of a state: this thread alone, or several.
 
 ghost use Rattle.std.specs.Prelude.{◌≡◌, ℕ, ◌*◌, ◌<◌, ◌≤◌, ◌^◌, All, IfOk, IfSome, Ok, length, slice_index, sum_by};
-ghost use Rattle.sx_base.specs.Ranges.{most_assets};
+ghost use Rattle.sx_base.specs.Ranges.{most_amount, most_assets};
 ghost use Rattle.sx_bytes.specs.Grammar.{MayDecodeOrStray};
 ghost use Rattle.sx_ledger.specs.Decoding.{account_list_at, offer_list_at};
-ghost use Rattle.sx_ledger.specs.Ledger.{ids, most_offers, offered};
+ghost use Rattle.sx_ledger.specs.Ledger.{balance_at, ids, most_accounts, most_offers, offered};
 ghost use Rattle.sx_ledger.specs.SoundOffers.{AreAhead};
 
 use crate::account::Account;
 use crate::account_decoding::account_list_by;
 use crate::account_reading::account_list;
+use crate::entry_sums::{Sums, entry_sums, entry_sums_by};
 use crate::index::AccountIndex;
 use crate::offer::{Offer, Offers};
 use crate::offer_decoding::{Ahead, accounts_and_ahead, entries_seen, move_to};
 use crate::offer_reading::sound_list;
 use crate::offer_standing::all_stand_by;
-use crate::offer_sums::{MOST_ASSETS, sums_by, sums_of};
 use std::alloc::Global;
 use std::thread::Threads;
 use sx_bytes::{NoMemory, ReadError, Reader};
@@ -63,12 +63,17 @@ pub trait EntryReader {
         ensures same { from.new.bytes ≡ from.old.bytes }
         ensures onward { from.old.place ≤ from.new.place };
 
-    // What is on offer of each asset.
-    fn sums_of(&self, offers: &[Offer]) -> [u128; MOST_ASSETS]
+    // What all accounts hold and what is on offer, of each asset.
+    fn sums_of(&self, accounts: &[Account], offers: &[Offer]) -> Sums
         requires ready { is_ready }
-        requires few { length offers.now ≤ most_offers }
-        ensures sums { (asset : ℕ) → asset < most_assets → slice_index result asset ≡ sum_by (offered asset) offers.now }
-        ensures small { All (λ sum. sum ≤ length offers.now * 2 ^ 62) result };
+        requires few_assets { All (λ account. length account.balances ≤ most_assets) accounts.now }
+        requires few_accounts { length accounts.now ≤ most_accounts }
+        requires in_range { All (λ account. All (λ balance. balance ≤ most_amount) account.balances) accounts.now }
+        requires few_offers { length offers.now ≤ most_offers }
+        ensures held { (asset : ℕ) → asset < most_assets → slice_index result.held asset ≡ sum_by (balance_at asset) accounts.now }
+        ensures held_small { All (λ sum. sum ≤ length accounts.now * 2 ^ 62) result.held }
+        ensures on_offer { (asset : ℕ) → asset < most_assets → slice_index result.on_offer asset ≡ sum_by (offered asset) offers.now }
+        ensures on_offer_small { All (λ sum. sum ≤ length offers.now * 2 ^ 62) result.on_offer };
 }
 
 // This thread alone.
@@ -100,8 +105,8 @@ impl EntryReader for Alone {
         sound_list(alloc, from, assets, index, accounts)
     }
 
-    fn sums_of(&self, offers: &[Offer]) -> [u128; MOST_ASSETS] {
-        sums_of(offers)
+    fn sums_of(&self, accounts: &[Account], offers: &[Offer]) -> Sums {
+        entry_sums(accounts, offers)
     }
 }
 
@@ -125,6 +130,17 @@ fn threads_beside_offers(accounts: usize, workers: u32) -> usize
     ensures { 1 ≤ result }
 {
     threads_for(accounts, workers).min(2)
+}
+
+// How many of so many threads add up the accounts: their part of the threads is that of all entries, so that all are
+// done at about the same time. One thread at least is left for the offers.
+fn account_share(threads: usize, accounts: usize, offers: usize) -> usize
+    requires { 2 ≤ threads }
+    ensures some { 1 ≤ result }
+    ensures left { result < threads }
+{
+    let share = (accounts.saturating_add(offers) / threads).max(1);
+    (accounts / share).clamp(1, threads - 1)
 }
 
 impl<'a, R: Threads + Sync> EntryReader for Spread<'a, R> {
@@ -186,7 +202,12 @@ impl<'a, R: Threads + Sync> EntryReader for Spread<'a, R> {
         Ok(Some(offers))
     }
 
-    fn sums_of(&self, offers: &[Offer]) -> [u128; MOST_ASSETS] {
-        sums_by(self.rt, threads_for(offers.len(), self.workers), offers)
+    fn sums_of(&self, accounts: &[Account], offers: &[Offer]) -> Sums {
+        let threads = threads_for(accounts.len() + offers.len(), self.workers);
+        if threads < 2 {
+            return entry_sums(accounts, offers);
+        }
+        let share = account_share(threads, accounts.len(), offers.len());
+        entry_sums_by(self.rt, share, threads - share, accounts, offers)
     }
 }

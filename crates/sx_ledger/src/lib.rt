@@ -8,11 +8,11 @@
 //!
 //! [`read_state`] answers a ledger exactly where the bytes are the encoding of one, and else the
 //! first fault from left to right, and [`par_read_state`] the same, with threads that decode the
-//! accounts and the offers and look up the owners of these; [`Ledger::write_state`] writes the one encoding, and
-//! [`read_prices`] reads a price for each asset. [`read_account`] and [`write_account`] do the same
-//! for one account. A ledger is of version 1, in which the sequence numbers that a block skipped are lost, or of
-//! version 2, in which they stay open; [`Ledger::migrate`] makes a ledger one of version 2.
-//! [`Ledger::static_check`] answers the first reason,
+//! accounts and the offers, look up the owners of the offers and add up the totals;
+//! [`Ledger::write_state`] writes the one encoding, and [`read_prices`] reads a price for each asset.
+//! [`read_account`] and [`write_account`] do the same for one account. A ledger is of version 1, in
+//! which the sequence numbers that a block skipped are lost, or of version 2, in which they stay
+//! open; [`Ledger::migrate`] makes a ledger one of version 2. [`Ledger::static_check`] answers the first reason,
 //! a [`Static`], why the ledger refuses a transaction by itself, and [`Ledger::places_of`] the same
 //! with the [`Places`] where its account and what it names stand. [`Ledger::find`] and
 //! [`Ledger::find_offer`] search for an account and for an offer, a [`LedgerIndex`] finds many of a
@@ -34,9 +34,11 @@
 mod account;
 mod account_decoding;
 mod account_reading;
+mod account_sums;
 mod copying;
 mod effect_laws;
 mod entry_readers;
+mod entry_sums;
 mod fill;
 mod finding;
 mod index;

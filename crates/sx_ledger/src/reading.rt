@@ -194,8 +194,9 @@ pub fn read_state(alloc: Global, payload: &[u8]) -> Result<Ledger, ReadError>
     read_ledger(&Alone, alloc, payload)
 }
 
-/// The same as [`read_state`], but that threads decode the accounts and the offers of a long state and look up the
-/// owners of the offers: as many as `workers`, and one more at most while both are decoded.
+/// The same as [`read_state`], but that threads decode the accounts and the offers of a long state, look up the owners
+/// of the offers and add up the totals. There are as many as `workers`, and one more at most while accounts and offers
+/// are decoded.
 pub fn par_read_state<R: Threads + Sync>(
     rt: &R,
     alloc: Global,

@@ -7,39 +7,13 @@ ghost use Rattle.sx_ledger.specs.Ledger.{assets_of, balance_at, most_accounts, m
 ghost use Rattle.sx_ledger.specs.Decoding.{totals_fit as all_fit};
 
 use crate::account::Account;
+use crate::account_sums::add_balances;
 use crate::entry_readers::EntryReader;
 use crate::ledger::Ledger;
 use crate::offer::Offer;
 use crate::offer_sums::{MOST_ASSETS, add_sums};
 use crate::parts::Parts;
 use sx_base::{Amount, AssetId};
-
-// Adds the balances of one account.
-fn add_balances(totals: &mut [u128], balances: &[u64])
-    requires one_each { length balances.now ≡ length totals.old }
-    requires room { All (λ total. total ≤ 2 ^ 127) totals.old }
-    ensures as_many { length totals.new ≡ length totals.old }
-    ensures added { (asset : ℕ) → asset < length totals.old → slice_index totals.new asset ≡ slice_index totals.old asset + slice_index balances.now asset }
-{
-    for asset in 0..balances.len() {
-        totals[asset] += u128::from(balances[asset]);
-    }
-}
-
-// Adds the balances of all accounts.
-fn add_accounts(totals: &mut [u128], accounts: &[Account])
-    requires one_each { All (λ account. length account.balances ≡ length totals.old) accounts.now }
-    requires room { All (λ total. total ≤ 2 ^ 100) totals.old }
-    requires few { length accounts.now ≤ most_accounts }
-    requires small { All (λ account. All (λ balance. balance ≤ most_amount) account.balances) accounts.now }
-    ensures as_many { length totals.new ≡ length totals.old }
-    ensures added { (asset : ℕ) → asset < length totals.old → slice_index totals.new asset ≡ slice_index totals.old asset + sum_by (balance_at asset) accounts.now }
-    ensures room { All (λ total. total ≤ 2 ^ 101) totals.new }
-{
-    for account in accounts {
-        add_balances(totals, account.balances.items());
-    }
-}
 
 // Adds up what there is of each asset.
 fn add_all<E: EntryReader>(entry_reader: &E, totals: &mut [u128], parts: &Parts)
@@ -56,9 +30,10 @@ fn add_all<E: EntryReader>(entry_reader: &E, totals: &mut [u128], parts: &Parts)
     ensures as_many { length totals.new ≡ length totals.old }
     ensures totals { (asset : ℕ) → asset < assets_of parts.now → slice_index totals.new asset ≡ total_of parts.now asset }
 {
+    let sums = entry_reader.sums_of(parts.accounts.items(), parts.offers.items());
     add_balances(totals, parts.rounding.items());
-    add_accounts(totals, parts.accounts.items());
-    add_sums(totals, &entry_reader.sums_of(parts.offers.items()));
+    add_sums(totals, &sums.held);
+    add_sums(totals, &sums.on_offer);
 }
 
 fn are_in_range(totals: &[u128]) -> bool
