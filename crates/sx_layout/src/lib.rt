@@ -38,7 +38,7 @@
 //! order of their turns: its own contract says so.
 //!
 //! [`sort_txs`] puts transactions into the order of a body, by account and then by sequence number, and
-//! [`par_sort_txs`] does the same by several threads.
+//! [`par_sort_txs`] does the same by several threads. [`are_sorted`] tells whether they are in it.
 //!
 //! Not here: actors that run at the same time. Nothing says which of two candidates that exclude each
 //! other is accepted.
@@ -78,7 +78,7 @@ pub use laws::{
     outcome_list_laws, script_laws,
 };
 pub use layout::Layout;
-pub use order::{par_sort_txs, sort_txs};
+pub use order::{are_sorted, par_sort_txs, sort_txs};
 pub use outcome::{MOST_OUTCOMES, Outcome, Outcomes};
 pub use outcome_log::OutcomeLog;
 pub use outcome_reading::read_outcomes;

@@ -1,7 +1,7 @@
 //! The order of a body: by account, and then by sequence number.
 
 ghost use Rattle.std.specs.Prelude.{◌≡◌, ◌≤◌, false, length, true};
-ghost use Rattle.std.specs.Bool.{OnTrue};
+ghost use Rattle.std.specs.Bool.{OnFalse, OnTrue};
 ghost use Rattle.std.specs.List.{AllWithin};
 ghost use Rattle.std.specs.List.Sorted.{IsPermutation, IsSortedBy};
 ghost use Rattle.std.specs.Ordering.{is_lt};
@@ -20,9 +20,11 @@ fn stands_before(one: &Tx, other: &Tx) -> bool
         || one.account.0 == other.account.0 && one.seq.get() < other.seq.get()
 }
 
-// Whether transactions are in the order of a body.
-fn are_sorted(txs: &[Tx]) -> bool
-    ensures { OnTrue result (IsSortedBy tx_before txs.now) }
+/// Whether transactions are in the order of a body: by account, and then by sequence number. Two of one account and
+/// number may stand side by side.
+pub fn are_sorted(txs: &[Tx]) -> bool
+    ensures sorted { OnTrue result (IsSortedBy tx_before txs.now) }
+    ensures not_sorted { OnFalse result (IsSortedBy tx_before txs.now → ⊥) }
 {
     for place in 1..txs.len() {
         if stands_before(&txs[place], &txs[place - 1]) {

@@ -107,6 +107,24 @@ fn with_buckets(alloc: Global, entries: Vec<u64>) -> Result<AccountIndex, NoMemo
     })
 }
 
+// The place of an id among one entry or two. The comparison is added and not branched on, since a processor would
+// foresee such a branch wrongly half of the time.
+fn find_among_two(entries: &[u64], begin: usize, end: usize, id: u64) -> Option<u32>
+    requires some { begin < end }
+    requires two { end ≤ begin + 2 }
+    requires within { end ≤ length entries.now }
+    requires few { length entries.now ≤ most_accounts }
+    requires by_id { IsStrictlyIncreasing entries.now }
+    ensures found { IfSome result (λ place. slice_get entries.now place ≡ Some id) }
+    ensures absent { IfNone result ((k : ℕ) → begin ≤ k → k < end → slice_index entries.now k ≢ id) }
+{
+    let place = begin + (entries[begin] < id) as usize;
+    if place < end && entries[place] == id {
+        return Some(place as u32);
+    }
+    None
+}
+
 // The place of an id between two places.
 fn find_between(entries: &[u64], begin: usize, end: usize, id: u64) -> Option<u32>
     requires ordered { begin ≤ end }
@@ -116,6 +134,12 @@ fn find_between(entries: &[u64], begin: usize, end: usize, id: u64) -> Option<u3
     ensures found { IfSome result (λ place. slice_get entries.now place ≡ Some id) }
     ensures absent { IfNone result ((k : ℕ) → begin ≤ k → k < end → slice_index entries.now k ≢ id) }
 {
+    if begin == end {
+        return None;
+    }
+    if end - begin <= 2 {
+        return find_among_two(entries, begin, end, id);
+    }
     match entries[begin..end].binary_search(&id) {
         Ok(place) => Some((begin + place) as u32),
         Err(_) => None,
