@@ -4,7 +4,7 @@ use Rattle.std.proofs.Common.{append_assoc, inl, inr, ◌⊎◌, refl, sym, ap, 
 use Rattle.std.specs.Prelude.{nat_eq, ◌==◌}
 use Rattle.std.specs.List.{filter, list_any}
 use Rattle.std.proofs.lemmas.Bool.{and_from, cases_Bool, eq-eqb}
-use Rattle.sx_filter.specs.Alone.{is_alone, is_alone_in, is_covered, is_twice}
+use Rattle.sx_filter.specs.Alone.{is_alone, is_alone_in, is_covered, is_fit, is_new, is_twice}
 use Rattle.sx_filter.specs.Kept.{both, covers, is_kept, kept_behind, kept_of, passes, passing, same_id, same_number}
 use Rattle.sx_filter.specs.Kept.{same_offer}
 use Rattle.sx_filter.proofs.Counts.{elsewhere}
@@ -101,18 +101,37 @@ kept_is parts candidates = ap in_tx_order (behind_is parts candidates [] candida
 
 -- ---- what stands in the way of one
 
-module _ (parts : Parts) (passed txs : List Tx) (tx : Tx) where
-  pub by_number : is_twice (same_number tx) txs ≡ true → false ≡ is_alone_in parts passed txs tx
+module _ (parts : Parts) (txs : List Tx) (tx : Tx) where
+  pub by_number : is_twice (same_number tx) txs ≡ true → false ≡ is_fit parts txs tx
   by_number e = rw e refl
 
   pub by_offer : is_twice (same_number tx) txs ≡ false → is_twice (same_offer tx) txs ≡ true
-      → false ≡ is_alone_in parts passed txs tx
+      → false ≡ is_fit parts txs tx
   by_offer e f = rw e (rw f refl)
 
-  pub by_id : is_twice (same_number tx) txs ≡ false → is_twice (same_offer tx) txs ≡ false
-      → is_twice (same_id tx) passed ≡ true → false ≡ is_alone_in parts passed txs tx
-  by_id e f g = rw e (rw f (rw g refl))
-
   pub by_debits : is_twice (same_number tx) txs ≡ false → is_twice (same_offer tx) txs ≡ false
-      → is_twice (same_id tx) passed ≡ false → is_covered parts txs tx ≡ is_alone_in parts passed txs tx
-  by_debits e f g = rw e (rw f (rw g refl))
+      → is_covered parts txs tx ≡ is_fit parts txs tx
+  by_debits e f = rw e (rw f refl)
+
+-- ---- what is new of what is fit
+
+fit_and_new : (number offer id covered : Bool)
+    → (not number && (not offer && covered)) && not id ≡ not number && (not offer && (not id && covered))
+fit_and_new true offer id covered = refl
+fit_and_new false true id covered = refl
+fit_and_new false false id true = (λ i. true && not id) ∙ unit id
+  where
+    unit : (id : Bool) → true && not id ≡ not id && true
+    unit true = refl
+    unit false = refl
+fit_and_new false false id false = unit id
+  where
+    unit : (id : Bool) → false && not id ≡ not id && false
+    unit true = refl
+    unit false = refl
+
+pub alone_is_fit_and_new : (parts : Parts) (passed part : List Tx) (tx : Tx)
+    → (is_fit parts part tx && is_new passed tx) ≡ is_alone_in parts passed part tx
+alone_is_fit_and_new parts passed part tx =
+    fit_and_new (is_twice (same_number tx) part) (is_twice (same_offer tx) part) (is_twice (same_id tx) passed)
+    (covers parts part tx.account.0 (assets_of parts))

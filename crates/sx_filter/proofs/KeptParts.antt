@@ -1,18 +1,22 @@
 -- What threads find of the parts by ranges of accounts, taken together.
-use Rattle.std.proofs.Common.{◌≡◌, ℕ, suc, ◌+◌, ◌<◌, true, List, [], ◌∷◌, ◌++◌, All, Ok, Result, get_or, length, map}
+use Rattle.std.proofs.Common.{◌≡◌, ℕ, zero, suc, ◌+◌, ◌<◌, true, List, [], ◌∷◌, ◌++◌, Ok, Result, get_or, length, map}
 use Rattle.std.proofs.Common.{refl, sym, ap, ap₂, subst, ◌∙◌, arith}
-use Rattle.std.specs.Prelude.{IfOk}
+use Rattle.std.specs.Prelude.{IfOk, not}
 use Rattle.std.specs.List.{filter, flat_map}
 use Rattle.std.proofs.lemmas.Bool.{eqb-true}
 use Rattle.std.proofs.lemmas.List.{get_or-map, length-map}
 use Rattle.std.proofs.lemmas.List.Elements.{filter_map-append}
 use Rattle.std.proofs.lemmas.Result.{IfOk-at_ok}
-use Rattle.sx_filter.specs.Alone.{is_alone_in}
+use Rattle.sx_filter.specs.Alone.{is_fit, is_new}
 use Rattle.sx_filter.specs.Kept.{kept_of, passes}
-use Rattle.sx_filter.specs.Ranges.{AreKept, AreParted, IsReady, is_in, range_among}
-use Rattle.sx_filter.proofs.Counts.{in_filter}
+use Rattle.sx_filter.specs.Ranges.{AreKept, AreParted, IsPart, is_in, range_among}
+use Rattle.sx_filter.specs.Sifted.{AreSifted, AreSiftedBy, AreSiftedParts, IsSifted}
+use Rattle.sx_filter.specs.declared.sifting.Sifted.{Sifted}
+use Rattle.sx_filter.proofs.Counts.{filter_twice, in_filter}
+use Rattle.sx_filter.proofs.KeptAlone.{alone_is_fit_and_new}
 use Rattle.sx_filter.proofs.Locals.{each_kept}
-use Rattle.sx_filter.proofs.Parted.{among, part_kept, part_pass, part_sorted, parted_whole}
+use Rattle.sx_filter.proofs.NamedAgain.{never_created}
+use Rattle.sx_filter.proofs.Parted.{among, filter_all, part_kept, parted_whole}
 use Rattle.sx_layout.proofs.Totals.{In}
 use Rattle.sx_ledger.specs.declared.parts.Parts.{Parts}
 use Rattle.sx_ledger.specs.Body.{created, created_by}
@@ -43,44 +47,23 @@ module _ {X E : Type 0} (results : List (Result X E)) (found : List X) (are : re
       ap (λ rs. get_or rs i (Ok d)) are ∙ get_or-map Ok found i d (Ok d) lt in
       IfOk-at_ok (P i) at (each i (Ok d) (omega (arith, lt, as_many)))
 
-pub ids_found : {E : Type 0} (lists : List (List Tx)) (results : List (Result (List ℕ) E)) (found : List (List ℕ))
-    → results ≡ map Ok found → length results ≡ length lists
-    → ((i : ℕ) (d : Result (List ℕ) E) → i < length results
-    → IfOk (get_or results i d) (λ ids. (e : List Tx) → ids ≡ created (get_or lists i e)))
-    → flat_map (λ list. list) found ≡ created (flat_map (λ list. list) lists)
-ids_found lists results found are long each =
-    let many = as_many results found are (λ i ids. (e : List Tx) → ids ≡ created (get_or lists i e)) each in
-    created_whole lists found (omega (arith, many, long))
-    (λ k d e lt. found_each results found are (λ i ids. (e : List Tx) → ids ≡ created (get_or lists i e)) each k d
-    (omega (arith, lt, many, long)) e)
+-- what threads found of each range
+pub sifted_found : {E : Type 0} (parts : Parts) (candidates : List Tx) (cuts : List ℕ)
+    (results : List (Result Sifted E)) (all : List Sifted) → results ≡ map Ok all → length results ≡ length cuts + 1
+    → ((i : ℕ) (d : Result Sifted E) → i < length results
+    → IfOk (get_or results i d) (IsSifted parts (filter (is_in cuts i) candidates)))
+    → AreSiftedBy parts candidates cuts all
+sifted_found parts candidates cuts results all are long each =
+    let P : ℕ → Sifted → Type 0 = λ i one. IsSifted parts (filter (is_in cuts i) candidates) one in
+    let many = as_many results all are P each in
+    record {
+      one_each = omega (arith, many, long);
+      each = found_each results all are P each;
+    }
 
 -- ---- what is kept
 
-pub kept_found : {E : Type 0} (parts : Parts) (passed : List Tx) (lists : List (List Tx))
-    (results : List (Result (List Tx) E)) (kept : List (List Tx)) → results ≡ map Ok kept
-    → length results ≡ length lists
-    → ((i : ℕ) (d : Result (List Tx) E) → i < length results → IfOk (get_or results i d) (λ one. (e : List Tx)
-    → one ≡ filter (is_alone_in parts passed (get_or lists i e)) (get_or lists i e)))
-    → AreKept parts passed lists kept
-kept_found parts passed lists results kept are long each =
-    let P : ℕ → List Tx → Type 0 =
-    λ i one. (e : List Tx) → one ≡ filter (is_alone_in parts passed (get_or lists i e)) (get_or lists i e) in
-    let many = as_many results kept are P each in
-    record {
-      one_each = omega (arith, many, long);
-      each = λ k d lt. found_each results kept are P each k d (omega (arith, lt, many, long)) d;
-    }
-
 module _ (parts : Parts) (candidates : List Tx) (lists : List (List Tx)) (is : AreParted parts candidates lists) where
-  pub parted_ready : All (IsReady parts) lists
-  parted_ready = λ k d lt.
-      let part = is.are.each k d lt in
-      let own = filter (is_in is.cuts k) candidates in
-      record {
-        passes = part_pass parts own (get_or lists k d) part;
-        sorted = part_sorted parts own (get_or lists k d) part;
-      }
-
   abbrev rank : Tx → ℕ
   rank tx = range_among is.cuts tx.account.0
 
@@ -100,3 +83,97 @@ module _ (parts : Parts) (candidates : List Tx) (lists : List (List Tx)) (is : A
       each_kept parts rank (λ x y e. ap (range_among is.cuts) e) whole 0 [] lists kept refl (λ y there. absurd there)
       of_range are.one_each are.each
       ∙ part_kept parts candidates whole (parted_whole parts candidates lists is)
+
+-- ---- what is kept of what was sifted
+
+-- where nothing is created, all are new
+pub all_new : (passed : List Tx) → created passed ≡ [] → (lists : List (List Tx))
+    → lists ≡ map (λ (list : List Tx). filter (is_new passed) list) lists
+all_new passed none [] = refl
+all_new passed none (list ∷ lists) =
+    ap₂ (λ (one : List Tx) (rest : List (List Tx)). one ∷ rest)
+    (sym (filter_all (is_new passed) list (λ tx. ap not (never_created passed none tx)))) (all_new passed none lists)
+
+-- for each element of a list one that stands in a relation to it
+pub choose : {X Y : Type 0} (R : ℕ → X → Y → Type 0) (xs : List X)
+    → ((i : ℕ) (d : X) → i < length xs → (y : Y) × R i (get_or xs i d) y)
+    → (ys : List Y) × ((length ys ≡ length xs)
+    × ((i : ℕ) (d : X) (e : Y) → i < length xs → R i (get_or xs i d) (get_or ys i e)))
+choose R [] each = ([], (refl, λ i d e lt. absurd (omega (arith, lt))))
+choose {X} {Y} R (x ∷ xs) each =
+    let first = each 0 x (omega arith) in
+    let rest = choose (λ i. R (suc i)) xs (λ i d lt. each (suc i) d (omega (arith, lt))) in
+    (first.0 ∷ rest.0, (ap suc rest.1.0, by first.0 rest.0 first.1 rest.1.1))
+  where
+    by : (y : Y) (ys : List Y) → R 0 x y
+        → ((i : ℕ) (d : X) (e : Y) → i < length xs → R (suc i) (get_or xs i d) (get_or ys i e))
+        → (i : ℕ) (d : X) (e : Y) → i < length (x ∷ xs) → R i (get_or (x ∷ xs) i d) (get_or (y ∷ ys) i e)
+    by y ys here later zero d e lt = here
+    by y ys here later (suc i) d e lt = later i d e (omega (arith, lt))
+
+ids_of_each : (all : List Sifted)
+    → flat_map (λ one. one.ids) all ≡ flat_map (λ list. list) (map (λ (one : Sifted). one.ids) all)
+ids_of_each [] = refl
+ids_of_each (one ∷ all) = ap (λ (list : List ℕ). one.ids ++ list) (ids_of_each all)
+
+module _ (parts : Parts) (candidates : List Tx) (all : List Sifted) (is : AreSiftedParts parts candidates all) where
+  abbrev IsOf : ℕ → Sifted → List Tx → Type 0
+  IsOf i one part = IsPart parts (filter (is_in is.cuts i) candidates) part × AreSifted parts part one
+
+  abbrev chosen : (lists : List (List Tx)) × ((length lists ≡ length all)
+      × ((i : ℕ) (d : Sifted) (e : List Tx) → i < length all → IsOf i (get_or all i d) (get_or lists i e)))
+  chosen = choose IsOf all (λ i d lt. let one = is.are.each i d lt in (one.part, (one.is, one.are)))
+
+  abbrev none : List Tx → Sifted
+  none d = record { fit = d; ids = [] }
+
+  parted : AreParted parts candidates chosen.0
+  parted = record {
+    cuts = is.cuts;
+    are = record {
+      one_each = chosen.1.0 ∙ is.are.one_each;
+      each = λ range d lt. (chosen.1.1 range (none d) d (omega (arith, lt, chosen.1.0))).0;
+    };
+  }
+
+  -- those that pass, of all ranges
+  abbrev pub passed : List Tx
+  passed = flat_map (λ list. list) chosen.0
+
+  pub ids_are : flat_map (λ one. one.ids) all ≡ created passed
+  ids_are =
+      ids_of_each all
+      ∙ created_whole chosen.0 (map (λ (one : Sifted). one.ids) all)
+      (length-map all (λ (one : Sifted). one.ids) ∙ sym chosen.1.0)
+      (λ k d e lt.
+      let at : k < length all = omega (arith, lt, chosen.1.0) in
+      let s : Sifted = record { fit = []; ids = d } in
+      get_or-map (λ (one : Sifted). one.ids) all k s d at ∙ (chosen.1.1 k s e at).1.ids)
+
+  -- of each list those that create no account that another candidate creates
+  abbrev pub new_ones : List (List Tx) → List (List Tx)
+  new_ones lists = map (λ (list : List Tx). filter (is_new passed) list) lists
+
+  kept_are : (lists : List (List Tx)) → lists ≡ map (λ (one : Sifted). one.fit) all
+      → AreKept parts passed chosen.0 (new_ones lists)
+  kept_are lists same =
+      let long = ap length same ∙ length-map all (λ (one : Sifted). one.fit) in
+      record {
+        one_each = length-map lists (λ (list : List Tx). filter (is_new passed) list) ∙ long ∙ sym chosen.1.0;
+        each = λ k d lt.
+            let at : k < length all = omega (arith, lt, chosen.1.0) in
+            let part = get_or chosen.0 k d in
+            get_or-map (λ (list : List Tx). filter (is_new passed) list) lists k d d (omega (arith, at, long))
+            ∙ ap (filter (is_new passed))
+            (ap (λ (xs : List (List Tx)). get_or xs k d) same
+            ∙ get_or-map (λ (one : Sifted). one.fit) all k (none d) d at
+            ∙ (chosen.1.1 k (none d) d at).1.fit)
+            ∙ sym (filter_twice (is_fit parts part) (is_new passed) part)
+            ∙ (λ i. filter (λ tx. alone_is_fit_and_new parts passed part tx i) part);
+      }
+
+  pub new_kept : (lists kept : List (List Tx)) → lists ≡ map (λ (one : Sifted). one.fit) all
+      → kept ≡ new_ones lists → flat_map (λ list. list) kept ≡ kept_of parts candidates
+  new_kept lists kept same new =
+      ap (flat_map (λ (list : List Tx). list)) new
+      ∙ kept_whole parts candidates chosen.0 parted (new_ones lists) (kept_are lists same)

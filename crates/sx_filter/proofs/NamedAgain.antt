@@ -1,5 +1,5 @@
 -- What is named more than once, told by the keys and by the ids.
-use Rattle.std.proofs.Common.{◌≡◌, ℕ, ◌+◌, Bool, false, cond, List, [], ◌∷◌, Option, Some, None, inl, inr, refl, sym}
+use Rattle.std.proofs.Common.{◌≡◌, ℕ, ◌+◌, ◌++◌, Bool, false, cond, List, [], ◌∷◌, Option, Some, None, inl, inr, refl, sym}
 use Rattle.std.proofs.Common.{ap, ◌∙◌, arith}
 use Rattle.std.specs.Prelude.{map, nat_le, nat_eq}
 use Rattle.std.specs.Cmp.{eq_by_cmp_equiv, nat_cmp_total}
@@ -10,6 +10,8 @@ use Rattle.std.specs.List.{count_by, filter_map, cons_option}
 use Rattle.std.specs.Ordering.{is_eq, nat_cmp, ordering_then}
 use Rattle.std.proofs.lemmas.Bool.{cases_Bool}
 use Rattle.std.proofs.lemmas.Cmp.{tied_itself}
+use Rattle.std.proofs.lemmas.List.{map-append}
+use Rattle.std.proofs.lemmas.List.Elements.{filter_map-append}
 use Rattle.sx_filter.specs.Alone.{is_twice}
 use Rattle.sx_filter.specs.Cancellations.{cancellation_of, cancellations}
 use Rattle.sx_filter.specs.Kept.{both, same_id, same_offer}
@@ -119,3 +121,22 @@ id_again txs tx id named =
 
 pub no_id : (txs : List Tx) (tx : Tx) → created_by tx.kind ≡ None → false ≡ is_twice (same_id tx) txs
 no_id txs tx nothing = never_twice nat_eq (λ t. created_by t.kind) tx nothing txs
+
+-- where nothing is created, no account is created twice
+pub never_created : (txs : List Tx) → created txs ≡ [] → (tx : Tx) → is_twice (same_id tx) txs ≡ false
+never_created txs none tx = by (created_by tx.kind) refl
+  where
+    by : (named : Option ℕ) → created_by tx.kind ≡ named → is_twice (same_id tx) txs ≡ false
+    by None e = sym (no_id txs tx e)
+    by (Some id) e = sym (id_again txs tx id e) ∙ ap (is_twice (λ k. is_eq (nat_cmp k id))) none
+
+-- ---- what one candidate more names
+
+pub cancellations_more : (txs : List Tx) (tx : Tx)
+    → cancellations (txs ++ tx ∷ []) ≡ cancellations txs ++ cancellations (tx ∷ [])
+cancellations_more txs tx =
+    ap (map cancellation_of) (filter_map-append (λ (t : Tx). cancelled_by t t.kind) txs (tx ∷ []))
+    ∙ map-append cancellation_of (cancelled txs) (cancelled (tx ∷ []))
+
+pub created_more : (txs : List Tx) (tx : Tx) → created (txs ++ tx ∷ []) ≡ created txs ++ created (tx ∷ [])
+created_more txs tx = filter_map-append (λ (t : Tx). created_by t.kind) txs (tx ∷ [])

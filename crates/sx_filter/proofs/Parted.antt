@@ -1,17 +1,15 @@
 -- The parts by ranges of accounts, one behind the other, are what passes of all candidates, sorted.
 use Rattle.std.proofs.Common.{◌≡◌, ℕ, suc, ◌+◌, ◌<◌, ◌≤◌, Bool, true, false, List, [], ◌∷◌, ◌++◌, length, get_or}
-use Rattle.std.proofs.Common.{All, Ok, Result, map, append-nil, append_assoc, inl, inr, refl, sym, ap, subst, ◌∙◌, arith}
-use Rattle.std.specs.Prelude.{IfOk, nat_le, nat_lt, ◌==◌, not, ◌&&◌}
+use Rattle.std.proofs.Common.{All, Ok, append-nil, append_assoc, inl, inr, refl, sym, ap, subst, ◌∙◌, arith}
+use Rattle.std.specs.Prelude.{nat_le, nat_lt, ◌==◌, not, ◌&&◌}
 use Rattle.std.specs.List.{filter, flat_map}
 use Rattle.std.specs.List.Sorted.{IsPermutation, IsSortedBy}
 use Rattle.std.proofs.lemmas.Bool.{cases_Bool, cases_lt, cases_order, eq-eqb, eqb-true, le-leb, le-ltb, leb-true}
 use Rattle.std.proofs.lemmas.Bool.{lt-ltb, ltb-true, ne_eqb}
-use Rattle.std.proofs.lemmas.List.{get_or-map, length-map}
 use Rattle.std.proofs.lemmas.List.Elements.{filter-append}
 use Rattle.std.proofs.lemmas.List.Sorted.{Contains-permutation, IsPermutation-append, IsPermutation-filter_both}
 use Rattle.std.proofs.lemmas.List.Sorted.{IsPermutation-refl, IsPermutation-sym, IsPermutation-trans}
 use Rattle.std.proofs.lemmas.List.Sums.{count_by-le-length}
-use Rattle.std.proofs.lemmas.Result.{IfOk-at_ok}
 use Rattle.sx_filter.specs.Alone.{is_alone}
 use Rattle.sx_filter.specs.Kept.{kept_of, passes, passing}
 use Rattle.sx_filter.specs.Ranges.{AreParted, AreParts, IsPart, is_in, range_among}
@@ -62,7 +60,7 @@ ranges_rise cuts a b less = elim (cases_lt a b) [
 abbrev is_below : List ℕ → ℕ → Tx → Bool
 is_below cuts n tx = nat_lt (range_among cuts tx.account.0) n
 
-filter_all : (p : Tx → Bool) (xs : List Tx) → ((x : Tx) → p x ≡ true) → filter p xs ≡ xs
+pub filter_all : (p : Tx → Bool) (xs : List Tx) → ((x : Tx) → p x ≡ true) → filter p xs ≡ xs
 filter_all p [] all = refl
 filter_all p (x ∷ xs) all = rw (all x) (ap (λ (list : List Tx). x ∷ list) (filter_all p xs all))
 
@@ -193,21 +191,3 @@ module _ (parts : Parts) (candidates txs : List Tx) (is : IsPart parts candidate
       subst (λ (list : List Tx). filter (is_alone parts list) list ≡ kept_of parts candidates) (sym is.are)
       (kept_sorted parts is.all (passing parts is.all) (IsPermutation-refl (passing parts is.all)) passing_sorted
       ∙ kept_permuted parts candidates is.all is.moves)
-
--- ---- the parts that threads found
-
-pub found : {E : Type 0} (parts : Parts) (candidates : List Tx) (cuts : List ℕ) (results : List (Result (List Tx) E))
-    (lists : List (List Tx)) → results ≡ map Ok lists → length results ≡ length cuts + 1
-    → ((i : ℕ) (d : Result (List Tx) E) → i < length results
-    → IfOk (get_or results i d) (IsPart parts (filter (is_in cuts i) candidates)))
-    → AreParts parts candidates cuts lists
-found parts candidates cuts results lists e long each =
-    let same : length results ≡ length lists = ap length e ∙ length-map lists Ok in
-    record {
-      one_each = omega (arith, long, same);
-      each = λ range d lt.
-          let at : get_or results range (Ok d) ≡ Ok (get_or lists range d) =
-          ap (λ rs. get_or rs range (Ok d)) e ∙ get_or-map Ok lists range d (Ok d) lt in
-          IfOk-at_ok (IsPart parts (filter (is_in cuts range) candidates)) at
-          (each range (Ok d) (omega (arith, lt, same)));
-    }

@@ -121,14 +121,13 @@ module _ (txs : List Tx) (sorted : IsSortedBy tx_before txs) (start end : ℕ) (
 
 -- ---- verdicts of one run more
 
-pub verdicts_more : {X : Type 0} (test : X → Bool) (xs : List X) (old new : List Bool) (start end : ℕ) (is : Bool)
+pub verdicts_more : {X : Type 0} (test : X → Bool) (xs : List X) (old new : List Bool) (start end : ℕ)
     → ((k : ℕ) (d : Bool) → k < start → get_or new k d ≡ get_or old k d)
-    → ((k : ℕ) (d : Bool) → start ≤ k → k < end → get_or new k d ≡ is)
-    → ((k : ℕ) (x : X) → slice_get xs k ≡ Some x → start ≤ k → k < end → is ≡ test x)
+    → ((k : ℕ) (d : Bool) → start ≤ k → k < end → IsVerdict test xs k (get_or new k d))
     → ((k : ℕ) (d : Bool) → k < start → IsVerdict test xs k (get_or old k d))
     → (k : ℕ) (d : Bool) → k < end → IsVerdict test xs k (get_or new k d)
-verdicts_more test xs old new start end is same filled alike before k d lt x at =
+verdicts_more test xs old new start end same judged before k d lt x at =
     elim (cases_lt k start) [
       | inl less ↦ same k d less ∙ before k d less x at
-      | inr high ↦ filled k d high lt ∙ alike k x at high lt
+      | inr high ↦ judged k d high lt x at
     ]

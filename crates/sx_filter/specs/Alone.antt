@@ -10,6 +10,18 @@ use Rattle.sx_tx.specs.declared.tx.Tx.{Tx}
 abbrev pub is_twice : {X : Type 0} → (X → Bool) → List X → Bool
 is_twice test xs = nat_le 2 (count_by test xs)
 
+-- no second candidate of a part has its number or cancels its offer, and its account holds as much as those of the part
+-- debit
+abbrev pub is_fit : Parts → List Tx → Tx → Bool
+is_fit parts part tx =
+    not (is_twice (same_number tx) part)
+    && (not (is_twice (same_offer tx) part)
+    && covers parts part tx.account.0 (assets_of parts))
+
+-- none of all others creates its account
+abbrev pub is_new : List Tx → Tx → Bool
+is_new passed tx = not (is_twice (same_id tx) passed)
+
 -- no second candidate of a part has its number or cancels its offer, none of all creates its account, and its account
 -- holds as much as those of the part debit
 abbrev pub is_alone_in : Parts → List Tx → List Tx → Tx → Bool

@@ -7,4 +7,5 @@ pub mod Cancellations
 pub mod Named
 pub mod Runs
 pub mod Ranges
+pub mod Sifted
 pub mod Additions

@@ -34,11 +34,6 @@ pub record AreParted (parts : Parts) (candidates : List Tx) (lists : List (List 
   pub cuts : List ℕ
   pub are : AreParts parts candidates cuts lists
 
--- these are the parts of some candidates
-pub record ArePassed (parts : Parts) (lists : List (List Tx)) : Type 0 where
-  pub candidates : List Tx
-  pub are : AreParted parts candidates lists
-
 -- all of a part pass, and stand in order
 pub record IsReady (parts : Parts) (part : List Tx) : Type 0 where
   pub passes : All (λ tx. static_of parts tx ≡ Ok tt) part

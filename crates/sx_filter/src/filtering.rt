@@ -3,7 +3,7 @@
 ghost use Rattle.std.specs.Prelude.{◌≡◌, ◌≤◌, length, IfOk, IfErr, Err};
 ghost use Rattle.sx_filter.specs.Fault.{fault_of as the_fault, IsFaultOf};
 ghost use Rattle.sx_filter.specs.Kept.{kept_of};
-ghost use Rattle.sx_filter.specs.Ranges.{AreParted};
+ghost use Rattle.sx_filter.specs.Sifted.{AreSiftedParts};
 ghost use Rattle.sx_layout.specs.declared.space.NoRoom.{NoRoom as WhyNoRoom};
 ghost use Rattle.sx_layout.specs.Room.{room_for};
 ghost use Rattle.sx_ledger.specs.Body.{IsAdmissible};
@@ -14,6 +14,7 @@ use crate::counting::room_for_parts;
 use crate::fault::FilterFault;
 use crate::keeping::kept_in_parts;
 use crate::parting::parts_of;
+use crate::sifting::Sifted;
 use std::alloc::Global;
 use std::thread::Threads;
 use sx_bytes::NoMemory;
@@ -30,18 +31,18 @@ fn copy_of(alloc: Global, candidates: &[Tx]) -> Result<TxParts, NoMemory>
     Ok(TxParts::of(parts))
 }
 
-// Those that pass, by ranges of accounts. The candidates go as soon as these are found.
-fn passing_parts<R: Threads + Sync>(
+// Those that pass, sifted by ranges of accounts. The candidates go as soon as these are found.
+fn sifted_parts<R: Threads + Sync>(
     rt: &R,
     alloc: Global,
     ledger: &Ledger,
     index: &LedgerIndex,
     candidates: TxParts,
     workers: u32,
-) -> Result<Vec<TxList>, NoMemory>
+) -> Result<Vec<Sifted>, NoMemory>
     requires index { index.now ≡ ids ledger.now.accounts }
     requires few_candidates { length candidates ≤ most_transactions }
-    ensures { IfOk result (λ parts. AreParted ledger.now candidates parts.items) }
+    ensures { IfOk result (λ all. AreSiftedParts ledger.now candidates all.items) }
 {
     parts_of(rt, alloc, ledger, index, &candidates, workers)
 }
@@ -58,8 +59,8 @@ fn kept<R: Threads + Sync>(
     ensures { IfOk result (λ txs. txs ≡ kept_of ledger.now candidates) }
 {
     let index = ledger.index()?;
-    let parts = passing_parts(rt, alloc, ledger, &index, candidates, workers)?;
-    kept_in_parts(rt, alloc, ledger, &index, parts)
+    let all = sifted_parts(rt, alloc, ledger, &index, candidates, workers)?;
+    kept_in_parts(alloc, all)
 }
 
 /// Chooses of at most 1,000,000 candidates of a ledger those that no other candidate stands in the way of,

@@ -29,11 +29,13 @@
 //!
 //! Then the ids of accounts are cut into ranges, one for each worker and at most eight, where there are enough
 //! candidates. A thread for each range selects its candidates out of all of them, sorts them and puts each to the
-//! ledger's test, with next to no search for an account. Then two of one number are neighbours in a part, and the
-//! candidates of an account are a run in it, of which the debits are summed up with one search for the account. The
-//! offers that candidates of a part cancel are sorted too, by account first, so that each is found near the one before
-//! it, and the ids that those of all parts create, and they cost nothing where there are none. By these, again a thread
-//! for each part chooses what is kept of it.
+//! ledger's test, with next to no search for an account. Then two of one number are neighbours, and the candidates of an
+//! account are a run, of which the debits are summed up with one search for the account. The offers that candidates of a
+//! range cancel are sorted too, by account first, so that each is found near the one before it, and they cost nothing
+//! where there are none. By these the same thread leaves those that no other of the range stands in the way of.
+//!
+//! Candidates of two ranges share nothing but the accounts that they create. The ids of these are sorted, and where
+//! there are any, one thread goes over what is left.
 //!
 //! Beside the list of candidates no memory is taken but the lists of those of each range, in which what is kept stays,
 //! and one answer of yes or no for each that passes. `filter` takes memory for a copy of its candidates too, and for
@@ -47,11 +49,12 @@
 //! tests and their bounds are this project's own.
 #![tactic(auto)]
 
-mod alone;
 mod cancellation;
 mod counting;
 mod fault;
 mod filtering;
+mod fits;
+mod fitting;
 mod keeping;
 mod kinds;
 mod laws;
@@ -60,6 +63,7 @@ mod parting;
 mod ranges;
 mod runs;
 mod seen;
+mod sifting;
 
 pub use fault::FilterFault;
 pub use filtering::{filter, filter_list};

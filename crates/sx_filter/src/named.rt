@@ -1,6 +1,6 @@
 //! The offers that candidates cancel, and the accounts that they create.
 
-ghost use Rattle.std.specs.Prelude.{◌≡◌, List, IfOk};
+ghost use Rattle.std.specs.Prelude.{◌≡◌, ◌++◌, [], ◌∷◌, List, IfOk, OnOk};
 ghost use Rattle.sx_filter.specs.Alone.{is_twice};
 ghost use Rattle.sx_filter.specs.Cancellations.{cancellations};
 ghost use Rattle.sx_filter.specs.Kept.{same_id, same_offer};
@@ -18,30 +18,39 @@ use sx_tx::Tx;
 // Ids of accounts.
 pub(crate) type Ids = ListOf<u64>;
 
-// The offers that are cancelled.
-pub(crate) fn cancelled_keys(alloc: Global, txs: &[Tx]) -> Result<Vec<Cancellation>, NoMemory>
-    ensures { IfOk result (λ keys. keys.items ≡ cancellations txs.now) }
-{
-    let mut keys = Vec::new(alloc);
-    for tx in txs {
-        if let Some(key) = cancelled_key(tx) {
-            keys.push(Cancellation::of(key))?;
-        }
-    }
-    Ok(keys)
+// What candidates name: the offers that they cancel, and the ids of the accounts that they create.
+#[derive(Debug, Drop)]
+pub(crate) struct Names {
+    pub(crate) offers: Vec<Cancellation>,
+    pub(crate) ids: Ids,
 }
 
-// The ids of the accounts that are created.
-pub(crate) fn created_ids(alloc: Global, txs: &[Tx]) -> Result<Ids, NoMemory>
-    ensures { IfOk result (λ ids. ids ≡ created txs.now) }
+// Puts what a candidate names behind what those before it do.
+fn note(tx: &Tx, offers: &mut Vec<Cancellation>, ids: &mut Vec<u64>) -> Result<(), NoMemory>
+    ensures offers { OnOk result (offers.new.items ≡ offers.old.items ++ cancellations (tx.now ∷ [])) }
+    ensures ids { OnOk result (ids.new.items ≡ ids.old.items ++ created (tx.now ∷ [])) }
 {
+    if let Some(key) = cancelled_key(tx) {
+        offers.push(Cancellation::of(key))?;
+    }
+    if let Some(id) = created_id(tx) {
+        ids.push(id)?;
+    }
+    Ok(())
+}
+
+// What some candidates name, looked for in one pass.
+pub(crate) fn names_of(alloc: Global, txs: &[Tx]) -> Result<Names, NoMemory>
+    ensures offers { IfOk result (λ names. names.offers.items ≡ cancellations txs.now) }
+    ensures ids { IfOk result (λ names. names.ids ≡ created txs.now) }
+{
+    let mut offers = Vec::new(alloc);
     let mut ids = Vec::new(alloc);
     for tx in txs {
-        if let Some(id) = created_id(tx) {
-            ids.push(id)?;
-        }
+        note(tx, &mut offers, &mut ids)?;
     }
-    Ok(Ids::of(ids))
+    let ids = Ids::of(ids);
+    Ok(Names { offers, ids })
 }
 
 // Whether another candidate cancels the offer that this one cancels.

@@ -4,13 +4,15 @@ ghost use Rattle.std.specs.Prelude.{◌≡◌, ◌+◌, ◌++◌, ◌<◌, ◌�
 ghost use Rattle.std.specs.List.{filter as those, flat_map};
 ghost use Rattle.std.specs.List.Sorted.{IsPermutation, IsSortedBy};
 ghost use Rattle.sx_filter.specs.Kept.{passes, passing};
-ghost use Rattle.sx_filter.specs.Ranges.{AreParted, AreParts, IsPart, is_in};
+ghost use Rattle.sx_filter.specs.Ranges.{is_in};
+ghost use Rattle.sx_filter.specs.Sifted.{AreSiftedBy, AreSiftedParts, IsSifted};
 ghost use Rattle.sx_ledger.specs.Body.{tx_before};
 ghost use Rattle.sx_ledger.specs.Ledger.{ids};
 ghost use Rattle.sx_tx.specs.declared.tx.Tx.{Tx as Transaction};
 ghost use Rattle.sx_tx.specs.Transactions.{most_transactions};
 
 use crate::ranges::{cuts_of, range_of};
+use crate::sifting::{Sifted, sift};
 use std::alloc::Global;
 use std::thread::{Threads, map_indices};
 use sx_bytes::{NoMemory, all_of};
@@ -87,7 +89,7 @@ fn drop_refused(ledger: &Ledger, index: &LedgerIndex, txs: &mut Vec<Tx>)
     txs.truncate(kept);
 }
 
-// The candidates of a range that pass, sorted.
+// The candidates of a range that pass, sorted and sifted.
 fn part_of(
     alloc: Global,
     ledger: &Ledger,
@@ -95,18 +97,18 @@ fn part_of(
     candidates: &TxParts,
     cuts: &[u64],
     range: usize,
-) -> Result<TxList, NoMemory>
+) -> Result<Sifted, NoMemory>
     requires index { index.now ≡ ids ledger.now.accounts }
     requires few { length candidates.now ≤ most_transactions }
-    ensures { IfOk result (IsPart ledger.now (those (is_in cuts.now range) candidates.now)) }
+    ensures { IfOk result (IsSifted ledger.now (those (is_in cuts.now range) candidates.now)) }
 {
     let mut txs = select(alloc, candidates, cuts, range)?;
     sort(&mut txs);
     drop_refused(ledger, index, &mut txs);
-    Ok(TxList::of(txs))
+    sift(alloc, ledger, index, txs)
 }
 
-// Of each range the candidates that pass, sorted. A thread sees to each range.
+// Of each range the candidates that pass, sorted and sifted. A thread sees to each range.
 fn parts_between<R: Threads + Sync>(
     rt: &R,
     alloc: Global,
@@ -114,18 +116,18 @@ fn parts_between<R: Threads + Sync>(
     index: &LedgerIndex,
     candidates: &TxParts,
     cuts: &[u64],
-) -> Result<Vec<TxList>, NoMemory>
+) -> Result<Vec<Sifted>, NoMemory>
     requires index { index.now ≡ ids ledger.now.accounts }
     requires few { length candidates.now ≤ most_transactions }
-    ensures { IfOk result (λ parts. AreParts ledger.now candidates.now cuts.now parts.items) }
+    ensures { IfOk result (λ all. AreSiftedBy ledger.now candidates.now cuts.now all.items) }
 {
     let results = map_indices(
         rt,
         alloc,
         cuts.len() + 1,
-        &|range: usize| -> Result<TxList, NoMemory>
+        &|range: usize| -> Result<Sifted, NoMemory>
             requires { (index.now ≡ ids ledger.now.accounts) × (length candidates.now ≤ most_transactions) }
-            ensures { IfOk result (IsPart ledger.entry.now (those (is_in cuts.entry.now range) candidates.entry.now)) }
+            ensures { IfOk result (IsSifted ledger.entry.now (those (is_in cuts.entry.now range) candidates.entry.now)) }
         { part_of(alloc, ledger, index, candidates, cuts, range) },
     )?;
     all_of(alloc, results)
@@ -139,10 +141,10 @@ pub(crate) fn parts_of<R: Threads + Sync>(
     index: &LedgerIndex,
     candidates: &TxParts,
     workers: u32,
-) -> Result<Vec<TxList>, NoMemory>
+) -> Result<Vec<Sifted>, NoMemory>
     requires index { index.now ≡ ids ledger.now.accounts }
     requires few { length candidates.now ≤ most_transactions }
-    ensures { IfOk result (λ parts. AreParted ledger.now candidates.now parts.items) }
+    ensures { IfOk result (λ all. AreSiftedParts ledger.now candidates.now all.items) }
 {
     let cuts = cuts_of(alloc, ledger, count_of(candidates.parts()), workers)?;
     parts_between(rt, alloc, ledger, index, candidates, &cuts)

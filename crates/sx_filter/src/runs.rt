@@ -1,20 +1,27 @@
-//! Runs of candidates: those of one account stand side by side, so that their debits are summed at once.
+//! Runs of candidates: those of one account stand side by side, so that their debits are summed at once, and each is
+//! judged then.
 
 ghost use Rattle.std.specs.Prelude.{◌≡◌, ℕ, ◌<◌, ◌≤◌, ◌++◌, [], ◌∷◌, Bool, true, List, All, Ok, IfSome, length};
 ghost use Rattle.std.specs.Prelude.{slice_index_or};
 ghost use Rattle.std.specs.Bool.{OnTrue};
-ghost use Rattle.sx_filter.specs.Alone.{is_covered as is_covered_tx};
+ghost use Rattle.std.specs.List.Sorted.{IsSortedBy};
+ghost use Rattle.sx_filter.specs.Alone.{is_covered as is_covered_tx, is_fit};
 ghost use Rattle.sx_filter.specs.Kept.{covers};
 ghost use Rattle.sx_filter.specs.Runs.{AreHeld, AreSums, EndsRun};
 ghost use Rattle.sx_filter.specs.Ranges.{IsReady};
-ghost use Rattle.sx_filter.specs.Verdicts.{AreVerdicts};
+ghost use Rattle.sx_filter.specs.Named.{AreOffers};
+ghost use Rattle.sx_filter.specs.Verdicts.{AreVerdicts, IsVerdict};
 ghost use Rattle.sx_ledger.specs.declared.parts.Parts.{Parts as Ledgers};
+ghost use Rattle.sx_ledger.specs.Body.{tx_before};
 ghost use Rattle.sx_ledger.specs.Effects.{debit};
 ghost use Rattle.sx_ledger.specs.Ledger.{assets_of, ids};
 ghost use Rattle.sx_ledger.specs.Static.{static_of};
 ghost use Rattle.sx_tx.specs.declared.tx.Tx.{Tx as Transaction};
 
+use crate::cancellation::Cancellation;
+use crate::fits::fits;
 use crate::kinds::debited_portion;
+use crate::seen::Seen;
 use sx_base::{AccountId, AssetId};
 use sx_ledger::{Ledger, LedgerIndex};
 use sx_tx::Tx;
@@ -104,26 +111,45 @@ fn is_covered(
     true
 }
 
-// Sets the verdicts between two places.
-fn mark(part: &mut [bool], from: usize, end: usize, is: bool)
-    requires ordered { from ≤ end }
-    requires within { end ≤ length part.old }
-    ensures one_each { length part.new ≡ length part.old }
-    ensures others { (k : ℕ) (d : Bool) → k < from → slice_index_or part.new k d ≡ slice_index_or part.old k d }
-    ensures marked { (k : ℕ) (d : Bool) → from ≤ k → k < end → slice_index_or part.new k d ≡ is }
+// Judges the candidates of a run, of which the account is covered or not.
+fn judge_run(
+    txs: &[Tx],
+    start: usize,
+    end: usize,
+    offers: &Seen<Cancellation>,
+    covered: bool,
+    verdicts: &mut [bool],
+)
+    requires ordered { start ≤ end }
+    requires within { end ≤ length txs.now }
+    requires sorted { IsSortedBy tx_before txs.now }
+    requires offers { AreOffers txs.now offers.now }
+    requires one_each { length verdicts.old ≡ length txs.now }
+    ensures one_each { length verdicts.new ≡ length txs.now }
+    ensures others { (k : ℕ) (d : Bool) → k < start → slice_index_or verdicts.new k d ≡ slice_index_or verdicts.old k d }
+    ensures told { (parts : Ledgers) (k : ℕ) (d : Bool) → start ≤ k → k < end
+        → IsVerdict (is_covered_tx parts txs.now) txs.now k covered
+        → IsVerdict (is_fit parts txs.now) txs.now k (slice_index_or verdicts.new k d) }
 {
-    for place in from..end {
-        part[place] = is;
+    for place in start..end {
+        verdicts[place] = fits(txs, place, offers, covered);
     }
 }
 
-// Of each candidate whether its account holds of each asset as much as all its candidates debit.
-pub(crate) fn cover(ledger: &Ledger, index: &LedgerIndex, txs: &[Tx], covered: &mut [bool])
+// Of each candidate whether no other candidate stands in its way. The offers are those that the candidates cancel.
+pub(crate) fn judge(
+    ledger: &Ledger,
+    index: &LedgerIndex,
+    txs: &[Tx],
+    offers: &Seen<Cancellation>,
+    verdicts: &mut [bool],
+)
     requires index { index.now ≡ ids ledger.now.accounts }
     requires ready { IsReady ledger.now txs.now }
-    requires one_each { length covered.old ≡ length txs.now }
-    ensures one_each { length covered.new ≡ length txs.now }
-    ensures covered { AreVerdicts (is_covered_tx ledger.now txs.now) txs.now covered.new }
+    requires offers { AreOffers txs.now offers.now }
+    requires one_each { length verdicts.old ≡ length txs.now }
+    ensures one_each { length verdicts.new ≡ length txs.now }
+    ensures verdicts { AreVerdicts (is_fit ledger.now txs.now) txs.now verdicts.new }
 {
     let assets = ledger.assets() as usize;
     let mut sums = [0; AssetId::LIMIT as usize];
@@ -137,7 +163,7 @@ pub(crate) fn cover(ledger: &Ledger, index: &LedgerIndex, txs: &[Tx], covered: &
             &txs[start..end],
             &mut sums[..assets],
         );
-        mark(covered, start, end, is);
+        judge_run(txs, start, end, offers, is, verdicts);
         start = end;
     }
 }

@@ -1,6 +1,6 @@
 //! Keys in order, to tell those that come more than once.
 
-ghost use Rattle.std.specs.Prelude.{◌≡◌, List};
+ghost use Rattle.std.specs.Prelude.{◌≡◌, [], true, List};
 ghost use Rattle.std.specs.Ordering.{is_eq};
 ghost use Rattle.sx_filter.specs.Alone.{is_twice};
 ghost use Rattle.sx_filter.specs.Named.{IsSeen};
@@ -31,5 +31,12 @@ impl<K: Ord + Copy> Seen<K> {
             return false;
         }
         self.keys[first + 1].cmp(&key).is_eq()
+    }
+
+    // Whether there are no keys.
+    pub(crate) fn is_empty(&self) -> bool
+        ensures { (keys : List K) → IsSeen K.cmp keys self.now → result ≡ true → keys ≡ [] }
+    {
+        self.keys.is_empty()
     }
 }
