@@ -3,3 +3,4 @@ pub mod PuttingPieces
 pub mod Shown
 pub mod Accounts
 pub mod ProvedAccounts
+pub mod StateParts

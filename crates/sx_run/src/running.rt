@@ -75,7 +75,7 @@ fn output_of<R: Threads + Sync, S: Source, G: Gate + Sync, L: Ledger>(
         Command::Check => told(check(rt, alloc, source)),
         Command::Replay { workers } => recorded(replay(rt, alloc, workers, source)),
         Command::Interleave => recorded(interleave(rt, alloc, source)),
-        Command::Migrate => recorded(migrate(rt, alloc, source)),
+        Command::Migrate => recorded_in_parts(migrate(rt, alloc, source)),
         Command::Show => told(show(rt, alloc, source)),
         Command::Filter { workers } => recorded_in_parts(filter(rt, alloc, workers, source)),
         Command::Prove { id } => recorded(prove(rt, alloc, id, source)),
@@ -154,7 +154,8 @@ fn conclude<K: Sink>(sink: &mut K, found: Result<Output, Stop>) -> Status
 /// `steps` counts the searches of circulations, which these two alone make.
 ///
 /// `seal`, `filter`, `prove` and `demo` return where their worker threads return, and `show` where those do, at most
-/// four, that write the lines of many accounts, offers or transactions. `follow` has at most four threads make the
+/// four, that write the lines of many accounts, offers or transactions. At most four threads encode a state with many
+/// accounts or offers for `migrate`, which returns where these return. `follow` has at most four threads make the
 /// digests of transactions and of ledgers and apply blocks, and returns where these return. At most four threads share
 /// the reading of a state with many offers and of many candidates, and a call returns where these return. For `check`,
 /// `replay` and `seal` a thread makes the digest of a state whose payload has 1 MiB or more while what follows is read,

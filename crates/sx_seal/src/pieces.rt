@@ -23,8 +23,8 @@ impl Model for Pieces {
 }
 
 impl Pieces {
-    // The bytes of these pieces.
-    pub(crate) fn of(pieces: Vec<Writer>) -> Pieces
+    /// The bytes of these pieces. It takes no memory.
+    pub fn of(pieces: Vec<Writer>) -> Pieces
         ensures { result ≡ flat_map (λ bytes. bytes) pieces.items }
     {
         Pieces { pieces }
