@@ -4,7 +4,7 @@ use Rattle.std.proofs.Common.{append_assoc, inl, inr, ◌⊎◌, refl, sym, ap, 
 use Rattle.std.specs.Prelude.{nat_eq, ◌==◌}
 use Rattle.std.specs.List.{filter, list_any}
 use Rattle.std.proofs.lemmas.Bool.{and_from, cases_Bool, eq-eqb}
-use Rattle.sx_filter.specs.Alone.{is_alone, is_alone_in, is_covered, is_fit, is_new, is_twice}
+use Rattle.sx_filter.specs.Alone.{is_alone, is_covered, is_fit, is_new, is_twice}
 use Rattle.sx_filter.specs.Kept.{both, covers, is_kept, kept_behind, kept_of, passes, passing, same_id, same_number}
 use Rattle.sx_filter.specs.Kept.{same_offer}
 use Rattle.sx_filter.proofs.Counts.{elsewhere}
@@ -130,8 +130,8 @@ fit_and_new false false id false = unit id
     unit true = refl
     unit false = refl
 
-pub alone_is_fit_and_new : (parts : Parts) (passed part : List Tx) (tx : Tx)
-    → (is_fit parts part tx && is_new passed tx) ≡ is_alone_in parts passed part tx
-alone_is_fit_and_new parts passed part tx =
-    fit_and_new (is_twice (same_number tx) part) (is_twice (same_offer tx) part) (is_twice (same_id tx) passed)
-    (covers parts part tx.account.0 (assets_of parts))
+pub alone_is_fit_and_new : (parts : Parts) (passed : List Tx) (tx : Tx)
+    → (is_fit parts passed tx && is_new passed tx) ≡ is_alone parts passed tx
+alone_is_fit_and_new parts passed tx =
+    fit_and_new (is_twice (same_number tx) passed) (is_twice (same_offer tx) passed) (is_twice (same_id tx) passed)
+    (covers parts passed tx.account.0 (assets_of parts))

@@ -13,10 +13,13 @@ pub mod NamedAgain
 pub mod KeptSorted
 pub mod Picking
 pub mod Appended
+pub mod BandLaws
 pub mod Parted
 pub mod Locals
 pub mod KeptParts
 pub mod Few
 pub mod WholeBodies
 pub mod Joined
+pub mod Selecting
+pub mod Pairs
 pub mod AdditionLaws

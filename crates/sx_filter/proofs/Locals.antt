@@ -7,8 +7,8 @@ use Rattle.std.specs.List.{filter, flat_map}
 use Rattle.std.proofs.lemmas.Bool.{and_parts, cases_lt, eqb-true, false_from_ne_true}
 use Rattle.std.proofs.lemmas.List.Elements.{filter-append}
 use Rattle.std.proofs.lemmas.Option.{same_Some}
-use Rattle.sx_filter.specs.Alone.{is_alone, is_alone_in, is_twice}
-use Rattle.sx_filter.specs.Kept.{both, covers, passes, same_id, same_number, same_offer}
+use Rattle.sx_filter.specs.Alone.{is_fit, is_twice}
+use Rattle.sx_filter.specs.Kept.{both, covers, passes, same_number, same_offer}
 use Rattle.sx_filter.proofs.Counts.{count_is, total_append}
 use Rattle.sx_filter.proofs.KeptLaws.{posted_at}
 use Rattle.sx_layout.proofs.BodySums.{debits_total}
@@ -109,12 +109,11 @@ module _ (parts : Parts) (front part back : List Tx) (x : Tx) (before : Others p
   covers_local (suc n) =
       λ i. covers_local n i && nat_le (debits_local n i) (holding_of parts.accounts x.account.0 n)
 
-  pub alone_local : is_alone parts whole x ≡ is_alone_in parts whole part x
-  alone_local =
+  pub fit_local : is_fit parts whole x ≡ is_fit parts part x
+  fit_local =
       let number = twice_local (same_number x) (number_owner x) in
       let offer = twice_local (same_offer x) (offer_owner x) in
-      λ i. not (number i) && (not (offer i) && (not (is_twice (same_id x) whole)
-      && covers_local (assets_of parts) i))
+      λ i. not (number i) && (not (offer i) && covers_local (assets_of parts) i)
 
 -- ---- lists of lists
 
@@ -145,30 +144,30 @@ filter_same p q (x ∷ xs) same =
     let rest = filter_same p q xs (λ y is. same y (inr is)) in
     ap₂ (λ (b : Bool) (ys : List Tx). cond b (x ∷ ys) ys) (same x (inl refl)) rest
 
--- ---- what is kept of each part
+-- ---- what is fit of each part
 
 module _ (parts : Parts) (rank : Tx → ℕ) (apart : (x y : Tx) → x.account.0 ≡ y.account.0 → rank x ≡ rank y)
     (passed : List Tx) where
-  -- all pass and are of the ranges below
+  -- all pass and are of the classes below
   abbrev Lower : ℕ → List Tx → Type 0
   Lower n ys = (y : Tx) → In y ys → (passes parts y ≡ true) × (rank y < n)
 
-  -- the parts pass, and are of the ranges from a number on
+  -- the parts pass, and are of the classes from a number on
   abbrev From : ℕ → List (List Tx) → Type 0
   From n lists =
       (k : ℕ) (d : List Tx) → k < length lists → (y : Tx) → In y (get_or lists k d)
       → (passes parts y ≡ true) × (rank y ≡ n + k)
 
-  pub each_kept : (n : ℕ) (front : List Tx) (lists kept : List (List Tx))
+  pub each_fit : (n : ℕ) (front : List Tx) (lists fits : List (List Tx))
       → passed ≡ front ++ flat_map (λ list. list) lists → Lower n front → From n lists
-      → length kept ≡ length lists
+      → length fits ≡ length lists
       → ((k : ℕ) (d : List Tx) → k < length lists
-      → get_or kept k d ≡ filter (is_alone_in parts passed (get_or lists k d)) (get_or lists k d))
-      → flat_map (λ list. list) kept ≡ filter (is_alone parts passed) (flat_map (λ list. list) lists)
-  each_kept n front [] [] whole low from same each = refl
-  each_kept n front [] (one ∷ kept) whole low from same each = absurd (omega (arith, same))
-  each_kept n front (list ∷ lists) [] whole low from same each = absurd (omega (arith, same))
-  each_kept n front (list ∷ lists) (one ∷ kept) whole low from same each =
+      → get_or fits k d ≡ filter (is_fit parts (get_or lists k d)) (get_or lists k d))
+      → flat_map (λ list. list) fits ≡ filter (is_fit parts passed) (flat_map (λ list. list) lists)
+  each_fit n front [] [] whole low from same each = refl
+  each_fit n front [] (one ∷ fits) whole low from same each = absurd (omega (arith, same))
+  each_fit n front (list ∷ lists) [] whole low from same each = absurd (omega (arith, same))
+  each_fit n front (list ∷ lists) (one ∷ fits) whole low from same each =
       let back = flat_map (λ (l : List Tx). l) lists in
       let later : From (suc n) lists =
       λ k d lt y is.
@@ -177,20 +176,20 @@ module _ (parts : Parts) (rank : Tx → ℕ) (apart : (x y : Tx) → x.account.0
       λ y is. by_place n front list low (λ z there. from 0 [] (omega arith) z there) y (in_append y front list is) in
       let high = in_lists (λ y. (passes parts y ≡ true) × (n < rank y)) lists
       (λ k d lt y is. let there = later k d lt y is in (there.0, omega (arith, there.1))) in
-      let alike : (x : Tx) → In x list → is_alone_in parts passed list x ≡ is_alone parts passed x =
+      let alike : (x : Tx) → In x list → is_fit parts list x ≡ is_fit parts passed x =
       λ x is.
       let own = (from 0 [] (omega arith) x is).1 in
-      sym (subst (λ (w : List Tx). is_alone parts w x ≡ is_alone_in parts w list x) (sym whole)
-      (alone_local parts front list back x
+      sym (subst (λ (w : List Tx). is_fit parts w x ≡ is_fit parts list x) (sym whole)
+      (fit_local parts front list back x
       (λ y there. let lower = low y there in
       (lower.0, λ e. let ranks = apart y x e in let less = lower.1 in absurd (omega (arith, ranks, less, own))))
       (λ y there. let higher = high y there in
       (higher.0, λ e. let ranks = apart y x e in let more = higher.1 in absurd (omega (arith, ranks, more, own)))))) in
-      let first : one ≡ filter (is_alone parts passed) list =
-      each 0 [] (omega arith) ∙ filter_same (is_alone_in parts passed list) (is_alone parts passed) list alike in
-      let rest = each_kept (suc n) (front ++ list) lists kept (whole ∙ sym (append_assoc front list back)) here later
+      let first : one ≡ filter (is_fit parts passed) list =
+      each 0 [] (omega arith) ∙ filter_same (is_fit parts list) (is_fit parts passed) list alike in
+      let rest = each_fit (suc n) (front ++ list) lists fits (whole ∙ sym (append_assoc front list back)) here later
       (omega (arith, same)) (λ k d lt. each (suc k) d (omega (arith, lt))) in
-      ap₂ (λ (a b : List Tx). a ++ b) first rest ∙ sym (filter-append (is_alone parts passed) list back)
+      ap₂ (λ (a b : List Tx). a ++ b) first rest ∙ sym (filter-append (is_fit parts passed) list back)
     where
       by_place : (n : ℕ) (front list : List Tx) → Lower n front
           → ((y : Tx) → In y list → (passes parts y ≡ true) × (rank y ≡ n + 0)) → (y : Tx)

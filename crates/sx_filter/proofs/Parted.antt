@@ -1,4 +1,4 @@
--- The parts by ranges of accounts, one behind the other, are what passes of all candidates, sorted.
+-- The parts by classes of accounts, one behind the other, are what passes of all candidates, sorted.
 use Rattle.std.proofs.Common.{◌≡◌, ℕ, suc, ◌+◌, ◌<◌, ◌≤◌, Bool, true, false, List, [], ◌∷◌, ◌++◌, length, get_or}
 use Rattle.std.proofs.Common.{All, Ok, append-nil, append_assoc, inl, inr, refl, sym, ap, subst, ◌∙◌, arith}
 use Rattle.std.specs.Prelude.{nat_le, nat_lt, ◌==◌, not, ◌&&◌}
@@ -12,7 +12,7 @@ use Rattle.std.proofs.lemmas.List.Sorted.{IsPermutation-refl, IsPermutation-sym,
 use Rattle.std.proofs.lemmas.List.Sums.{count_by-le-length}
 use Rattle.sx_filter.specs.Alone.{is_alone}
 use Rattle.sx_filter.specs.Kept.{kept_of, passes, passing}
-use Rattle.sx_filter.specs.Ranges.{AreParted, AreParts, IsPart, is_in, range_among}
+use Rattle.sx_filter.specs.Ranges.{AreClasses, AreParted, IsPart, is_at, range_among}
 use Rattle.sx_filter.proofs.Appended.{in_numbers, sorted_append}
 use Rattle.sx_filter.proofs.Counts.{contains_in, count_is, filter_twice, in_contains, in_filter, times}
 use Rattle.sx_filter.proofs.KeptLaws.{kept_permuted}
@@ -55,10 +55,16 @@ ranges_rise cuts a b less = elim (cases_lt a b) [
       ))
 ]
 
--- ---- the candidates of the first ranges
+pub ranges_are : (cuts : List ℕ) (count : ℕ) → count ≡ length cuts + 1 → AreClasses (range_among cuts) count
+ranges_are cuts count are = record {
+  rise = ranges_rise cuts;
+  few = λ a. omega (arith, are, count_by-le-length (λ cut. nat_le cut a) cuts);
+}
 
-abbrev is_below : List ℕ → ℕ → Tx → Bool
-is_below cuts n tx = nat_lt (range_among cuts tx.account.0) n
+-- ---- the candidates of the first classes
+
+abbrev is_below : (ℕ → ℕ) → ℕ → Tx → Bool
+is_below class_of n tx = nat_lt (class_of tx.account.0) n
 
 pub filter_all : (p : Tx → Bool) (xs : List Tx) → ((x : Tx) → p x ≡ true) → filter p xs ≡ xs
 filter_all p [] all = refl
@@ -87,25 +93,25 @@ last r n = elim (cases_order r n) [
       (sym (ne_eqb r n (λ e. absurd (omega (arith, e, gt))))))
 ]
 
-module _ (cuts : List ℕ) (candidates : List Tx) where
+module _ (class_of : ℕ → ℕ) (rise : (a b : ℕ) → class_of a < class_of b → a < b) (candidates : List Tx) where
   abbrev below : ℕ → List Tx
-  below n = filter (is_below cuts n) candidates
+  below n = filter (is_below class_of n) candidates
 
   abbrev within : ℕ → List Tx
-  within n = filter (is_in cuts n) candidates
+  within n = filter (is_at class_of n) candidates
 
   one_more : (n : ℕ) → IsPermutation (below (suc n)) (below n ++ within n)
   one_more n =
-      let rank : Tx → ℕ = λ tx. range_among cuts tx.account.0 in
-      let front : filter (is_below cuts n) (below (suc n)) ≡ below n =
-      sym (filter_twice (is_below cuts (suc n)) (is_below cuts n) candidates)
+      let rank : Tx → ℕ = λ tx. class_of tx.account.0 in
+      let front : filter (is_below class_of n) (below (suc n)) ≡ below n =
+      sym (filter_twice (is_below class_of (suc n)) (is_below class_of n) candidates)
       ∙ (λ i. filter (λ tx. lower (rank tx) n i) candidates) in
-      let back : filter (λ tx. not (is_below cuts n tx)) (below (suc n)) ≡ within n =
-      sym (filter_twice (is_below cuts (suc n)) (λ tx. not (is_below cuts n tx)) candidates)
+      let back : filter (λ tx. not (is_below class_of n tx)) (below (suc n)) ≡ within n =
+      sym (filter_twice (is_below class_of (suc n)) (λ tx. not (is_below class_of n tx)) candidates)
       ∙ (λ i. filter (λ tx. last (rank tx) n i) candidates) in
       subst (λ (list : List Tx). IsPermutation (below (suc n)) (list ++ within n)) front
-      (subst (λ (list : List Tx). IsPermutation (below (suc n)) (filter (is_below cuts n) (below (suc n)) ++ list)) back
-      (IsPermutation-filter_both (is_below cuts n) (λ tx. not (is_below cuts n tx)) (λ x. refl) (below (suc n))))
+      (subst (λ (list : List Tx). IsPermutation (below (suc n)) (filter (is_below class_of n) (below (suc n)) ++ list)) back
+      (IsPermutation-filter_both (is_below class_of n) (λ tx. not (is_below class_of n tx)) (λ x. refl) (below (suc n))))
 
   module _ (parts : Parts) where
     pub among : (p : Tx → Bool) (part : List Tx) (is : IsPart parts (filter p candidates) part) (x : Tx) → In x is.all
@@ -122,9 +128,9 @@ module _ (cuts : List ℕ) (candidates : List Tx) where
       moves = IsPermutation-trans (below (suc n)) (below n ++ within n) (first.all ++ second.all) (one_more n)
           (IsPermutation-append (below n) first.all (within n) second.all first.moves second.moves);
       sorted = sorted_append first.all second.all first.sorted second.sorted (λ x y is too.
-          let low = ltb-true (range_among cuts x.account.0) n (among (is_below cuts n) txs first x is) in
-          let here = eqb-true (range_among cuts y.account.0) n (among (is_in cuts n) part second y too) in
-          ranges_rise cuts x.account.0 y.account.0 (omega (arith, low, here)));
+          let low = ltb-true (class_of x.account.0) n (among (is_below class_of n) txs first x is) in
+          let here = eqb-true (class_of y.account.0) n (among (is_at class_of n) part second y too) in
+          rise x.account.0 y.account.0 (omega (arith, low, here)));
       are = (λ i. first.are i ++ second.are i) ∙ sym (filter-append (passes parts) first.all second.all);
     }
 
@@ -151,27 +157,27 @@ module _ (cuts : List ℕ) (candidates : List Tx) where
     nothing = record {
       all = [];
       moves = subst (λ (list : List Tx). IsPermutation list [])
-          (sym (filter_none (is_below cuts 0) candidates
-          (λ x. le-ltb (range_among cuts x.account.0) 0 (omega arith)))) (IsPermutation-refl []);
+          (sym (filter_none (is_below class_of 0) candidates
+          (λ x. le-ltb (class_of x.account.0) 0 (omega arith)))) (IsPermutation-refl []);
       sorted = λ k d low lt. absurd (omega (arith, lt));
       are = refl;
     }
 
-    whole : (lists : List (List Tx)) → AreParts parts candidates cuts lists
+    whole : (lists : List (List Tx)) → ((a : ℕ) → class_of a < length lists)
+        → ((k : ℕ) (d : List Tx) → k < length lists → IsPart parts (within k) (get_or lists k d))
         → IsPart parts candidates (flat_map (λ list. list) lists)
-    whole lists are =
+    whole lists few each =
         let every : below (0 + length lists) ≡ candidates =
-        filter_all (is_below cuts (0 + length lists)) candidates (λ x.
-        lt-ltb (range_among cuts x.account.0) (0 + length lists)
-        (omega (arith, are.one_each, count_by-le-length (λ cut. nat_le cut x.account.0) cuts))) in
+        filter_all (is_below class_of (0 + length lists)) candidates (λ x.
+        lt-ltb (class_of x.account.0) (0 + length lists) (omega (arith, few x.account.0))) in
         subst (λ (list : List Tx). IsPart parts list (flat_map (λ list. list) lists)) every
         (all_more 0 [] nothing lists (λ k d lt.
         let place : k ≡ 0 + k = omega arith in
-        subst (λ (j : ℕ). IsPart parts (within j) (get_or lists k d)) place (are.each k d lt)))
+        subst (λ (j : ℕ). IsPart parts (within j) (get_or lists k d)) place (each k d lt)))
 
 pub parted_whole : (parts : Parts) (candidates : List Tx) (lists : List (List Tx)) → AreParted parts candidates lists
     → IsPart parts candidates (flat_map (λ list. list) lists)
-parted_whole parts candidates lists is = whole is.cuts candidates parts lists is.are
+parted_whole parts candidates lists is = whole is.class_of is.classes.rise candidates parts lists is.classes.few is.each
 
 -- ---- what passes of all candidates, sorted
 

@@ -22,18 +22,13 @@ is_fit parts part tx =
 abbrev pub is_new : List Tx → Tx → Bool
 is_new passed tx = not (is_twice (same_id tx) passed)
 
--- no second candidate of a part has its number or cancels its offer, none of all creates its account, and its account
--- holds as much as those of the part debit
-abbrev pub is_alone_in : Parts → List Tx → List Tx → Tx → Bool
-is_alone_in parts passed part tx =
-    not (is_twice (same_number tx) part)
-    && (not (is_twice (same_offer tx) part)
-    && (not (is_twice (same_id tx) passed)
-    && covers parts part tx.account.0 (assets_of parts)))
-
--- the same among all
+-- no other has its number, cancels its offer or creates its account, and its account holds as much as all debit
 abbrev pub is_alone : Parts → List Tx → Tx → Bool
-is_alone parts passed tx = is_alone_in parts passed passed tx
+is_alone parts passed tx =
+    not (is_twice (same_number tx) passed)
+    && (not (is_twice (same_offer tx) passed)
+    && (not (is_twice (same_id tx) passed)
+    && covers parts passed tx.account.0 (assets_of parts)))
 
 -- whether its account holds as much as all candidates debit
 abbrev pub is_covered : Parts → List Tx → Tx → Bool

@@ -7,5 +7,6 @@ pub mod Cancellations
 pub mod Named
 pub mod Runs
 pub mod Ranges
+pub mod Bands
 pub mod Sifted
 pub mod Additions

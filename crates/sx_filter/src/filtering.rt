@@ -60,7 +60,7 @@ fn kept<R: Threads + Sync>(
 {
     let index = ledger.index()?;
     let all = sifted_parts(rt, alloc, ledger, &index, candidates, workers)?;
-    kept_in_parts(alloc, all)
+    kept_in_parts(rt, alloc, all)
 }
 
 /// Chooses of at most 1,000,000 candidates of a ledger those that no other candidate stands in the way of,
@@ -97,8 +97,8 @@ pub fn filter<R: Threads + Sync>(
 }
 
 /// The same of candidates in parts, which the caller needs no more. No copy is made of them, and their memory serves
-/// again as soon as threads have selected those of their ranges. What is kept comes in parts too, one for each range of
-/// accounts. Some may be empty.
+/// again as soon as threads have selected those of their ranges. What is kept comes in parts too, many short ones, each
+/// of some accounts. Some may be empty.
 pub fn filter_list<R: Threads + Sync>(
     rt: &R,
     alloc: Global,

@@ -15,7 +15,7 @@ use crate::seen::Seen;
 use std::alloc::Global;
 use sx_bytes::NoMemory;
 use sx_ledger::{Ledger, LedgerIndex};
-use sx_tx::{Tx, TxList};
+use sx_tx::Tx;
 
 // Of each candidate whether no other candidate stands in its way.
 fn verdicts_of(
@@ -64,14 +64,14 @@ pub(crate) fn fit(
     index: &LedgerIndex,
     part: Vec<Tx>,
     offers: &Seen<Cancellation>,
-) -> Result<TxList, NoMemory>
+) -> Result<Vec<Tx>, NoMemory>
     requires index { index.now ≡ accounts_of ledger.now.accounts }
     requires ready { IsReady ledger.now part.items }
     requires offers { AreOffers part.items offers.now }
-    ensures { IfOk result (λ fit. fit ≡ those (is_fit ledger.now part.items) part.items) }
+    ensures { IfOk result (λ fit. fit.items ≡ those (is_fit ledger.now part.items) part.items) }
 {
     let mut txs = part;
     let verdicts = verdicts_of(alloc, ledger, index, &txs, offers)?;
     keep(&mut txs, &verdicts);
-    Ok(TxList::of(txs))
+    Ok(txs)
 }

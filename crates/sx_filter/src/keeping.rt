@@ -3,35 +3,22 @@
 //! Candidates of two ranges have nothing in common but the accounts that they create. So only a candidate that creates an
 //! account is tested once more.
 
-ghost use Rattle.std.specs.Prelude.{◌≡◌, List, IfOk, map};
-ghost use Rattle.std.specs.List.{filter as those, flat_map};
+ghost use Rattle.std.specs.Prelude.{◌≡◌, ◌≤◌, List, IfOk};
+ghost use Rattle.std.specs.List.{filter as those};
 ghost use Rattle.sx_filter.specs.Alone.{is_new};
 ghost use Rattle.sx_filter.specs.Kept.{kept_of};
 ghost use Rattle.sx_filter.specs.Named.{AreIds};
-ghost use Rattle.sx_filter.specs.Sifted.{AreSiftedParts};
+ghost use Rattle.sx_filter.specs.Sifted.{AreSiftedParts, in_lists};
 ghost use Rattle.sx_ledger.specs.declared.parts.Parts.{Parts as Ledgers};
 ghost use Rattle.sx_tx.specs.declared.tx.Tx.{Tx as Transaction};
 
 use crate::named::is_id_taken;
 use crate::seen::Seen;
-use crate::sifting::Sifted;
+use crate::sifting::{Sifted, joined};
 use std::alloc::Global;
+use std::thread::{Threads, for_each_mut};
 use sx_bytes::NoMemory;
 use sx_tx::{Tx, TxList, TxParts};
-
-// What is fit of each range, and all ids that are created.
-fn split(alloc: Global, all: Vec<Sifted>) -> Result<(Vec<TxList>, Vec<u64>), NoMemory>
-    ensures lists { IfOk result (λ both. both.0.items ≡ map (λ one. one.fit) all.items) }
-    ensures ids { IfOk result (λ both. both.1.items ≡ flat_map (λ one. one.ids) all.items) }
-{
-    let mut lists = Vec::with_capacity(alloc, all.len())?;
-    let mut ids = Vec::new(alloc);
-    for one in all {
-        ids.extend_from_slice(one.ids.items())?;
-        lists.push(one.fit)?;
-    }
-    Ok((lists, ids))
-}
 
 // Leaves those that create no account that another candidate creates, in their order. Those before the first that goes
 // stay where they are.
@@ -51,36 +38,67 @@ fn drop_taken(txs: &mut Vec<Tx>, ids: &Seen<u64>)
     txs.truncate(kept);
 }
 
-// The same of each list.
-fn new_of_each(alloc: Global, lists: Vec<TxList>, ids: &Seen<u64>) -> Result<Vec<TxList>, NoMemory>
+// The same of each list, by so many threads.
+fn drop_taken_of_each<R: Threads + Sync>(
+    rt: &R,
+    threads: usize,
+    lists: &mut [Vec<Tx>],
+    ids: &Seen<u64>,
+)
+    requires { 1 ≤ threads }
     ensures { (passed : List Transaction) → AreIds passed ids.now
-        → IfOk result (λ kept. kept.items ≡ map (λ list. those (is_new passed) list) lists.items) }
+        → in_lists lists.new ≡ those (is_new passed) (in_lists lists.old) }
 {
-    let mut kept = Vec::with_capacity(alloc, lists.len())?;
-    for list in lists {
-        let mut txs = list.into_items();
-        drop_taken(&mut txs, ids);
-        kept.push(TxList::of(txs))?;
-    }
-    Ok(kept)
+    for_each_mut(
+        rt,
+        lists,
+        threads,
+        &|_: usize, txs: &mut Vec<Tx>|
+            ensures { (passed : List Transaction) → AreIds passed ids.entry.now
+                → txs.exit.now.items ≡ those (is_new passed) txs.entry.now.items }
+        { drop_taken(txs, ids) },
+    );
 }
 
 // The same, and nothing is looked at where no account is created.
-fn new_of(alloc: Global, lists: Vec<TxList>, ids: &Seen<u64>) -> Result<Vec<TxList>, NoMemory>
+fn drop_taken_where_any<R: Threads + Sync>(
+    rt: &R,
+    threads: usize,
+    lists: &mut [Vec<Tx>],
+    ids: &Seen<u64>,
+)
+    requires { 1 ≤ threads }
     ensures { (passed : List Transaction) → AreIds passed ids.now
-        → IfOk result (λ kept. kept.items ≡ map (λ list. those (is_new passed) list) lists.items) }
+        → in_lists lists.new ≡ those (is_new passed) (in_lists lists.old) }
 {
-    if ids.is_empty() {
-        return Ok(lists);
+    if !ids.is_empty() {
+        drop_taken_of_each(rt, threads, lists, ids);
     }
-    new_of_each(alloc, lists, ids)
 }
 
-// What is kept of candidates, of which these were sifted by ranges of accounts.
-pub(crate) fn kept_in_parts(alloc: Global, all: Vec<Sifted>) -> Result<TxParts, NoMemory>
+// The lists as parts of one.
+fn parts_of_lists(alloc: Global, lists: Vec<Vec<Tx>>) -> Result<TxParts, NoMemory>
+    ensures { IfOk result (λ all. all ≡ in_lists lists.items) }
+{
+    let mut parts = Vec::with_capacity(alloc, lists.len())?;
+    for txs in lists {
+        parts.push(TxList::of(txs))?;
+    }
+    Ok(TxParts::of(parts))
+}
+
+// What is kept of candidates, of which these were sifted by ranges of accounts. There are as many threads as ranges.
+pub(crate) fn kept_in_parts<R: Threads + Sync>(
+    rt: &R,
+    alloc: Global,
+    all: Vec<Sifted>,
+) -> Result<TxParts, NoMemory>
     ensures { (parts : Ledgers) (candidates : List Transaction) → AreSiftedParts parts candidates all.items
         → IfOk result (λ kept. kept ≡ kept_of parts candidates) }
 {
-    let (lists, ids) = split(alloc, all)?;
-    Ok(TxParts::of(new_of(alloc, lists, &Seen::of(ids))?))
+    let threads = all.len().max(1);
+    let Sifted { fit, ids } = joined(alloc, all)?;
+    let mut lists = fit;
+    drop_taken_where_any(rt, threads, &mut lists, &Seen::of(ids.into_items()));
+    parts_of_lists(alloc, lists)
 }

@@ -28,18 +28,20 @@
 //! count what candidates would add, each in some of the parts. Where there is no room, nothing more is done.
 //!
 //! Then the ids of accounts are cut into ranges, one for each worker and at most eight, where there are enough
-//! candidates. A thread for each range selects its candidates out of all of them, sorts them and puts each to the
-//! ledger's test, with next to no search for an account. Then two of one number are neighbours, and the candidates of an
-//! account are a run, of which the debits are summed up with one search for the account. The offers that candidates of a
-//! range cancel are sorted too, by account first, so that each is found near the one before it, and they cost nothing
-//! where there are none. By these the same thread leaves those that no other of the range stands in the way of.
+//! candidates. A thread for each range selects its candidates out of all of them. It puts them into lists by bands of
+//! accounts, each so short that the cache of a processor holds it, and sees to one band after the other: it sorts the
+//! candidates and puts each to the ledger's test, with next to no search for an account. Then two of one number are
+//! neighbours, and the candidates of an account are a run, of which the debits are summed up with one search for the
+//! account. The offers that candidates of a band cancel are sorted too, by account first, so that each is found near the
+//! one before it, and they cost nothing where there are none. By these the thread leaves those that no other of the band
+//! stands in the way of.
 //!
-//! Candidates of two ranges share nothing but the accounts that they create. The ids of these are sorted, and where
-//! there are any, one thread goes over what is left.
+//! Candidates of two bands share nothing but the accounts that they create. The ids of these are sorted, and where
+//! there are any, as many threads as there are ranges go over what is left.
 //!
-//! Beside the list of candidates no memory is taken but the lists of those of each range, in which what is kept stays,
-//! and one answer of yes or no for each that passes. `filter` takes memory for a copy of its candidates too, and for
-//! one list of what is kept.
+//! Beside the list of candidates no memory is taken but the lists of those of each band, in which what is kept stays,
+//! and one answer of yes or no for each that passes, of one band at a time in each thread. `filter` takes memory for a
+//! copy of its candidates too, and for one list of what is kept.
 //!
 //! Not here: what is kept is not the most that could be kept, since of two that exclude each other neither is.
 //! Nothing says that workers run at the same time.
@@ -49,6 +51,7 @@
 //! tests and their bounds are this project's own.
 #![tactic(auto)]
 
+mod bands;
 mod cancellation;
 mod counting;
 mod fault;

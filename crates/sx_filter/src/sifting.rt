@@ -1,8 +1,10 @@
-//! The candidates of a range of accounts, tested against each other.
+//! The candidates of some accounts, sorted, put to the ledger's test and then tested against each other.
 
-ghost use Rattle.std.specs.Prelude.{◌≡◌, IfOk};
-ghost use Rattle.sx_filter.specs.Ranges.{IsReady};
-ghost use Rattle.sx_filter.specs.Sifted.{AreSifted};
+ghost use Rattle.std.specs.Prelude.{◌≡◌, ℕ, ◌<◌, IfOk, slice_index_or, vec_len};
+ghost use Rattle.std.specs.List.Sorted.{IsPermutation, IsSortedBy};
+ghost use Rattle.sx_filter.specs.Kept.{passing};
+ghost use Rattle.sx_filter.specs.Sifted.{IsJoined, IsSifted, TxVec};
+ghost use Rattle.sx_ledger.specs.Body.{tx_before};
 ghost use Rattle.sx_ledger.specs.Ledger.{ids as accounts_of};
 
 use crate::fitting::fit;
@@ -10,29 +12,92 @@ use crate::named::{Ids, Names, names_of};
 use crate::seen::Seen;
 use std::alloc::Global;
 use sx_bytes::NoMemory;
+use sx_layout::sort_txs;
 use sx_ledger::{Ledger, LedgerIndex};
-use sx_tx::{Tx, TxList};
+use sx_tx::Tx;
 
-// Of the candidates of a range that pass, those that none of them stands in the way of, and the ids of the accounts that
-// any of them create. A candidate of another range may create the same account.
+// Of the candidates of some accounts that pass, those that none of them stands in the way of, in lists one behind the
+// other, and the ids of the accounts that any of them create. A candidate of another account may create the same one.
 #[derive(Debug, Drop)]
 pub(crate) struct Sifted {
-    pub(crate) fit: TxList,
+    pub(crate) fit: Vec<Vec<Tx>>,
     pub(crate) ids: Ids,
 }
 
-// Sifts the candidates of a range, which pass and are sorted.
-pub(crate) fn sift(
+// Sorts transactions by account and then by number.
+fn sort(txs: &mut Vec<Tx>)
+    ensures moves { IsPermutation txs.old.items txs.new.items }
+    ensures sorted { IsSortedBy tx_before txs.new.items }
+{
+    sort_txs(txs);
+}
+
+// Leaves those that the ledger passes, in their order. Each account is looked for near the one before it.
+fn drop_refused(ledger: &Ledger, index: &LedgerIndex, txs: &mut Vec<Tx>)
+    requires { index.now ≡ accounts_of ledger.now.accounts }
+    ensures { txs.new.items ≡ passing ledger.now txs.old.items }
+{
+    let mut near = 0;
+    let mut kept = 0;
+    for place in 0..txs.len() {
+        let tx = txs[place];
+        if let Ok(places) = ledger.places_of(index, near, &tx) {
+            near = places.account;
+            txs[kept] = tx;
+            kept += 1;
+        }
+    }
+    txs.truncate(kept);
+}
+
+// Sifts candidates in their own memory.
+fn sift(
     alloc: Global,
     ledger: &Ledger,
     index: &LedgerIndex,
-    part: Vec<Tx>,
+    candidates: Vec<Tx>,
 ) -> Result<Sifted, NoMemory>
-    requires index { index.now ≡ accounts_of ledger.now.accounts }
-    requires ready { IsReady ledger.now part.items }
-    ensures { IfOk result (AreSifted ledger.now part.items) }
+    requires { index.now ≡ accounts_of ledger.now.accounts }
+    ensures { IfOk result (IsSifted ledger.now candidates.items) }
 {
-    let Names { offers, ids } = names_of(alloc, &part)?;
-    let fit = fit(alloc, ledger, index, part, &Seen::of(offers))?;
+    let mut txs = candidates;
+    sort(&mut txs);
+    drop_refused(ledger, index, &mut txs);
+    let Names { offers, ids } = names_of(alloc, &txs)?;
+    let mut lists = Vec::with_capacity(alloc, 1)?;
+    lists.push(fit(alloc, ledger, index, txs, &Seen::of(offers))?)?;
+    Ok(Sifted { fit: lists, ids })
+}
+
+// Sifts the candidates of each list.
+pub(crate) fn each_sifted(
+    alloc: Global,
+    ledger: &Ledger,
+    index: &LedgerIndex,
+    lists: Vec<Vec<Tx>>,
+) -> Result<Vec<Sifted>, NoMemory>
+    requires { index.now ≡ accounts_of ledger.now.accounts }
+    ensures one_each { IfOk result (λ all. vec_len all ≡ vec_len lists) }
+    ensures each { IfOk result (λ all. (k : ℕ) (c : TxVec) (d : Sifted) → k < vec_len lists
+        → IsSifted ledger.now (slice_index_or lists.items k c).items (slice_index_or all.items k d)) }
+{
+    let mut all = Vec::with_capacity(alloc, lists.len())?;
+    for txs in lists {
+        all.push(sift(alloc, ledger, index, txs)?)?;
+    }
+    Ok(all)
+}
+
+// What was sifted of classes of accounts, taken together.
+pub(crate) fn joined(alloc: Global, all: Vec<Sifted>) -> Result<Sifted, NoMemory>
+    ensures { IfOk result (IsJoined all.items) }
+{
+    let mut fit = Vec::new(alloc);
+    let mut ids = Vec::new(alloc);
+    for mut one in all {
+        fit.append(&mut one.fit)?;
+        ids.extend_from_slice(one.ids.items())?;
+    }
+    let ids = Ids::of(ids);
     Ok(Sifted { fit, ids })
 }

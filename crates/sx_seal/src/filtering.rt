@@ -52,7 +52,7 @@ fn kept<R: Threads + Sync>(
     ensures calm { IsErrOf result Stop.ReadFault → ⊥ }
 {
     match filter_list(rt, alloc, ledger, candidates, workers) {
-        Ok(kept) => Ok(written(rt, alloc, &kept)?),
+        Ok(kept) => Ok(written(rt, alloc, &kept, workers)?),
         Err(fault) => Err(stop_of(fault)),
     }
 }

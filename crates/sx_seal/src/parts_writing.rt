@@ -1,19 +1,19 @@
-//! The record of candidates that come in parts: a thread for each part encodes it.
+//! The record of candidates that come in parts, which threads encode.
 
-ghost use Rattle.std.specs.Prelude.{◌≡◌, ◌+◌, ◌<◌, ◌≤◌, ◌++◌, List, Ok, IfOk, OnOk, length, map, slice_index_or};
+ghost use Rattle.std.specs.Prelude.{◌≡◌, ◌*◌, ◌≤◌, ◌++◌, IfOk, OnOk, length};
 ghost use Rattle.std.specs.List.{flat_map};
+ghost use Rattle.std.specs.Thread.{IsSync};
 ghost use Rattle.sx_meaning.specs.Items.{item_record};
 ghost use Rattle.sx_meaning.specs.Items as item;
 ghost use Rattle.byteorder.specs.Endian.{big_bytes};
 ghost use Rattle.sx_record.specs.Frame.{frame, most_bytes};
 ghost use Rattle.sx_record.specs.Tags.{candidates_tag};
-ghost use Rattle.sx_tx.specs.declared.tx.Tx.{Tx as Transaction};
 ghost use Rattle.sx_tx.specs.Transactions.{most_transactions, tx_bytes};
 
 use crate::pieces::Pieces;
 use std::alloc::Global;
-use std::thread::{Threads, map_indices};
-use sx_bytes::{NoMemory, Writer, all_of};
+use std::thread::{Threads, join};
+use sx_bytes::{NoMemory, Writer};
 use sx_record::tag;
 use sx_tx::{Tx, TxList, TxParts, write_tx};
 
@@ -23,39 +23,10 @@ const MOST_TX_BYTES: usize = 35;
 // How many bytes the count of candidates takes.
 const COUNT_BYTES: usize = 4;
 
-// The encoding of transactions, with no count.
-fn encoded(alloc: Global, txs: &[Tx]) -> Result<Writer, NoMemory>
-    ensures { IfOk result (λ told. told ≡ flat_map tx_bytes txs.now) }
-{
-    let mut told = Writer::new(alloc);
-    told.reserve(txs.len().saturating_mul(MOST_TX_BYTES))?;
-    for tx in txs {
-        write_tx(&mut told, tx)?;
-    }
-    Ok(told)
-}
+// How many candidates are worth a thread that encodes them, and the most threads.
+const WORTH_A_THREAD: usize = 4_096;
 
-// The encodings of all parts.
-fn each_encoded<R: Threads + Sync>(
-    rt: &R,
-    alloc: Global,
-    parts: &[TxList],
-) -> Result<Vec<Writer>, NoMemory>
-    ensures { IfOk result (λ told. flat_map (λ bytes. bytes) told.items
-        ≡ flat_map tx_bytes (flat_map (λ part. part) parts.now)) }
-{
-    let results = map_indices(
-        rt,
-        alloc,
-        parts.len(),
-        &|place: usize| -> Result<Writer, NoMemory>
-            requires { place < length parts.now }
-            ensures { IfOk result (λ told. (d : List Transaction)
-                → told ≡ flat_map tx_bytes (slice_index_or parts.entry.now place d)) }
-        { encoded(alloc, parts[place].items()) },
-    )?;
-    all_of(alloc, results)
-}
+const MOST_THREADS: usize = 8;
 
 // How many transactions there are in all parts.
 fn count_of(parts: &[TxList]) -> usize
@@ -67,6 +38,66 @@ fn count_of(parts: &[TxList]) -> usize
         count += part.items().len();
     }
     count
+}
+
+// Puts the encodings of transactions behind what was written.
+fn put_all(told: &mut Writer, txs: &[Tx]) -> Result<(), NoMemory>
+    ensures { OnOk result (told.new ≡ told.old ++ flat_map tx_bytes txs.now) }
+{
+    for tx in txs {
+        write_tx(told, tx)?;
+    }
+    Ok(())
+}
+
+// The encoding of the transactions of all parts, with no count.
+fn encoded(alloc: Global, parts: &[TxList]) -> Result<Writer, NoMemory>
+    requires { length (flat_map (λ part. part) parts.now) ≤ most_transactions }
+    ensures { IfOk result (λ told. told ≡ flat_map tx_bytes (flat_map (λ part. part) parts.now)) }
+{
+    let mut told = Writer::new(alloc);
+    told.reserve(count_of(parts) * MOST_TX_BYTES)?;
+    for part in parts {
+        put_all(&mut told, part.items())?;
+    }
+    Ok(told)
+}
+
+// The same by so many threads, each of which encodes some of the parts.
+fn encoded_by<R: Threads + Sync>(
+    rt: &R,
+    alloc: Global,
+    threads: usize,
+    parts: &[TxList],
+) -> Result<Vec<Writer>, NoMemory>
+    requires { length (flat_map (λ part. part) parts.now) ≤ most_transactions }
+    ensures { IfOk result (λ told. flat_map (λ bytes. bytes) told.items
+        ≡ flat_map tx_bytes (flat_map (λ part. part) parts.now)) }
+{
+    if threads < 2 {
+        let mut told = Vec::with_capacity(alloc, 1)?;
+        told.push(encoded(alloc, parts)?)?;
+        return Ok(told);
+    }
+    let less = threads / 2;
+    let (front, back) = parts.split_at(parts.len() / 2);
+    let (some, others) = join(
+        rt,
+        || -> Result<Vec<Writer>, NoMemory>
+            requires { IsSync R.row × (length (flat_map (λ part. part) front.now) ≤ most_transactions) }
+            ensures { IfOk result (λ told. flat_map (λ bytes. bytes) told.items
+                ≡ flat_map tx_bytes (flat_map (λ part. part) front.entry.now)) }
+        { encoded_by(rt, alloc, less, front) },
+        || -> Result<Vec<Writer>, NoMemory>
+            requires { IsSync R.row × (1 ≤ less) × (less * 2 ≤ threads)
+                × (length (flat_map (λ part. part) back.now) ≤ most_transactions) }
+            ensures { IfOk result (λ told. flat_map (λ bytes. bytes) told.items
+                ≡ flat_map tx_bytes (flat_map (λ part. part) back.entry.now)) }
+        { encoded_by(rt, alloc, threads - less, back) },
+    );
+    let mut told = some?;
+    told.append(&mut others?)?;
+    Ok(told)
 }
 
 // How many bytes were written.
@@ -102,18 +133,23 @@ fn behind(alloc: Global, front: Writer, mut others: Vec<Writer>) -> Result<Piece
     Ok(Pieces::of(pieces))
 }
 
-// The record of candidates, in pieces.
+// The record of candidates, in pieces. As many as so many workers encode a long one.
 pub(crate) fn written<R: Threads + Sync>(
     rt: &R,
     alloc: Global,
     kept: &TxParts,
+    workers: u32,
 ) -> Result<Pieces, NoMemory>
     requires { length kept.now ≤ most_transactions }
     ensures { IfOk result (λ told. told ≡ item_record (item.candidates kept.now)) }
 {
     let parts = kept.parts();
-    let told = each_encoded(rt, alloc, parts)?;
+    let count = count_of(parts);
+    let threads = (count / WORTH_A_THREAD)
+        .min(workers as usize)
+        .min(MOST_THREADS);
+    let told = encoded_by(rt, alloc, threads, parts)?;
     let size = COUNT_BYTES + bytes_of(&told);
-    let front = front_of(alloc, size as u32, count_of(parts) as u32)?;
+    let front = front_of(alloc, size as u32, count as u32)?;
     behind(alloc, front, told)
 }

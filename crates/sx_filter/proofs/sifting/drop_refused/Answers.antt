@@ -2,8 +2,8 @@ use Rattle.std.proofs.Common.{rules, ◌≡◌, ◌<◌, true, false, length, ap
 use Rattle.std.specs.Prelude.{vec_len}
 use Rattle.std.proofs.lemmas.List.Filters.{FiltersInPlace-more_no, FiltersInPlace-more_set}
 use Rattle.sx_filter.specs.Kept.{passes}
-use Rattle.sx_filter.proofs.parting.drop_refused.Goals as goal
-use Rattle.sx_filter.proofs.parting.drop_refused.Goals.{in-Ok, in_default}
+use Rattle.sx_filter.proofs.sifting.drop_refused.Goals as goal
+use Rattle.sx_filter.proofs.sifting.drop_refused.Goals.{in-Ok, in_default}
 
 pub loop-place-preserved : goal.loop-place-preserved
 loop-place-preserved c =

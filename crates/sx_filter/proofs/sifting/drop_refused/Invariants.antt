@@ -2,7 +2,7 @@ use Rattle.std.proofs.Common.{◌≡◌, ◌≤◌}
 use Rattle.std.specs.Prelude.{vec_len}
 use Rattle.std.proofs.lemmas.List.Filters.{FiltersInPlace}
 use Rattle.sx_filter.specs.Kept.{passes}
-use Rattle.sx_filter.proofs.parting.drop_refused.Given as goal
+use Rattle.sx_filter.proofs.sifting.drop_refused.Given as goal
 
 abbrev pub invariant-loop-place : goal.invariant-loop-place
 invariant-loop-place l = record {
