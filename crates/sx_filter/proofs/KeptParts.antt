@@ -1,24 +1,23 @@
 -- What is found of classes of accounts, taken together.
-use Rattle.std.proofs.Common.{◌≡◌, ℕ, zero, suc, ◌+◌, ◌<◌, true, List, [], ◌∷◌, ◌++◌, Ok, Result, get_or, length, map}
+use Rattle.std.proofs.Common.{◌≡◌, ℕ, zero, suc, ◌+◌, ◌<◌, true, List, [], ◌∷◌, ◌++◌, get_or, length, map}
 use Rattle.std.proofs.Common.{refl, sym, ap, ap₂, subst, ◌∙◌, arith}
-use Rattle.std.specs.Prelude.{IfOk, not}
+use Rattle.std.specs.Prelude.{not}
 use Rattle.std.specs.List.{filter, flat_map}
 use Rattle.std.proofs.lemmas.Bool.{eqb-true}
 use Rattle.std.proofs.lemmas.Grind.{flat_map-append}
 use Rattle.std.proofs.lemmas.List.{get_or-map, length-map}
 use Rattle.std.proofs.lemmas.List.Elements.{filter-append, filter_map-append}
-use Rattle.std.proofs.lemmas.Result.{IfOk-at_ok}
 use Rattle.sx_filter.specs.Alone.{is_fit, is_new}
 use Rattle.sx_filter.specs.Kept.{kept_of, passes}
-use Rattle.sx_filter.specs.Ranges.{AreClasses, AreParted, IsPart, is_at, is_in, range_among}
-use Rattle.sx_filter.specs.Sifted.{AreSifted, AreSiftedBy, AreSiftedParts, IsJoined, IsSifted, TxVec, in_lists}
+use Rattle.sx_filter.specs.Ranges.{AreClasses, AreParted, IsPart, is_at}
+use Rattle.sx_filter.specs.Sifted.{AreSifted, AreSiftedParts, IsJoined, IsSifted, TxVec, in_lists}
 use Rattle.sx_filter.specs.declared.sifting.Sifted.{Sifted}
 use Rattle.sx_filter.proofs.Counts.{filter_twice, in_filter}
 use Rattle.sx_filter.proofs.KeptAlone.{alone_is_fit_and_new}
 use Rattle.sx_filter.proofs.Locals.{each_fit}
 use Rattle.sx_filter.proofs.NamedAgain.{never_created}
 use Rattle.sx_filter.proofs.Picking.{element}
-use Rattle.sx_filter.proofs.Parted.{among, filter_all, part_kept, parted_whole, ranges_are}
+use Rattle.sx_filter.proofs.Parted.{among, filter_all, part_kept, parted_whole}
 use Rattle.sx_layout.proofs.Totals.{In}
 use Rattle.sx_ledger.specs.declared.parts.Parts.{Parts}
 use Rattle.sx_ledger.specs.Body.{created, created_by}
@@ -36,32 +35,6 @@ created_whole (list ∷ lists) (one ∷ found) same each =
     ap₂ (λ (a b : List ℕ). a ++ b) (each 0 [] [] (omega arith))
     (created_whole lists found (omega (arith, same)) (λ k d e lt. each (suc k) d e (omega (arith, lt))))
     ∙ sym (filter_map-append (λ (tx : Tx). created_by tx.kind) list (flat_map (λ l. l) lists))
-
-module _ {X E : Type 0} (results : List (Result X E)) (found : List X) (are : results ≡ map Ok found)
-    (P : ℕ → X → Type 0)
-    (each : (i : ℕ) (d : Result X E) → i < length results → IfOk (get_or results i d) (P i)) where
-  as_many : length results ≡ length found
-  as_many = ap length are ∙ length-map found Ok
-
-  found_each : (i : ℕ) (d : X) → i < length found → P i (get_or found i d)
-  found_each i d lt =
-      let at : get_or results i (Ok d) ≡ Ok (get_or found i d) =
-      ap (λ rs. get_or rs i (Ok d)) are ∙ get_or-map Ok found i d (Ok d) lt in
-      IfOk-at_ok (P i) at (each i (Ok d) (omega (arith, lt, as_many)))
-
--- what threads found of each range
-pub sifted_found : {E : Type 0} (parts : Parts) (candidates : List Tx) (cuts : List ℕ)
-    (results : List (Result Sifted E)) (all : List Sifted) → results ≡ map Ok all → length results ≡ length cuts + 1
-    → ((i : ℕ) (d : Result Sifted E) → i < length results
-    → IfOk (get_or results i d) (IsSifted parts (filter (is_in cuts i) candidates)))
-    → AreSiftedBy parts candidates (range_among cuts) all
-sifted_found parts candidates cuts results all are long each =
-    let P : ℕ → Sifted → Type 0 = λ i one. IsSifted parts (filter (is_in cuts i) candidates) one in
-    let many = as_many results all are P each in
-    record {
-      classes = ranges_are cuts (length all) (omega (arith, many, long));
-      each = found_each results all are P each;
-    }
 
 -- ---- what is fit of classes, taken together
 

@@ -20,6 +20,8 @@ pub mod KeptParts
 pub mod Few
 pub mod WholeBodies
 pub mod Joined
-pub mod Selecting
+pub mod Classes
+pub mod Results
+pub mod ByRanges
 pub mod Pairs
 pub mod AdditionLaws

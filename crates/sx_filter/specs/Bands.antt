@@ -1,7 +1,7 @@
 -- Bands of accounts: the pieces of a range.
 use Rattle.std.specs.Prelude.{ℕ, ◌-◌, ◌/◌, ◌^◌, ◌<◌, ◌≤◌, min, List}
 use Rattle.std.specs.List.{filter}
-use Rattle.sx_filter.specs.Ranges.{is_at, is_in}
+use Rattle.sx_filter.specs.Ranges.{is_at}
 use Rattle.sx_filter.specs.declared.bands.Bands.{Bands}
 use Rattle.sx_tx.specs.declared.tx.Tx.{Tx}
 
@@ -14,7 +14,6 @@ pub record AreBands (bands : Bands) : Type 0 where
 abbrev pub band_among : Bands → ℕ → ℕ
 band_among bands account = min ((account - bands.low) / 2 ^ bands.shift) (bands.count - 1)
 
--- the candidates of a range in a band
-abbrev pub in_band : List ℕ → ℕ → Bands → ℕ → List Tx → List Tx
-in_band cuts range bands band candidates =
-    filter (is_at (band_among bands) band) (filter (is_in cuts range) candidates)
+-- the candidates in a band
+abbrev pub in_band : Bands → ℕ → List Tx → List Tx
+in_band bands band txs = filter (is_at (band_among bands) band) txs

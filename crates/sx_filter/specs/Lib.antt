@@ -10,3 +10,5 @@ pub mod Ranges
 pub mod Bands
 pub mod Sifted
 pub mod Additions
+pub mod ByRange
+pub mod Indexed

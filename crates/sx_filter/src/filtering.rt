@@ -1,6 +1,8 @@
 //! The candidates that a filter keeps.
 
-ghost use Rattle.std.specs.Prelude.{◌≡◌, ◌≤◌, length, IfOk, IfErr, Err};
+ghost use Rattle.std.specs.Prelude.{◌≡◌, ◌≤◌, List, length, IfOk, IfErr, OnOk, Ok, Err};
+ghost use Rattle.std.specs.Arc.{arc_value};
+ghost use Rattle.sx_filter.specs.ByRange.{IsPrepared};
 ghost use Rattle.sx_filter.specs.Fault.{fault_of as the_fault, IsFaultOf};
 ghost use Rattle.sx_filter.specs.Kept.{kept_of};
 ghost use Rattle.sx_filter.specs.Sifted.{AreSiftedParts};
@@ -8,17 +10,20 @@ ghost use Rattle.sx_layout.specs.declared.space.NoRoom.{NoRoom as WhyNoRoom};
 ghost use Rattle.sx_layout.specs.Room.{room_for};
 ghost use Rattle.sx_ledger.specs.Body.{IsAdmissible};
 ghost use Rattle.sx_ledger.specs.Ledger.{ids};
+ghost use Rattle.sx_tx.specs.declared.tx.Tx.{Tx as Transaction};
 ghost use Rattle.sx_tx.specs.Transactions.{most_transactions};
 
 use crate::counting::room_for_parts;
 use crate::fault::FilterFault;
+use crate::indexed::IndexedLedger;
 use crate::keeping::kept_in_parts;
-use crate::parting::parts_of;
+use crate::parting::sifted_ranges;
+use crate::preparing::{Prepared, prepared_of};
 use crate::sifting::Sifted;
 use std::alloc::Global;
 use std::thread::Threads;
 use sx_bytes::NoMemory;
-use sx_layout::room;
+use sx_layout::{room, room_for_additions};
 use sx_ledger::{Ledger, LedgerIndex};
 use sx_tx::{Tx, TxList, TxParts};
 
@@ -31,20 +36,46 @@ fn copy_of(alloc: Global, candidates: &[Tx]) -> Result<TxParts, NoMemory>
     Ok(TxParts::of(parts))
 }
 
-// Those that pass, sifted by ranges of accounts. The candidates go as soon as these are found.
-fn sifted_parts<R: Threads + Sync>(
+// Candidates by ranges of accounts, where there is room for them, which is told even where memory runs out.
+fn prepared_with_room<R: Threads + Sync>(
+    rt: &R,
+    alloc: Global,
+    ledger: &Ledger,
+    candidates: TxParts,
+    workers: u32,
+) -> Result<Prepared, FilterFault>
+    requires some_worker { 1 ≤ workers }
+    requires few { length candidates ≤ most_transactions }
+    ensures prepared { IfOk result (IsPrepared candidates) }
+    ensures has_room { OnOk result (room_for ledger.now candidates ≡ Ok tt) }
+    ensures no_room { (why : WhyNoRoom) → room_for ledger.now candidates ≡ Err why → result ≡ Err (the_fault why) }
+    ensures fault { IfErr result (IsFaultOf (room_for ledger.now candidates)) }
+{
+    match prepared_of(rt, alloc, ledger, &candidates, workers) {
+        Ok(prepared) => {
+            room_for_additions(ledger, prepared.more)?;
+            Ok(prepared)
+        }
+        Err(NoMemory) => {
+            room_for_parts(ledger, &candidates)?;
+            Err(FilterFault::NoMemory)
+        }
+    }
+}
+
+// Those that pass, sifted by ranges of accounts. What was prepared goes as soon as these are found.
+fn sifted<R: Threads + Sync>(
     rt: &R,
     alloc: Global,
     ledger: &Ledger,
     index: &LedgerIndex,
-    candidates: TxParts,
-    workers: u32,
+    prepared: Prepared,
 ) -> Result<Vec<Sifted>, NoMemory>
     requires index { index.now ≡ ids ledger.now.accounts }
-    requires few_candidates { length candidates ≤ most_transactions }
-    ensures { IfOk result (λ all. AreSiftedParts ledger.now candidates all.items) }
+    ensures { (candidates : List Transaction) → IsPrepared candidates prepared
+        → IfOk result (λ all. AreSiftedParts ledger.now candidates all.items) }
 {
-    parts_of(rt, alloc, ledger, index, &candidates, workers)
+    sifted_ranges(rt, alloc, ledger, index, &prepared.parts, &prepared.cuts)
 }
 
 // What is kept of candidates, whether or not there is room for them.
@@ -52,14 +83,14 @@ fn kept<R: Threads + Sync>(
     rt: &R,
     alloc: Global,
     ledger: &Ledger,
-    candidates: TxParts,
-    workers: u32,
+    index: &LedgerIndex,
+    prepared: Prepared,
 ) -> Result<TxParts, NoMemory>
-    requires few_candidates { length candidates ≤ most_transactions }
-    ensures { IfOk result (λ txs. txs ≡ kept_of ledger.now candidates) }
+    requires index { index.now ≡ ids ledger.now.accounts }
+    ensures { (candidates : List Transaction) → IsPrepared candidates prepared
+        → IfOk result (λ txs. txs ≡ kept_of ledger.now candidates) }
 {
-    let index = ledger.index()?;
-    let all = sifted_parts(rt, alloc, ledger, &index, candidates, workers)?;
+    let all = sifted(rt, alloc, ledger, index, prepared)?;
     kept_in_parts(rt, alloc, all)
 }
 
@@ -91,30 +122,33 @@ pub fn filter<R: Threads + Sync>(
     ensures fault { IfErr result (IsFaultOf (room_for ledger.now candidates.now)) }
 {
     room(ledger, candidates)?;
+    let index = ledger.index()?;
     let copy = copy_of(alloc, candidates)?;
-    let txs = kept(rt, alloc, ledger, copy, workers)?;
+    let prepared = prepared_of(rt, alloc, ledger, &copy, workers)?;
+    let txs = kept(rt, alloc, ledger, &index, prepared)?;
     Ok(txs.into_list(alloc)?)
 }
 
-/// The same of candidates in parts, which the caller needs no more. No copy is made of them, and their memory serves
-/// again as soon as threads have selected those of their ranges. What is kept comes in parts too, many short ones, each
-/// of some accounts. Some may be empty.
+/// The same of candidates in parts, which the caller needs no more, and of a ledger whose index a thread may still be
+/// making. No copy is made of the candidates, and their memory serves again as soon as they stand by ranges. What is kept
+/// comes in parts too, many short ones, each of some accounts. Some may be empty.
 pub fn filter_list<R: Threads + Sync>(
     rt: &R,
     alloc: Global,
-    ledger: &Ledger,
+    ledger: IndexedLedger,
     candidates: TxParts,
     workers: u32,
 ) -> Result<TxParts, FilterFault>
     requires few_candidates { length candidates ≤ most_transactions }
     requires some_worker { 1 ≤ workers }
     requires few_workers { workers ≤ 64 }
-    ensures kept { IfOk result (λ txs. txs ≡ kept_of ledger.now candidates) }
-    ensures admissible { IfOk result (λ txs. IsAdmissible ledger.now txs) }
+    ensures kept { IfOk result (λ txs. txs ≡ kept_of ledger candidates) }
+    ensures admissible { IfOk result (λ txs. IsAdmissible ledger txs) }
     ensures few { IfOk result (λ txs. length txs ≤ length candidates) }
-    ensures no_room { (why : WhyNoRoom) → room_for ledger.now candidates ≡ Err why → result ≡ Err (the_fault why) }
-    ensures fault { IfErr result (IsFaultOf (room_for ledger.now candidates)) }
+    ensures no_room { (why : WhyNoRoom) → room_for ledger candidates ≡ Err why → result ≡ Err (the_fault why) }
+    ensures fault { IfErr result (IsFaultOf (room_for ledger candidates)) }
 {
-    room_for_parts(rt, ledger, &candidates, workers)?;
-    Ok(kept(rt, alloc, ledger, candidates, workers)?)
+    let prepared = prepared_with_room(rt, alloc, ledger.ledger(), candidates, workers)?;
+    let (ledger, index) = ledger.whole(rt)?;
+    Ok(kept(rt, alloc, &ledger, &index, prepared)?)
 }

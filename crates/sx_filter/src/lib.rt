@@ -17,31 +17,31 @@
 //! candidates that fall out for another reason. `specs/Kept` says so over plain lists, and the answer is exactly that,
 //! sorted by account and then by number.
 //!
-//! [`filter_list`] does the same of candidates in parts that the caller needs no more, as threads decode them, and
-//! answers what is kept in parts too: one list, in the parts that threads found.
+//! [`filter_list`] does the same of candidates in parts that the caller needs no more, as threads decode them, and of an
+//! [`IndexedLedger`], of which a thread makes the index while the caller reads the candidates. It answers what is kept in
+//! parts too: one list, in the parts that threads found.
 //!
 //! So the answer is a function of the ledger and the candidates: it is the same for every number of
 //! workers. [`filter_laws`] says that the order of the candidates is of no account, that what is kept is
 //! the body of a block by the rule of version 1, and that a gathering of what is kept accepts all of it.
 //!
-//! Cost: first it is seen whether there is room. For `filter_list`, where there are several parts and workers, threads
-//! count what candidates would add, each in some of the parts. Where there is no room, nothing more is done.
+//! Cost: the ids of accounts are cut into ranges, one for each worker and at most eight, where there are enough
+//! candidates. Each thread goes over some of the parts once. It copies each candidate into the list of its range, and
+//! counts what the candidates would add. Where there is no room for that, nothing more is done.
 //!
-//! Then the ids of accounts are cut into ranges, one for each worker and at most eight, where there are enough
-//! candidates. A thread for each range selects its candidates out of all of them. It puts them into lists by bands of
-//! accounts, each so short that the cache of a processor holds it, and sees to one band after the other: it sorts the
-//! candidates and puts each to the ledger's test, with next to no search for an account. Then two of one number are
-//! neighbours, and the candidates of an account are a run, of which the debits are summed up with one search for the
-//! account. The offers that candidates of a band cancel are sorted too, by account first, so that each is found near the
-//! one before it, and they cost nothing where there are none. By these the thread leaves those that no other of the band
-//! stands in the way of.
+//! Then a thread sees to each range. It puts the candidates into lists by bands of accounts, each so short that the cache
+//! of a processor holds it, and sees to one band after the other: it sorts the candidates and puts each to the ledger's
+//! test, with next to no search for an account. Then two of one number are neighbours, and the candidates of an account
+//! are a run, of which the debits are summed up with one search for the account. The offers that candidates of a band
+//! cancel are sorted too, by account first, so that each is found near the one before it, and they cost nothing where
+//! there are none. By these the thread leaves those that no other of the band stands in the way of.
 //!
 //! Candidates of two bands share nothing but the accounts that they create. The ids of these are sorted, and where
 //! there are any, as many threads as there are ranges go over what is left.
 //!
-//! Beside the list of candidates no memory is taken but the lists of those of each band, in which what is kept stays,
-//! and one answer of yes or no for each that passes, of one band at a time in each thread. `filter` takes memory for a
-//! copy of its candidates too, and for one list of what is kept.
+//! Memory is taken for the candidates by ranges, then for those by bands, in which what is kept stays, and for one answer
+//! of yes or no for each that passes, of one band at a time in each thread. As soon as all candidates are copied, those
+//! that they were copied from go. `filter` takes memory for a copy of its candidates too, and for one list of what is kept.
 //!
 //! Not here: what is kept is not the most that could be kept, since of two that exclude each other neither is.
 //! Nothing says that workers run at the same time.
@@ -52,17 +52,21 @@
 #![tactic(auto)]
 
 mod bands;
+mod by_range;
 mod cancellation;
 mod counting;
 mod fault;
 mod filtering;
 mod fits;
 mod fitting;
+mod indexed;
 mod keeping;
 mod kinds;
 mod laws;
+mod lists;
 mod named;
 mod parting;
+mod preparing;
 mod ranges;
 mod runs;
 mod seen;
@@ -70,4 +74,5 @@ mod sifting;
 
 pub use fault::FilterFault;
 pub use filtering::{filter, filter_list};
+pub use indexed::{IndexOf, IndexedLedger};
 pub use laws::filter_laws;

@@ -1,6 +1,6 @@
 //! Ranges of accounts, so that each thread has the candidates of a range to itself.
 
-ghost use Rattle.std.specs.Prelude.{◌≡◌, ◌<◌, ◌≤◌, IfOk, length};
+ghost use Rattle.std.specs.Prelude.{◌≡◌, ◌+◌, ◌<◌, ◌≤◌, length};
 ghost use Rattle.sx_filter.specs.Ranges.{range_among};
 
 use std::alloc::Global;
@@ -44,7 +44,8 @@ pub(crate) fn cuts_of(
 
 // In which range an account lies: how many of the cuts are not above it.
 pub(crate) fn range_of(cuts: &[u64], account: u64) -> usize
-    ensures { result ≡ range_among cuts.now account }
+    ensures within { result < length cuts.now + 1 }
+    ensures is { result ≡ range_among cuts.now account }
 {
     let mut range = 0;
     for cut in cuts {

@@ -14,7 +14,7 @@ use std::alloc::Global;
 use std::thread::Threads;
 use sx_base::Source;
 use sx_check::Invalid;
-use sx_filter::{FilterFault, filter_list};
+use sx_filter::{FilterFault, IndexedLedger, filter_list};
 use sx_input::{Stop, end, take};
 use sx_ledger::Ledger;
 use sx_tx::TxParts;
@@ -41,14 +41,14 @@ fn stop_of(fault: FilterFault) -> Stop
 fn kept<R: Threads + Sync>(
     rt: &R,
     alloc: Global,
-    ledger: &Ledger,
+    ledger: IndexedLedger,
     candidates: TxParts,
     workers: u32,
 ) -> Result<Pieces, Stop>
     requires candidates { IsTxList candidates }
     requires some_worker { 1 ≤ workers }
     requires few_workers { workers ≤ 64 }
-    ensures concludes { ConcludesAs (Command.Filter workers) (item.state ledger.now ∷ item.candidates candidates ∷ []) result }
+    ensures concludes { ConcludesAs (Command.Filter workers) (item.state ledger ∷ item.candidates candidates ∷ []) result }
     ensures calm { IsErrOf result Stop.ReadFault → ⊥ }
 {
     match filter_list(rt, alloc, ledger, candidates, workers) {
@@ -71,7 +71,8 @@ pub fn filter<R: Threads + Sync, S: Source>(
     ensures read_fault { IsErrOf result Stop.ReadFault → Rose (S.faults source.old) (S.faults source.new) }
 {
     let opening = take::<Ledger, R, S>(rt, alloc, source, 0)?;
+    let ledger = IndexedLedger::start(rt, alloc, opening.held)?;
     let candidates = take::<TxParts, R, S>(rt, alloc, source, opening.end)?;
     end(alloc, source, candidates.end)?;
-    kept(rt, alloc, &opening.held, candidates.held, workers)
+    kept(rt, alloc, ledger, candidates.held, workers)
 }

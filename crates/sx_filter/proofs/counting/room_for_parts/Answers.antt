@@ -4,19 +4,19 @@ use Rattle.sx_filter.proofs.Joined.{all}
 use Rattle.sx_filter.proofs.counting.room_for_parts.Goals as goal
 
 pub room_for_additions-requires-clause-accounts : goal.room_for_additions-requires-clause-accounts
-room_for_additions-requires-clause-accounts g c =
+room_for_additions-requires-clause-accounts c =
     omega (
       arith,
-      few_accounts (all c.parts-parts.result.now) c.added_by.result c.added_by.ensures,
-      ap length c.parts-parts.ensures,
+      few_accounts (all c.parts.result.now) c.added_in_turn.result c.added_in_turn.ensures,
+      ap length c.parts.ensures,
       c.requires.few,
     )
 
 pub room_for_additions-requires-clause-offers : goal.room_for_additions-requires-clause-offers
-room_for_additions-requires-clause-offers g c =
+room_for_additions-requires-clause-offers c =
     omega (
       arith,
-      few_offers (all c.parts-parts.result.now) c.added_by.result c.added_by.ensures,
-      ap length c.parts-parts.ensures,
+      few_offers (all c.parts.result.now) c.added_in_turn.result c.added_in_turn.ensures,
+      ap length c.parts.ensures,
       c.requires.few,
     )

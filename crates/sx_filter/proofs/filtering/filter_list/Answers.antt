@@ -11,11 +11,11 @@ returns-clause-kept g c = search rules
 
 pub returns-clause-admissible : goal.returns-clause-admissible
 returns-clause-admissible g c =
-    let parts = c.args.ledger.now in
+    let parts = c.args.ledger in
     let space : room_for parts c.args.candidates ≡ Ok tt = search rules in
     subst (IsAdmissible parts) (sym (returns-clause-kept g c)) (kept_is_admissible parts c.args.candidates space)
 
 pub returns-clause-few : goal.returns-clause-few
 returns-clause-few g c =
     subst (λ (txs : List Tx). length txs ≤ length c.args.candidates) (sym (returns-clause-kept g c))
-    (kept_is_few c.args.ledger.now c.args.candidates)
+    (kept_is_few c.args.ledger c.args.candidates)

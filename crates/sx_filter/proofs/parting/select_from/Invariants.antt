@@ -7,5 +7,5 @@ abbrev pub invariant-loop-tx : goal.invariant-loop-tx
 invariant-loop-tx l = record {
   one_each : length l.lists ≡ l.bands.count;
   each : (band : ℕ) (d : TxVec) → band < l.bands.count → (get_or l.lists band d).items
-      ≡ (get_or l.fn.lists band d).items ++ in_band l.cuts l.range l.bands band (take l.tx-index l.list);
+      ≡ (get_or l.fn.lists band d).items ++ in_band l.bands band (take l.tx-index l.list);
 }

@@ -1,8 +1,10 @@
-use Rattle.std.proofs.Common.{[], ◌∷◌, refl}
+use Rattle.std.proofs.Common.{[], ◌∷◌, refl, subst}
 use Rattle.std.proofs.lemmas.Result.{err_from_is_err_and}
+use Rattle.sx_input.specs.Found.{ConcludesAs}
 use Rattle.sx_input.proofs.Readings.{concludes, from_zero, has_state, one_more, stops}
 use Rattle.sx_meaning.specs.Items.{candidates, state}
 use Rattle.sx_meaning.proofs.ItemLists.{needed_listed}
+use Rattle.sx_ledger.specs.declared.parts.Parts.{Parts}
 use Rattle.sx_record.specs.Tags.{candidates_tag}
 use Rattle.sx_words.specs.declared.command.Command.TheVariants.{Filter}
 use Rattle.sx_seal.proofs.filtering.filter.Goals as goal
@@ -42,4 +44,6 @@ returns-clause-found g c =
     (record { listed = needed_listed candidates_tag; form = c.in_ok-candidates.ensures.form; goes_on = tt })
     c.in_ok-candidates.ensures.took c.in_ok-candidates.ensures.end in
     concludes words (state opening.held ∷ candidates txs.held ∷ []) txs.end _ _ _ c.kept.result both
-    c.in_ok-end.ensures.ended refl c.kept.ensures.concludes
+    c.in_ok-end.ensures.ended refl
+    (subst (λ (parts : Parts). ConcludesAs words (state parts ∷ candidates txs.held ∷ []) c.kept.result)
+    c.in_ok-ledger.ensures c.kept.ensures.concludes)

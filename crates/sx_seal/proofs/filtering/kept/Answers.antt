@@ -7,7 +7,7 @@ use Rattle.sx_tx.specs.declared.tx.Tx.{Tx}
 
 pub returns-in_ok-written-in-Ok-clause-concludes : goal.returns-in_ok-written-in-Ok-clause-concludes
 returns-in_ok-written-in-Ok-clause-concludes g c =
-    let parts = c.args.ledger.now in (
+    let parts = c.args.ledger in (
       record {
         parts = parts;
         txs = c.args.candidates;
@@ -20,5 +20,5 @@ returns-in_ok-written-in-Ok-clause-concludes g c =
 
 pub returns-in-Err-clause-concludes : goal.returns-in-Err-clause-concludes
 returns-in-Err-clause-concludes g c =
-    stopped c.args.workers c.args.ledger.now c.args.candidates c.in-Err.fault c.stop_of.result c.in-Err.ensures.fault
+    stopped c.args.workers c.args.ledger c.args.candidates c.in-Err.fault c.stop_of.result c.in-Err.ensures.fault
     c.stop_of.ensures

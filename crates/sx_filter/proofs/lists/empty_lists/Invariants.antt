@@ -1,6 +1,6 @@
 use Rattle.std.proofs.Common.{◌≡◌, ℕ, ◌<◌, [], get_or, length}
 use Rattle.sx_filter.specs.Sifted.{TxVec}
-use Rattle.sx_filter.proofs.parting.empty_lists.Given as goal
+use Rattle.sx_filter.proofs.lists.empty_lists.Given as goal
 
 abbrev pub invariant-loop : goal.invariant-loop
 invariant-loop l = record {

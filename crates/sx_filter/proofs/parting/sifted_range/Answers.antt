@@ -1,20 +1,20 @@
 use Rattle.std.proofs.Common.{◌≡◌, ◌<◌, List, arith, get_or, length, subst}
 use Rattle.std.specs.Prelude.{vec_len}
-use Rattle.std.specs.List.{filter as those}
 use Rattle.std.proofs.lemmas.Result.{IfOk-weaker}
 use Rattle.sx_filter.specs.Bands.{band_among}
-use Rattle.sx_filter.specs.Ranges.{AreClasses, is_in}
+use Rattle.sx_filter.specs.ByRange.{pieces}
+use Rattle.sx_filter.specs.Ranges.{AreClasses}
 use Rattle.sx_filter.specs.Sifted.{AreSiftedParts, IsJoined, IsSifted}
 use Rattle.sx_filter.proofs.BandLaws.{bands_are}
 use Rattle.sx_filter.proofs.KeptParts.{sifted_joined}
 use Rattle.sx_filter.proofs.Picking.{element}
-use Rattle.sx_filter.proofs.parting.part_of.Goals as goal
+use Rattle.sx_filter.proofs.parting.sifted_range.Goals as goal
 use Rattle.sx_tx.specs.declared.tx.Tx.{Tx}
 
 pub returns : goal.returns
 returns c =
     let parts = c.args.ledger.now in
-    let chosen = those (is_in c.args.cuts.now c.args.range) c.args.candidates.now in
+    let chosen = pieces c.args.range c.args.parts.now in
     let bands = c.bands_of-bands.result in
     let lists = c.in_ok-lists.lists in
     let all = c.in_ok-each_sifted.field-0 in

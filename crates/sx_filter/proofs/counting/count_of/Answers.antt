@@ -1,6 +1,6 @@
 use Rattle.std.proofs.Common.{length, ap, arith}
 use Rattle.sx_filter.proofs.Joined.{no_longer}
-use Rattle.sx_filter.proofs.parting.count_of.Goals as goal
+use Rattle.sx_filter.proofs.counting.count_of.Goals as goal
 
 pub overflow_add-count : goal.overflow_add-count
 overflow_add-count c =
