@@ -156,14 +156,15 @@ fn conclude<K: Sink>(sink: &mut K, found: Result<Output, Stop>) -> Status
 /// `seal`, `filter`, `prove` and `demo` return where their worker threads return, and `show` where those do, at most
 /// four, that write the lines of many accounts, offers or transactions. At most four threads encode a state with many
 /// accounts or offers for `migrate`, which returns where these return. `follow` has at most four threads make the
-/// digests of transactions and of ledgers and apply blocks, and returns where these return. At most four threads share
-/// the reading of a state with many offers and of many candidates, and a call returns where these return. For `check`,
-/// `replay` and `seal` a thread makes the digest of a state whose payload has 1 MiB or more while what follows is read,
-/// and the call waits for it where it needs the digest; a call that stops before leaves the thread to end by itself. A
-/// block whose transactions take 256 KiB or more is decoded while a thread of its own makes their digest, and the call
-/// returns where that thread returns. Where no thread can be started, the two are done in turn. What a block with many
-/// transactions names is looked up by threads, and a block that meets many accounts or fills is applied by threads, at
-/// most four for `check`; the call returns where these return.
+/// digests of transactions and of ledgers and apply blocks, and returns where these return. At most four threads
+/// share the reading of a state with many offers and of many candidates, and a call returns where these return. For
+/// `check`, `replay` and `seal` a thread makes the digest of a state whose payload has 1 MiB or more while what
+/// follows is read, and for `filter` one makes the index of a state with 4,096 accounts or more. The call waits for
+/// the thread where it needs the digest or the index; a call that stops before leaves the thread to end by itself. A
+/// block whose transactions take 256 KiB or more is decoded while a thread of its own makes their digest, and the
+/// call returns where that thread returns. Where no thread can be started, the two are done in turn. What a block
+/// with many transactions names is looked up by threads, and a block that meets many accounts or fills is applied by
+/// threads, at most four for `check`; the call returns where these return.
 pub fn run<R: Threads + Sync, S: Source, K: Sink, G: Gate + Sync, L: Ledger>(
     rt: &R,
     alloc: Global,
