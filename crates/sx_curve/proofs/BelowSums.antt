@@ -16,6 +16,7 @@ use Rattle.sx_curve.specs.declared.quote.Quote.{Quote}
 use Rattle.sx_curve.specs.declared.sums.Sums.{Sums}
 use Rattle.sx_curve.specs.Curves.{AreInOrder, ArePoints, AreQuotes, AreSumsAt, DoPairsFit, HasLimit, IsAmong}
 use Rattle.sx_curve.specs.Curves.{IsPairRange, IsPoint, ReachesTo, is_point_below, place_of_pair, place_of_quote}
+use Rattle.sx_curve.specs.Listed.{no_point}
 use Rattle.sx_curve.specs.Quotes.{amounts, is_below, pair_of, quotes_below, sellers_of, weighted_amounts}
 use Rattle.sx_curve.proofs.ListSums.{masked, sum_by-bounded, sum_by-filter, sum_by-filter-permuted}
 use Rattle.sx_curve.proofs.ListSums.{sum_by-filter_twice, sum_by-zero}
@@ -24,15 +25,12 @@ use Rattle.sx_curve.proofs.Segments.{front}
 abbrev pub is_of : ℕ → ℕ → Quote → Bool
 is_of sell buy quote = (quote.sell == sell) && (quote.buy == buy)
 
-no_quote : Quote
+pub no_quote : Quote
 no_quote = record { sell = 0; buy = 0; limit = 0; amount = 0 }
-
-no_point : Point
-no_point = record { limit = 0; amount = 0; weighted = 0 }
 
 -- ---- which quotes are of a pair
 
-same_place : (sell buy sell' buy' : ℕ) → buy < 32 → buy' < 32 → place_of_pair sell buy ≡ place_of_pair sell' buy'
+pub same_place : (sell buy sell' buy' : ℕ) → buy < 32 → buy' < 32 → place_of_pair sell buy ≡ place_of_pair sell' buy'
     → (sell ≡ sell') × (buy ≡ buy')
 same_place sell buy sell' buy' small small' same = (omega arith, omega arith)
 

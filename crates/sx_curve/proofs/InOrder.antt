@@ -1,16 +1,17 @@
 -- Quotes that a sort leaves are in order, and so are their pairs. Limits in order part at a quotient.
-use Rattle.std.proofs.Common.{◌≡◌, ℕ, zero, suc, ◌+◌, ◌-◌, ◌<◌, ◌≤◌, false, List, length, get_or, inl, inr, refl, sym}
-use Rattle.std.proofs.Common.{subst, arith}
+use Rattle.std.proofs.Common.{◌≡◌, ℕ, zero, suc, ◌+◌, ◌-◌, ◌<◌, ◌≤◌, false, List, [], ◌∷◌, ◌++◌, length}
+use Rattle.std.proofs.Common.{get_or, take, All, inl, inr, refl, sym, subst, arith}
 use Rattle.std.specs.List.Sorted.{IsNonDecreasingBy, IsPartitionedBy, IsSorted}
 use Rattle.std.specs.declared.cmp.Ordering.{Ordering}
 use Rattle.std.specs.declared.cmp.Ordering.TheVariants.{Less, Equal}
 use Rattle.std.specs.Ordering.{is_lt, nat_cmp, ordering_then}
-use Rattle.std.proofs.lemmas.Bool.{cases_order, eq-eqb, le-leb, le-ltb, leb-true, lt-ltb}
+use Rattle.std.proofs.lemmas.Bool.{cases_lt, cases_order, eq-eqb, le-leb, le-ltb, leb-true, lt-ltb}
+use Rattle.std.proofs.lemmas.List.{get_or-take, get_or_append_left, get_or_push, length-take-le, length_push}
 use Rattle.std.proofs.Math.Nat.{mul-le-mul_right}
 use Rattle.sx_curve.specs.contracts.quote.QuoteOrd.TheImpl as derived
 use Rattle.sx_curve.specs.declared.points.Point.{Point}
 use Rattle.sx_curve.specs.declared.quote.Quote.{Quote}
-use Rattle.sx_curve.specs.Curves.{AreInOrder, AreQuotes, IsUpTo, is_point_below, place_of_quote}
+use Rattle.sx_curve.specs.Curves.{AreInOrder, IsUpTo, is_point_below, place_of_quote}
 
 -- ---- two quotes
 
@@ -88,16 +89,62 @@ in_order_from_sort quotes sorted =
     in_order_from_rise quotes
     (λ k d lt. up_to_from (get_or quotes k d) (get_or quotes (k + 1) d) (sorted k d (omega arith) (omega arith)))
 
-pub places_rise : (assets : ℕ) (quotes : List Quote) → AreQuotes assets quotes → AreInOrder quotes
+pub in_order_front : (quotes : List Quote) (count : ℕ) → count ≤ length quotes → AreInOrder quotes
+    → AreInOrder (take count quotes)
+in_order_front quotes count within in_order i j d le lt =
+    let long = length-take-le count quotes within in
+    rw (get_or-take count quotes i d (omega arith), get_or-take count quotes j d (omega arith))
+    (in_order i j d le (omega arith))
+
+pub places_rise : (quotes : List Quote) → All (λ quote. quote.buy < 32) quotes → AreInOrder quotes
     → IsNonDecreasingBy place_of_quote quotes
-places_rise assets quotes market in_order i j d le lt =
+places_rise quotes buys in_order i j d le lt =
     let up = in_order i j d le lt in
-    let here = market.among i d (omega arith) in
-    let small : (get_or quotes i d).buy < 32 = omega (arith, here.buy, market.few) in
+    let small = buys i d (omega arith) in
     elim (cases_order (get_or quotes i d).sell (get_or quotes j d).sell) [
       | inl same ↦ omega (arith, up.buy same)
       | inr apart ↦ omega (arith, up.sell)
     ]
+
+-- ---- a quote behind others
+
+-- a quote of a later pair may stand after one
+pub up_to_later : (one next : Quote) → next.buy < 32 → place_of_quote one < place_of_quote next → IsUpTo one next
+up_to_later one next small later = record {
+  sell = omega arith;
+  buy = λ e. omega arith;
+  limit = λ e f. absurd (omega arith);
+}
+
+pub in_order_push : (quotes : List Quote) (next : Quote) → AreInOrder quotes
+    → ((d : Quote) → 0 < length quotes → IsUpTo (get_or quotes (length quotes - 1) d) next)
+    → AreInOrder (quotes ++ next ∷ [])
+in_order_push quotes next in_order up =
+    in_order_from_rise (quotes ++ next ∷ [])
+    (λ k d lt.
+    let long = length_push quotes next in
+    elim (cases_lt (k + 1) (length quotes)) [
+      | inl inside ↦ rw (
+        get_or_append_left quotes (next ∷ []) d k (omega arith),
+        get_or_append_left quotes (next ∷ []) d (k + 1) inside,
+      )
+          (in_order k (k + 1) d (omega arith) inside)
+      | inr last ↦
+          let place : length quotes - 1 ≡ k = omega arith in
+          rw (get_or_append_left quotes (next ∷ []) d k (omega arith), get_or_push quotes next d (k + 1) (omega arith))
+          (subst (λ (i : ℕ). IsUpTo (get_or quotes i d) next) place (up d (omega arith)))
+    ])
+
+pub last_up : (quotes : List Quote) (next : Quote) → AreInOrder (quotes ++ next ∷ []) → (d : Quote)
+    → 0 < length quotes
+    → IsUpTo (get_or quotes (length quotes - 1) d) next
+last_up quotes next in_order d some =
+    let long = length_push quotes next in
+    let up = in_order (length quotes - 1) (length quotes) d (omega arith) (omega arith) in
+    rw (
+      get_or_append_left quotes (next ∷ []) d (length quotes - 1) (omega arith),
+      get_or_push quotes next d (length quotes) (omega arith),
+    ) at up
 
 pub limits_part : (pair : List Point) (num den : ℕ) → IsNonDecreasingBy (λ point. point.limit) pair
     → IsPartitionedBy (is_point_below num den) pair

@@ -9,3 +9,5 @@ pub mod Segments
 pub mod BelowSums
 pub mod PointSums
 pub mod Kept
+pub mod Listing
+pub mod Building

@@ -1,27 +1,17 @@
--- The points of the first quotes, as far as a pass over them has come.
-use Rattle.std.proofs.Common.{◌≡◌, ℕ, ◌+◌, ◌-◌, ◌*◌, ◌^◌, ◌<◌, ◌≤◌, List, [], ◌∷◌, ◌++◌, length, get_or, take, All}
-use Rattle.std.proofs.Common.{true, sum_by, inl, inr, refl, sym, ap, subst, ◌∙◌, arith}
-use Rattle.std.specs.List.{AllWithin}
+-- The points of quotes, and one point more.
+use Rattle.std.proofs.Common.{◌≡◌, ℕ, ◌+◌, ◌-◌, ◌*◌, ◌^◌, ◌<◌, ◌≤◌, List, [], ◌∷◌, ◌++◌, length, get_or, take, true}
+use Rattle.std.proofs.Common.{sum_by, inl, inr, refl, sym, ap, ◌∙◌, arith}
 use Rattle.std.specs.List.Sorted.{IsNonDecreasingBy}
 use Rattle.std.proofs.lemmas.Bool.{and_from, cases_lt, eq-eqb}
 use Rattle.std.proofs.lemmas.List.{get_or-take, get_or_append_left, get_or_push, get_or_read, length-take-le}
-use Rattle.std.proofs.lemmas.List.{length_push, take_all}
-use Rattle.std.proofs.lemmas.List.Elements.{All-filter, All-more}
+use Rattle.std.proofs.lemmas.List.{length_push, take-append-le, take_all}
 use Rattle.std.proofs.lemmas.List.Sums.{sum_by-take-le, sum_by_more}
 use Rattle.sx_curve.specs.declared.points.Point.{Point}
 use Rattle.sx_curve.specs.declared.quote.Quote.{Quote}
-use Rattle.sx_curve.specs.declared.sums.Sums.{Sums}
-use Rattle.sx_curve.specs.Curves.{ArePoints, DoPairsFit, HasLimit, IsPoint, place_of_pair, place_of_quote}
+use Rattle.sx_curve.specs.Curves.{ArePoints, DoPairsFit, IsPoint, place_of_pair, place_of_quote}
 use Rattle.sx_curve.specs.Quotes.{amounts, pair_of, weighted_amounts}
-use Rattle.sx_curve.proofs.BelowSums.{is_of, masked_no, masked_yes, of_other, weight_fits}
+use Rattle.sx_curve.proofs.BelowSums.{is_of, masked_no, masked_yes, of_other}
 use Rattle.sx_curve.proofs.ListSums.{masked, sum_by-filter, sum_by-zero}
-
--- these are the sums of the quotes of a pair among the first ones
-pub record AreSumsAmong (quotes : List Quote) (count sell buy : ℕ) (sums : Sums) : Type 0 where
-  pub amount : sums.amount ≡ amounts (pair_of sell buy (take count quotes))
-  pub weighted : sums.weighted ≡ weighted_amounts (pair_of sell buy (take count quotes))
-
--- ---- the sums before a quote
 
 -- where the last of the first quotes is of an earlier pair, so are all others
 module _ (quotes : List Quote) (count sell buy : ℕ) (some : 0 < count) (within : count ≤ length quotes) (last : Quote)
@@ -41,26 +31,10 @@ module _ (quotes : List Quote) (count sell buy : ℕ) (some : 0 < count) (within
       rw at
       (masked_no (is_of sell buy) f (get_or quotes k d) (of_other sell buy (get_or quotes k d) (λ e. omega arith)))))
 
--- no quote before this one is of a later pair
-pub none_later : (quotes : List Quote) (count : ℕ) (quote : Quote) → count < length quotes
-    → quote ≡ get_or quotes count quote → IsNonDecreasingBy place_of_quote quotes
-    → AllWithin (λ other. place_of_quote other ≤ place_of_pair quote.sell quote.buy) quotes 0 count
-none_later quotes count quote lt is rise k d low high =
-    let read : quote ≡ get_or quotes count d = get_or_read quotes count quote lt is d in
-    let place : place_of_quote quote ≡ place_of_quote (get_or quotes count d) = ap place_of_quote read in
-    omega (arith, place, rise k count d (omega arith) lt)
-
--- ---- one point more
-
--- the points of the first quotes, and the ranges seen so far
-pub record AreFirstPoints (quotes : List Quote) (points : List Point) (count : ℕ) : Type 0 where
-  pub of_quotes : ArePoints quotes points count
-  pub limits : All HasLimit (take count quotes)
-
+-- what the quotes of a pair have in all grows by what the next one of it has
 module _ (quotes : List Quote) (count : ℕ) (quote : Quote) (lt : count < length quotes)
-    (is : quote ≡ get_or quotes count quote) (before : Sums)
-    (among : AreSumsAmong quotes count quote.sell quote.buy before) where
-  sum_more : (f : Quote → ℕ)
+    (is : quote ≡ get_or quotes count quote) where
+  pub sum_more : (f : Quote → ℕ)
       → sum_by f (pair_of quote.sell quote.buy (take (count + 1) quotes))
       ≡ sum_by f (pair_of quote.sell quote.buy (take count quotes)) + f quote
   sum_more f =
@@ -76,63 +50,80 @@ module _ (quotes : List Quote) (count : ℕ) (quote : Quote) (lt : count < lengt
         sum_by_more (masked test f) quotes count quote lt,
       )
 
-  pub amount_fits : DoPairsFit quotes → before.amount + quote.amount ≤ 2 ^ 62
-  amount_fits fit =
-      let units = λ (q : Quote). q.amount in
-      let test = is_of quote.sell quote.buy in
-      omega (
-        arith,
-        among.amount,
-        sum_more units,
-        sum_by-filter units test (take (count + 1) quotes),
-        sum_by-filter units test quotes,
-        sum_by-take-le (masked test units) quotes (count + 1),
-        fit quote.sell quote.buy,
-      )
+-- the quotes of its pair before a quote, and it, are no more than what a pair may have
+pub fits_more : (quotes : List Quote) (count : ℕ) (quote : Quote) → count < length quotes
+    → quote ≡ get_or quotes count quote → DoPairsFit quotes
+    → amounts (pair_of quote.sell quote.buy (take count quotes)) + quote.amount ≤ 2 ^ 62
+fits_more quotes count quote lt is fit =
+    let units = λ (q : Quote). q.amount in
+    let test = is_of quote.sell quote.buy in
+    omega (
+      arith,
+      sum_more quotes count quote lt is units,
+      sum_by-filter units test (take (count + 1) quotes),
+      sum_by-filter units test quotes,
+      sum_by-take-le (masked test units) quotes (count + 1),
+      fit quote.sell quote.buy,
+    )
 
-  pub weight_so_far : (points : List Point) → AreFirstPoints quotes points count
-      → before.weighted ≤ 2 ^ 56 * before.amount
-  weight_so_far points so_far =
-      omega (
-        arith,
-        among.amount,
-        among.weighted,
-        weight_fits (pair_of quote.sell quote.buy (take count quotes))
-            (All-filter (is_of quote.sell quote.buy) HasLimit (take count quotes) so_far.limits),
-      )
+-- ---- one quote more
 
-  module _ (next : Point) (limit : next.limit ≡ quote.limit) (amount : next.amount ≡ before.amount + quote.amount)
-      (weighted : next.weighted ≡ before.weighted + quote.amount * quote.limit) where
-    next_is : IsPoint quotes count quote next
-    next_is = record {
-      limit = limit;
-      amount = omega (arith, amount, among.amount, sum_more (λ q. q.amount));
-      weighted = omega (arith, weighted, among.weighted, sum_more (λ q. q.amount * q.limit));
-    }
+module _ (quotes : List Quote) (next : Quote) where
+  abbrev more : List Quote
+  more = quotes ++ next ∷ []
 
-    pub points_more : (points after : List Point) → AreFirstPoints quotes points count → HasLimit quote
-        → after ≡ points ++ next ∷ []
-        → AreFirstPoints quotes after (count + 1)
-    points_more points after so_far in_range pushed =
-        let full = so_far.of_quotes.full in
-        record {
-          of_quotes = record {
-            full = rw pushed (omega (arith, length_push points next));
-            each = λ k d e low.
-                elim (cases_lt k count) [
-                  | inl old ↦ rw (pushed, get_or_append_left points (next ∷ []) d k (omega arith))
-                      (so_far.of_quotes.each k d e old)
-                  | inr new ↦
-                      let last_place : k ≡ count = omega arith in
-                      let read : quote ≡ get_or quotes count e = get_or_read quotes count quote lt is e in
-                      rw (pushed, get_or_push points next d k (omega arith), last_place)
-                      (subst (λ (q : Quote). IsPoint quotes count q next) read next_is)
-                ];
-          };
-          limits = All-more HasLimit quotes count quote lt so_far.limits (subst HasLimit is in_range);
+  front : (n : ℕ) → n ≤ length quotes → take n more ≡ take n quotes
+  front n le = take-append-le n quotes (next ∷ []) le
+
+  all : take (length quotes) more ≡ quotes
+  all = front (length quotes) (omega arith) ∙ take_all (length quotes) quotes (omega arith)
+
+  -- what the quotes of its pair have in all, and it
+  pub push_sum : (f : Quote → ℕ)
+      → sum_by f (pair_of next.sell next.buy (take (length quotes + 1) more))
+      ≡ sum_by f (pair_of next.sell next.buy quotes) + f next
+  push_sum f =
+      let long = length_push quotes next in
+      let is = sym (get_or_push quotes next next (length quotes) refl) in
+      let sum = sum_more more (length quotes) next (omega arith) is f in
+      rw all at sum
+
+  module _ (points : List Point) (kept : ArePoints quotes points (length quotes)) where
+    old_point : (k : ℕ) (d : Point) (e : Quote) → k < length quotes
+        → IsPoint more k (get_or more k e) (get_or points k d)
+    old_point k d e lt =
+        let here = kept.each k d e lt in
+        let quote = get_or quotes k e in
+        let same = sym (front (k + 1) (omega arith)) in
+        rw (get_or_append_left quotes (next ∷ []) e k lt)
+        (record {
+          limit = here.limit;
+          amount = here.amount ∙ ap (λ (qs : List Quote). amounts (pair_of quote.sell quote.buy qs)) same;
+          weighted = here.weighted ∙ ap (λ (qs : List Quote). weighted_amounts (pair_of quote.sell quote.buy qs)) same;
+        })
+
+    pub points_more : (point : Point) → point.limit ≡ next.limit
+        → point.amount ≡ amounts (pair_of next.sell next.buy quotes) + next.amount
+        → point.weighted ≡ weighted_amounts (pair_of next.sell next.buy quotes) + next.amount * next.limit
+        → ArePoints more (points ++ point ∷ []) (length more)
+    points_more point limit amount weighted =
+        let full = kept.full in
+        let long = length_push quotes next in record {
+          full = omega (arith, length_push points point);
+          each = λ k d e lt.
+              elim (cases_lt k (length quotes)) [
+                | inl old ↦ rw (get_or_append_left points (point ∷ []) d k (omega arith)) (old_point k d e old)
+                | inr new ↦
+                    let here : k ≡ length quotes = omega arith in
+                    rw (
+                      here,
+                      get_or_push points point d (length quotes) (omega arith),
+                      get_or_push quotes next e (length quotes) refl,
+                    )
+                    (record {
+                      limit = limit;
+                      amount = amount ∙ sym (push_sum (λ quote. quote.amount));
+                      weighted = weighted ∙ sym (push_sum (λ quote. quote.amount * quote.limit));
+                    })
+              ];
         }
-
-pub limits_all : (quotes : List Quote) (points : List Point) (count : ℕ) → AreFirstPoints quotes points count
-    → count ≡ length quotes → All HasLimit quotes
-limits_all quotes points count so_far all =
-    subst (All HasLimit) (take_all count quotes (omega arith)) so_far.limits

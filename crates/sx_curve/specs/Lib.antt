@@ -1,5 +1,6 @@
 pub mod Quotes
 pub mod Curves
+pub mod Listed
 pub mod Demand
 pub mod Search
 pub mod Laws

@@ -3,40 +3,40 @@
 ghost use Rattle.std.specs.Prelude.{◌≡◌, ◌*◌, ◌≤◌, ◌^◌, length, IfOk};
 ghost use Rattle.std.specs.Bool.{OnTrue};
 ghost use Rattle.std.specs.List.Sorted.{IsPermutation};
-ghost use Rattle.sx_curve.specs.Curves.{AreInOrder, AreQuotes, IsPairRange, IsUpTo};
+ghost use Rattle.sx_curve.specs.Curves.{AreCurves, AreInOrder, AreQuotes, DoPairsFit, IsPairRange, IsUpTo};
+ghost use Rattle.sx_curve.specs.Listed.{quotes_of};
 ghost use Rattle.sx_curve.specs.Quotes.{amounts, quotes_below, weighted_amounts};
 
+use crate::begins::place_of;
+use crate::curves_builder::CurvesBuilder;
 use crate::limits::count_below;
-use crate::pairs::{begins_of, place_of};
-use crate::points::{Point, points_of, sums_at};
+use crate::points::{Point, sums_at};
 use crate::quote::Quote;
 use crate::sums::Sums;
 use std::alloc::Global;
 use std::marker::Model;
-use std::snapshot::Snapshot;
 use sx_base::AssetId;
 use sx_bytes::NoMemory;
 
 /// The supply curves of a market, ready for [`Curves::below`]: a point of each quote, in the order of the
-/// quotes. Contracts see the number of assets and the list of the quotes, which itself takes no memory.
-#[derive(Drop)]
-#[derive_where(Debug)]
+/// quotes. Contracts see the number of assets and the list of the quotes, which itself takes no memory, since
+/// the points tell it.
+#[derive(Debug, Drop)]
 pub struct Curves {
     number: u32,
-    #[derive_where(skip)]
-    sorted: Snapshot<Vec<Quote>>,
     points: Vec<Point>,
     begins: Vec<usize>,
 }
 
 impl Model for Curves {
     ghost use Rattle.sx_curve.specs.Curves.{AreCurves, Market};
+    ghost use Rattle.sx_curve.specs.Listed.{quotes_of};
 
     ghost Value = { Market };
 
-    ghost view = { λ c. record { assets = c.number; quotes = c.sorted.value.items } };
+    ghost view = { λ c. record { assets = c.number; quotes = quotes_of c.points.items c.begins.items } };
 
-    ghost invariant = { λ c. AreCurves c.number c.sorted.value.items c.points.items c.begins.items };
+    ghost invariant = { λ c. AreCurves c.number (quotes_of c.points.items c.begins.items) c.points.items c.begins.items };
 }
 
 // Whether a quote may stand before another one.
@@ -72,7 +72,33 @@ fn sorted(quotes: Vec<Quote>) -> Vec<Quote>
     quotes
 }
 
+// The curves of quotes in order, so far.
+fn built(alloc: Global, quotes: &[Quote]) -> Result<CurvesBuilder, NoMemory>
+    requires in_order { AreInOrder quotes.now }
+    requires fit { DoPairsFit quotes.now }
+    ensures { IfOk result (λ builder. builder ≡ quotes.now) }
+{
+    let mut builder = CurvesBuilder::new(alloc, quotes.len())?;
+    for quote in quotes {
+        builder.push(quote)?;
+    }
+    Ok(builder)
+}
+
 impl Curves {
+    // The curves of which these are the points, and where the pairs begin.
+    pub(crate) fn of(assets: u32, points: Vec<Point>, begins: Vec<usize>) -> Curves
+        requires { AreCurves assets (quotes_of points.items begins.items) points.items begins.items }
+        ensures assets { result.assets ≡ assets }
+        ensures quotes { result.quotes ≡ quotes_of points.items begins.items }
+    {
+        Curves {
+            number: assets,
+            points,
+            begins,
+        }
+    }
+
     /// The curves of these quotes, where there are 1 to 32 assets. Each quote sells an asset below
     /// that number for another one, and the amounts that sell an asset add up to at most `2^62`.
     /// `NoMemory` is the only error. It takes the list, of which the order is free, sorts it where it
@@ -83,14 +109,8 @@ impl Curves {
         ensures quotes { IfOk result (λ curves. IsPermutation quotes.items curves.quotes) }
     {
         let sorted = sorted(quotes);
-        let points = points_of(alloc, &sorted)?;
-        let begins = begins_of(alloc, &sorted)?;
-        Ok(Curves {
-            number: assets,
-            sorted: Snapshot::of(&sorted),
-            points,
-            begins,
-        })
+        let builder = built(alloc, &sorted)?;
+        Ok(builder.finish(assets))
     }
 
     /// The number of assets.
@@ -186,6 +206,7 @@ impl Curves {
 
     // The sums of a pair up to a limit, found from a guess. The pair's quotes are those from `begin` to
     // `end`.
+    #[inline(always)]
     fn below_here(
         &self,
         sell: AssetId,

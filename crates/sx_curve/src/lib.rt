@@ -17,10 +17,12 @@
 //! ```
 //!
 //! [`Curves::build`] sorts the quotes of all pairs once, and keeps where each pair begins and a point of
-//! each quote: its limit, and the sums over the quotes of its pair up to and with it. [`Curves::below`]
-//! then tells, by one search and without memory, the sums over a pair's quotes up to any limit: of their
-//! amounts, at most `2^62`, and of each amount times its limit, at most `2^118`. They stand in the last
-//! point that the limit reaches, so a search reads the points of one pair and nothing else.
+//! each quote: its limit, and the sums over the quotes of its pair up to and with it. A
+//! [`CurvesBuilder`] takes in quotes that come in order, one by one, so that no list of them is needed.
+//! [`Curves::below`] then tells, by one search and without memory, the sums over a pair's quotes up to
+//! any limit: of their amounts, at most `2^62`, and of each amount times its limit, at most `2^118`.
+//! They stand in the last point that the limit reaches, so a search reads the points of one pair and
+//! nothing else.
 //!
 //! [`Curves::below_near`] begins its search at a guess. It goes outward from there in steps that double
 //! and then halves the last one: with d quotes between the guess and the answer it makes two times
@@ -40,15 +42,17 @@
 //! Letters 5, 1976).
 #![tactic(auto)]
 
+mod begins;
 mod curves;
+mod curves_builder;
 mod laws;
 mod limits;
-mod pairs;
 mod points;
 mod quote;
 mod sums;
 
 pub use curves::Curves;
+pub use curves_builder::CurvesBuilder;
 pub use laws::{search_laws, value_laws};
 pub use quote::Quote;
 pub use sums::Sums;

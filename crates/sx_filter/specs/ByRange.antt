@@ -10,6 +10,7 @@ use Rattle.sx_filter.specs.declared.sifting.Sifted.{Sifted}
 use Rattle.sx_ledger.specs.declared.parts.Parts.{Parts}
 use Rattle.sx_tx.specs.declared.tx.Tx.{Tx}
 
+-- the candidates of a list, where there is one
 abbrev pub items_of : Option TxVec → List Tx
 items_of None = []
 items_of (Some list) = list.items

@@ -1,6 +1,6 @@
 //! Bands of accounts: a range is cut into so many of them that the cache of a processor holds the candidates of one.
 
-ghost use Rattle.std.specs.Prelude.{◌≡◌, ◌<◌, ◌≤◌};
+ghost use Rattle.std.specs.Prelude.{◌≡◌, ◌<◌};
 ghost use Rattle.sx_filter.specs.Bands.{AreBands, band_among};
 
 use sx_ledger::Ledger;

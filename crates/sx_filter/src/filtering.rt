@@ -1,7 +1,6 @@
 //! The candidates that a filter keeps.
 
 ghost use Rattle.std.specs.Prelude.{◌≡◌, ◌≤◌, List, length, IfOk, IfErr, OnOk, Ok, Err};
-ghost use Rattle.std.specs.Arc.{arc_value};
 ghost use Rattle.sx_filter.specs.ByRange.{IsPrepared};
 ghost use Rattle.sx_filter.specs.Fault.{fault_of as the_fault, IsFaultOf};
 ghost use Rattle.sx_filter.specs.Kept.{kept_of};

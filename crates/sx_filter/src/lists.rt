@@ -2,7 +2,6 @@
 
 ghost use Rattle.std.specs.Prelude.{◌≡◌, ℕ, ◌<◌, ◌≤◌, ◌++◌, [], ◌∷◌, IfOk, OnOk, length, slice_index_or, vec_len};
 ghost use Rattle.sx_filter.specs.Sifted.{TxVec};
-ghost use Rattle.sx_tx.specs.declared.tx.Tx.{Tx as Transaction};
 
 use std::alloc::Global;
 use sx_bytes::NoMemory;

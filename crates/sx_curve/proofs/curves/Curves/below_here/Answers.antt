@@ -4,6 +4,7 @@ use Rattle.std.specs.List.Sorted.{IsNonDecreasingBy}
 use Rattle.sx_curve.specs.declared.points.Point.{Point}
 use Rattle.sx_curve.specs.declared.quote.Quote.{Quote}
 use Rattle.sx_curve.specs.Curves.{AreCurves, AreSumsAt, Market, ReachesTo}
+use Rattle.sx_curve.specs.Listed.{quotes_of}
 use Rattle.sx_curve.proofs.BelowSums.{point_limits_rise, sums_below}
 use Rattle.sx_curve.proofs.curves.Curves.below_here.Goals as goal
 
@@ -12,7 +13,7 @@ count_below-count-requires c =
     let inside = c.self.inside in
     let points = inside.points.items in
     let quotes = c.args.self.now.quotes in
-    let same : inside.sorted.value.items ≡ quotes = ap (λ (m : Market). m.quotes) c.self.view_is in
+    let same : quotes_of points inside.begins.items ≡ quotes = ap (λ (m : Market). m.quotes) c.self.view_is in
     let kept = subst (λ (quotes : List Quote). AreCurves inside.number quotes points inside.begins.items) same
     c.self.invariant in
     let rise = point_limits_rise inside.number quotes points kept.market kept.in_order kept.of_quotes c.args.sell
@@ -31,7 +32,7 @@ returns c =
     let points = inside.points.items in
     let quotes = c.args.self.now.quotes in
     let count = c.count_below-count.result in
-    let same : inside.sorted.value.items ≡ quotes = ap (λ (m : Market). m.quotes) c.self.view_is in
+    let same : quotes_of points inside.begins.items ≡ quotes = ap (λ (m : Market). m.quotes) c.self.view_is in
     let kept = subst (λ (quotes : List Quote). AreCurves inside.number quotes points inside.begins.items) same
     c.self.invariant in
     let reaches = subst
