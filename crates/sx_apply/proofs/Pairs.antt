@@ -1,16 +1,18 @@
 -- Offers in order stand pair by pair.
-use Rattle.std.proofs.Common.{◌≡◌, ℕ, zero, suc, ◌<◌, ◌≤◌, ◌⊎◌, Bool, true, false, eqb, ◌&&◌, List, [], ◌∷◌, ◌++◌}
-use Rattle.std.proofs.Common.{drop, Some, refl, sym, ap, ap₂, ◌∙◌, inl, inr, arith}
-use Rattle.std.specs.Prelude.{slice_get, IfSome}
-use Rattle.std.specs.List.{AllByRecursion}
+use Rattle.std.proofs.Common.{◌≡◌, ℕ, zero, suc, ◌+◌, ◌-◌, ◌<◌, ◌≤◌, ◌⊎◌, Bool, true, false, eqb, ◌&&◌, List, []}
+use Rattle.std.proofs.Common.{◌∷◌, ◌++◌, length, get_or, take, drop, Some, refl, sym, ap, ap₂, subst, ◌∙◌, inl}
+use Rattle.std.proofs.Common.{inr, arith}
+use Rattle.std.specs.Prelude.{slice_get, All, IfSome}
+use Rattle.std.specs.List.{AllByRecursion, AllWithin}
+use Rattle.std.specs.List.Sorted.{IsPartitionedBy}
 use Rattle.std.specs.declared.cmp.Ordering.TheVariants.{Equal, Greater}
 use Rattle.std.specs.Ordering.{is_lt, nat_cmp}
 use Rattle.std.specs.Cmp.{nat_cmp_is}
 use Rattle.std.specs.Cmp.Lexicographic.{slice_cmp}
 use Rattle.std.proofs.lemmas.Bool.{cases_Bool, cases_lt, and_from, and_parts, eq-eqb, eqb-true}
-use Rattle.std.proofs.lemmas.List.{append-nil}
-use Rattle.std.proofs.lemmas.List.Elements.{filter-append}
-use Rattle.std.proofs.lemmas.Option.{none-some, same_Some}
+use Rattle.std.proofs.lemmas.List.{append-nil, get_or-drop, get_or-take, length-drop, length-take-le}
+use Rattle.std.proofs.lemmas.List.Elements.{AllWithin-from_all, All-from_all_within, All-from_recursion, filter-append}
+use Rattle.std.proofs.lemmas.Option.{none-some, same_Some, slice_get-get_or, slice_get_cases}
 use Rattle.sx_ledger.specs.declared.offer.Offer.{Offer}
 use Rattle.sx_ledger.specs.Bounds.{pair_of}
 use Rattle.sx_ledger.specs.Order.{key_of, offer_before}
@@ -117,6 +119,25 @@ module _ (sell buy : ℕ) where
       after_first x os j (ap (λ (o : Offer). o.sell) same ∙ s) (ap (λ (o : Offer). o.buy) same ∙ b) rising.0
       rising.1 next
 
+  -- none of this pair comes after one of another pair
+  pub parted : (first : Offer) (os : List Offer) → first.sell ≡ sell → first.buy ≡ buy
+      → slice_get os 0 ≡ Some first → Rising os → IsPartitionedBy of_pair os
+  parted first os s b there rising = λ i j d low high own.
+      elim (cases_Bool (of_pair (get_or os i d))) [
+        | inl same ↦ same
+        | inr other ↦
+            let next : IfSome (slice_get os i) (λ o. of_pair o ≡ false) =
+            rw (slice_get-get_or os i d (omega (arith, low, high))) other in
+            let none : All (λ o. of_pair o ≡ false) (drop i os) =
+            All-from_recursion (λ o. of_pair o ≡ false) (drop i os) (none_after first os i s b there rising next) in
+            let last = AllWithin-from_all (λ o. of_pair o ≡ false) (drop i os) none (j - i) d (omega arith)
+            (omega (arith, low, high, length-drop i os)) in
+            let place : i + (j - i) ≡ j = omega (arith, low) in
+            let same : get_or (drop i os) (j - i) d ≡ get_or os j d =
+            get_or-drop i os (j - i) d ∙ ap (λ (k : ℕ). get_or os k d) place in
+            absurd cc
+      ]
+
   pub none_kept : (os : List Offer) → AllByRecursion (λ o. of_pair o ≡ false) os → pair_of sell buy os ≡ []
   none_kept [] all = refl
   none_kept (o ∷ os) all = rw all.0 (none_kept os all.1)
@@ -126,6 +147,25 @@ module _ (sell buy : ℕ) where
   own_kept own others mine none =
       filter-append of_pair own others
       ∙ ap₂ ◌++◌ (keeps_all of_pair own mine) (none_kept others none) ∙ append-nil own
+
+-- ---- what holds up to a place, or from it on
+
+pub front_all : (P : Offer → Type 0) (os : List Offer) (k : ℕ) → k ≤ length os → AllWithin P os 0 k → All P (take k os)
+front_all P os k within all =
+    let long = length-take-le k os within in
+    All-from_all_within P (take k os) (λ i d low high.
+    let lt : i < k = omega (arith, high, long) in
+    subst P (sym (get_or-take k os i d lt)) (all i d low lt))
+
+pub next_is : (P : Offer → Type 0) (os : List Offer) (k : ℕ) → AllWithin P os k (length os)
+    → IfSome (slice_get os k) P
+next_is P os k all =
+    elim (slice_get_cases os k).1 [
+      | inl found ↦
+          let (x, inside, there, read) = found in
+          rw there (subst P read (all k x (omega arith) inside))
+      | inr past ↦ rw past.1 tt
+    ]
 
 -- ---- parts of offers in order
 

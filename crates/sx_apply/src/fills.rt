@@ -16,18 +16,15 @@ use sx_fill::push_fills;
 use sx_ledger::{Fills, Offer};
 use sx_price::Prices;
 
-// How many offers at the front are of the pair of this one.
+// How many offers at the front are of the pair of this one, which is the first.
 fn count_pair(offers: &[Offer], first: &Offer) -> usize
+    requires first { slice_get offers.now 0 ≡ Some first.now }
+    requires ordered { IsTrue (in_order key_before None (keys offers.now)) }
     ensures within { result ≤ length offers.now }
     ensures own { All (λ offer. ((offer.sell == first.now.sell) && (offer.buy == first.now.buy)) ≡ true) (take result offers.now) }
     ensures next { IfSome (slice_get offers.now result) (λ offer. ((offer.sell == first.now.sell) && (offer.buy == first.now.buy)) ≡ false) }
 {
-    for (place, offer) in offers.iter().enumerate() {
-        if offer.sell != first.sell || offer.buy != first.buy {
-            return place;
-        }
-    }
-    offers.len()
+    offers.partition_point(|offer| offer.sell == first.sell && offer.buy == first.buy)
 }
 
 // The offers of the pair of the first one, and those of the pairs after it.
@@ -44,7 +41,8 @@ fn split_pair<'a>(offers: &'a [Offer], first: &Offer) -> (&'a [Offer], &'a [Offe
 /// The fills of all offers that trade at these prices a value above 0, where each pair trades what the
 /// flow says: by strictly rising place in the whole list of offers, which are those of a ledger. The
 /// flow can trade: each pair has at most the value of its offers that may trade, and of each asset as
-/// much is sold as is bought. It goes over the offers once.
+/// much is sold as is bought. It goes over the offers that trade, and finds where each pair ends by halving
+/// the offers that are left.
 pub fn fills_of(
     alloc: Global,
     offers: &[Offer],

@@ -11,7 +11,8 @@
 //!
 //! [`bounds_of`] answers what each pair of assets must and may trade at some prices, and [`without_low`]
 //! the same once lower bounds are dropped. [`tally_of`] answers what a body does, [`fills_of`] what each
-//! offer trades, and [`rounding_of`] what rounding keeps of each asset. They go over sorted lists once.
+//! offer trades, and [`rounding_of`] what rounding keeps of each asset. They go over sorted lists once, and
+//! [`fills_of`] only over the offers that trade: where a pair ends it finds by halving the offers that are left.
 //! [`par_tally_of`] answers the same as [`tally_of`], with threads that look accounts and offers up. By
 //! [`apply_laws`] a valid block has what the calls ask for.
 //!
