@@ -1,6 +1,6 @@
 //! Gathering by workers.
 
-ghost use Rattle.std.specs.Prelude.{◌≡◌, ◌+◌, ◌<◌, ◌≤◌, length, vec_len, IfOk, IfErr, Err};
+ghost use Rattle.std.specs.Prelude.{◌≡◌, ◌+◌, ◌<◌, ◌≤◌, [], length, vec_len, IfOk, IfErr, Err};
 ghost use Rattle.sx_gather.specs.Passes.{IsPassOf};
 ghost use Rattle.sx_gather.specs.Start.{fault_of as the_fault, IsFaultOf};
 ghost use Rattle.sx_layout.specs.declared.space.NoRoom.{NoRoom as WhyNoRoom};
@@ -15,6 +15,7 @@ use crate::working::work_all;
 use std::alloc::Global;
 use std::thread::Threads;
 use sx_gather::{Gather, GatherFault, Pass, Sealed, par_seal_list, seal_list};
+use sx_layout::{OutcomeLog, room};
 use sx_ledger::Ledger;
 use sx_tx::{Tx, TxList};
 
@@ -68,6 +69,22 @@ fn decided<'a, R: Threads + Sync, G: Gate + Sync>(
     Ok((gather, whole))
 }
 
+// What is gathered of no candidates: an empty body, which is the empty list that is handed over, and no outcomes.
+// It takes no memory.
+fn of_none(alloc: Global, ledger: &Ledger, candidates: TxList) -> Result<Sealed, GatherFault>
+    requires none { candidates ≡ [] }
+    ensures gathered { IfOk result (λ sealed. IsGathered ledger.now candidates sealed.outcomes sealed.txs) }
+    ensures no_room { (why : WhyNoRoom) → room_for ledger.now candidates ≡ Err why → result ≡ Err (the_fault why) }
+    ensures fault { IfErr result (IsFaultOf (room_for ledger.now candidates)) }
+{
+    room(ledger, candidates.items())?;
+    let outcomes = OutcomeLog::with_capacity(alloc, 0)?.into_packed();
+    Ok(Sealed {
+        txs: candidates,
+        outcomes,
+    })
+}
+
 /// Gathers at most 1,000,000 candidates of a ledger by 1 to 64 workers, on 1 to 64 shards. The gate is called
 /// before each candidate. The answer is the body of a block and the outcomes of all candidates, and they are
 /// those of a gathering for every number of workers and whatever their threads do.
@@ -79,7 +96,7 @@ fn decided<'a, R: Threads + Sync, G: Gate + Sync>(
 /// `Ended` comes exactly at the greatest height, `2^63 - 1`, else `Crowded` for the accounts exactly where those
 /// that the candidates create would pass 65,536, else for the offers exactly where those that they make would
 /// pass 262,144. Otherwise it may answer `NoMemory`. All memory but that of the sealing is taken before the
-/// first worker starts.
+/// first worker starts. Where there are no candidates, none is taken and no thread starts.
 pub fn gather_all<R: Threads + Sync, G: Gate + Sync>(
     rt: &R,
     alloc: Global,
@@ -98,6 +115,9 @@ pub fn gather_all<R: Threads + Sync, G: Gate + Sync>(
     ensures no_room { (why : WhyNoRoom) → room_for ledger.now candidates.now ≡ Err why → result ≡ Err (the_fault why) }
     ensures fault { IfErr result (IsFaultOf (room_for ledger.now candidates.now)) }
 {
+    if candidates.is_empty() {
+        return of_none(alloc, ledger, TxList::of(Vec::new(alloc)));
+    }
     let (gather, whole) = decided(rt, alloc, ledger, candidates, shards, workers, gate)?;
     let sealed = if workers == 1 {
         gather.seal(whole)?
@@ -108,7 +128,7 @@ pub fn gather_all<R: Threads + Sync, G: Gate + Sync>(
 }
 
 /// The same of a list that the caller needs no more: the body is made in its memory. All memory is taken before
-/// the first worker starts.
+/// the first worker starts, and none where there are no candidates.
 pub fn gather_list<R: Threads + Sync, G: Gate + Sync>(
     rt: &R,
     alloc: Global,
@@ -128,6 +148,9 @@ pub fn gather_list<R: Threads + Sync, G: Gate + Sync>(
     ensures fault { IfErr result (IsFaultOf (room_for ledger.now candidates)) }
 {
     let items = candidates.items();
+    if items.is_empty() {
+        return of_none(alloc, ledger, candidates);
+    }
     let (gather, whole) = decided(rt, alloc, ledger, items, shards, workers, gate)?;
     let outcomes = gather.outcomes(whole);
     let sealed = if workers == 1 {
