@@ -9,3 +9,4 @@ pub mod Rule
 pub mod Validity
 pub mod EffectLaws
 pub mod ValidityLaws
+pub mod Hashing

@@ -1,10 +1,11 @@
 //! Digests of ledgers and of transactions, by SHA-256.
 
-ghost use Rattle.std.specs.Prelude.{◌≡◌, ℕ, ◌^◌, ◌<◌, ◌≤◌, List, ◌++◌, length, IfOk, OnOk};
+ghost use Rattle.std.specs.Prelude.{◌≡◌, ℕ, ◌^◌, ◌<◌, ◌≤◌, List, [], ◌++◌, length, IfOk, OnOk};
 ghost use Rattle.std.specs.List.{flat_map};
 ghost use Rattle.sha2.specs.Hashers.{Holds256};
 ghost use Rattle.sha2.specs.Sha256.{sha256};
 ghost use Rattle.sx_block.specs.Digest.{IsDigest};
+ghost use Rattle.sx_block.specs.Hashing.{HoldsAllButOffers};
 ghost use Rattle.sx_block.specs.Validity.{digest_of_ledger};
 ghost use Rattle.sx_record.specs.Frame.{record_bytes};
 ghost use Rattle.sx_tx.specs.Transactions.{list_bytes, most_transactions, tx_bytes};
@@ -40,26 +41,38 @@ pub fn record_digest(tag: u8, payload: &[u8]) -> Digest
     Digest::of(hasher.finalize())
 }
 
-/// The digest of a ledger: that of its whole state record. Accounts and offers are written and hashed in pieces, so that
-/// the call takes no more memory for many of them than for 1,024.
-pub fn ledger_digest(alloc: Global, ledger: &Ledger) -> Result<Digest, NoMemory>
-    ensures hash { IfOk result (λ digest. digest ≡ digest_of_ledger ledger.now) }
-    ensures digest { IfOk result IsDigest }
+// What has hashed the state record of a ledger but for the offers. The record is written and hashed in pieces, through
+// a writer that is empty before and after.
+pub fn hash_before_offers(piece: &mut Writer, ledger: &Ledger) -> Result<Sha256, NoMemory>
+    requires { piece.old ≡ [] }
+    ensures hashed { IfOk result (HoldsAllButOffers ledger.now) }
+    ensures emptied { OnOk result (piece.new ≡ []) }
 {
     let parts = ledger.parts();
     let accounts = AccountEncoder {
         version: parts.version,
     };
     let mut hasher = Sha256::new();
-    let mut piece = Writer::new(alloc);
     piece.put_u8(tag::STATE)?;
     piece.put_u32(ledger.state_length())?;
-    ledger.write_opening(&mut piece)?;
-    add_written(&mut hasher, &mut piece);
-    add_entries(&accounts, &mut hasher, &mut piece, parts.accounts.items())?;
+    ledger.write_opening(piece)?;
+    add_written(&mut hasher, piece);
+    add_entries(&accounts, &mut hasher, piece, parts.accounts.items())?;
     piece.put_u32(ledger.offers())?;
-    add_written(&mut hasher, &mut piece);
-    add_entries(&OfferEncoder, &mut hasher, &mut piece, parts.offers.items())?;
+    add_written(&mut hasher, piece);
+    Ok(hasher)
+}
+
+/// The digest of a ledger: that of its whole state record. Accounts and offers are written and hashed in pieces, so that
+/// the call takes no more memory for many of them than for 1,024.
+pub fn ledger_digest(alloc: Global, ledger: &Ledger) -> Result<Digest, NoMemory>
+    ensures hash { IfOk result (λ digest. digest ≡ digest_of_ledger ledger.now) }
+    ensures digest { IfOk result IsDigest }
+{
+    let mut piece = Writer::new(alloc);
+    let mut hasher = hash_before_offers(&mut piece, ledger)?;
+    let offers = ledger.parts().offers.items();
+    add_entries(&OfferEncoder, &mut hasher, &mut piece, offers)?;
     Ok(Digest::of(hasher.finalize()))
 }
 

@@ -1,14 +1,15 @@
 //! Blocks: a header and transactions, their encoding and their digests, and what makes a block valid.
 //!
-//! A [`Block`] is what one batch decided: the prices, the value that each pair of assets trades, the
-//! potentials that show that no more could be traded, what rounding keeps, the digests that chain it to
-//! the ledgers before and after it, and the transactions. [`read_block`] answers the block exactly
-//! where a payload is the encoding of one, and else the first fault from left to right, and
-//! [`par_read_block`] has several threads decode the transactions; [`write_block`] appends the one encoding. [`block_laws`] says that no two blocks share an encoding and that each
-//! fits a record. [`ledger_digest`] and [`body_digest`] are the two digests of a header, by SHA-256;
+//! A [`Block`] is what one batch decided: the prices, the value that each pair of assets trades, the potentials that
+//! show that no more could be traded, what rounding keeps, the digests that chain it to the ledgers before and after
+//! it, and the transactions. [`read_block`] answers the block exactly where a payload is the encoding of one, and else
+//! the first fault from left to right, and [`par_read_block`] has several threads decode the transactions;
+//! [`write_block`] appends the one encoding. [`block_laws`] says that no two blocks share an encoding and that each
+//! fits a record. [`ledger_digest`] and [`body_digest`] are the two digests of a header, by SHA-256, and
+//! [`par_ledger_digest`] has a thread encode the offers of a large ledger while it hashes the accounts;
 //! [`header_length`] tells where in a payload the bytes begin of which the second is made. [`par_written_body`] answers
-//! these bytes with their digest, and [`write_header`] appends those before them. A [`StateDigest`] is the
-//! digest of a state record, which a thread of its own makes where the record is large.
+//! these bytes with their digest, and [`write_header`] appends those before them. A [`StateDigest`] is the digest of a
+//! state record, which a thread of its own makes where the record is large.
 //!
 //! `specs/Validity` defines the ledger after a block and when a block is valid for a ledger: by sixteen
 //! rules, in the order of `specs/Rule`. [`validity_laws`] says what the rules make together.
@@ -22,6 +23,7 @@ mod body_writing;
 mod digest;
 mod effect_laws;
 mod hashing;
+mod hashing_in_parallel;
 mod header;
 mod header_reading;
 mod header_writing;
@@ -39,6 +41,7 @@ pub use body_writing::{WrittenBody, par_written_body};
 pub use digest::{Digest, Digests};
 pub use effect_laws::{block_effect_laws, fill_laws, limit_laws, trade_laws};
 pub use hashing::{body_digest, digest_of, ledger_digest, record_digest};
+pub use hashing_in_parallel::par_ledger_digest;
 pub use header::{Block, Header};
 pub use laws::block_laws;
 pub use reading::read_block;

@@ -18,7 +18,7 @@ use std::alloc::Global;
 use std::thread::{Threads, join};
 use sx_apply::execute;
 use sx_base::Balances;
-use sx_block::{Digest, ledger_digest};
+use sx_block::{Digest, ledger_digest, par_ledger_digest};
 use sx_body::apply_accounts;
 use sx_bytes::NoMemory;
 use sx_ledger::{Fill, Ledger};
@@ -69,7 +69,7 @@ pub fn par_digest_after<R: Threads + Sync>(
     let Body { tally, offers } = body;
     let with_body = par_apply_accounts(rt, alloc, ledger, &tally, offers, workers)?;
     let left = par_execute(rt, alloc, with_body, prices, rounding, fills, workers)?;
-    ledger_digest(alloc, &left)
+    par_ledger_digest(rt, alloc, &left)
 }
 
 // The digest of what a body and these fills of the offers after it leave of a copy of the ledger.

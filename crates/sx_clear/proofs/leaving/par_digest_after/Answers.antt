@@ -22,5 +22,5 @@ par_execute-requires-clause-fills g c = λ κs out.
 pub returns-clause-hash : goal.returns-clause-hash
 returns-clause-hash g c =
     digest_of_left c.args.ledger c.args.body c.args.prices.now c.args.rounding.now c.args.fills.now
-    c.in_ok-with_body.with_body c.in_ok-with_body.ensures.after c.in_ok-left.left c.ledger_digest.result
-    c.in_ok-left.ensures c.ledger_digest.ensures.hash
+    c.in_ok-with_body.with_body c.in_ok-with_body.ensures.after c.in_ok-left.left c.par_ledger_digest.result
+    c.in_ok-left.ensures c.par_ledger_digest.ensures.hash
