@@ -9,6 +9,7 @@ ghost use Rattle.sx_ledger.specs.Bounds.{pair_of};
 ghost use Rattle.sx_ledger.specs.Ledger.{keys};
 ghost use Rattle.sx_ledger.specs.Order.{key_before};
 
+use crate::capacity::count_tradable;
 use std::alloc::Global;
 use sx_bytes::NoMemory;
 use sx_dual::Flow;
@@ -42,7 +43,7 @@ fn split_pair<'a>(offers: &'a [Offer], first: &Offer) -> (&'a [Offer], &'a [Offe
 /// flow says: by strictly rising place in the whole list of offers, which are those of a ledger. The
 /// flow can trade: each pair has at most the value of its offers that may trade, and of each asset as
 /// much is sold as is bought. It goes over the offers that trade, and finds where each pair ends by halving
-/// the offers that are left.
+/// the offers that are left. It takes memory for as many fills as there are offers that may trade.
 pub fn fills_of(
     alloc: Global,
     offers: &[Offer],
@@ -53,7 +54,7 @@ pub fn fills_of(
     requires tradable { CanTrade offers.now prices.now (value_of flow.now) }
     ensures { IfOk result (λ fills. fills ≡ all_fills prices.now (value_of flow.now) offers.now) }
 {
-    let mut fills = Vec::with_capacity(alloc, offers.len())?;
+    let mut fills = Vec::with_capacity(alloc, count_tradable(offers, prices))?;
     let mut left = offers;
     while let Some(first) = left.first() {
         let place = (offers.len() - left.len()) as u32;

@@ -21,6 +21,7 @@
 
 mod applying;
 mod bounds;
+mod capacity;
 mod effects;
 mod fills;
 mod laws;
