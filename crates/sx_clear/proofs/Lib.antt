@@ -1,4 +1,5 @@
 pub mod OfferLaws
+pub mod CurveBounds
 pub mod TradeLaws
 pub mod BlockLaws
 pub mod PriceLaws

@@ -1,5 +1,5 @@
 -- What pairs trade, from tables with the bounds of the offers.
-use Rattle.std.proofs.Common.{◌≡◌, ℕ, zero, suc, ◌<◌, ◌^◌, false, List, length, Option, None, inl, inr, refl, sym, subst, ◌∙◌}
+use Rattle.std.proofs.Common.{◌≡◌, ℕ, zero, suc, ◌<◌, ◌^◌, false, List, Option, None, inl, inr, refl, sym, subst, ◌∙◌}
 use Rattle.std.proofs.Common.{arith}
 use Rattle.std.specs.Prelude.{if◌then◌else◌, is_some}
 use Rattle.std.proofs.lemmas.Bool.{cases_Bool, cases_eq}
@@ -8,6 +8,7 @@ use Rattle.sx_apply.proofs.SameBounds.{cut_from, fits_from}
 use Rattle.sx_block.specs.Block.{CutFits}
 use Rattle.sx_block.specs.Validity.{CutHolds}
 use Rattle.sx_clear.specs.declared.trade.Trade.{Trade}
+use Rattle.sx_clear.specs.Found.{HasBoundsAt}
 use Rattle.sx_clear.specs.Traded.{HasNoLow, IsFreeTrade, IsTrade, IsTradeAt}
 use Rattle.sx_dual.specs.declared.cut.Cut.{Cut}
 use Rattle.sx_dual.specs.Cuts.{goes_in, sum_in}
@@ -15,7 +16,6 @@ use Rattle.sx_dual.specs.Sums.{EachPair, between, sum_below}
 use Rattle.sx_dual.specs.Tables.{BoundsTable, FlowTable, high_of, low_of, potential_of, value_of}
 use Rattle.sx_dual.proofs.SumLaws.{between-other, between-self, sum_below-same}
 use Rattle.sx_dual.specs.Cuts.{IsCutOf}
-use Rattle.sx_ledger.specs.declared.offer.Offer.{Offer}
 use Rattle.sx_ledger.specs.declared.parts.Parts.{Parts}
 use Rattle.sx_ledger.specs.Body.{body_after}
 use Rattle.sx_ledger.specs.Bounds.{high_of as high_at, low_of as low_at}
@@ -65,14 +65,14 @@ own_bounds bounds = record {
 
 -- ---- trades
 
--- the same of other lists that are equal
-pub trade_as : (parts : Parts) (txs : List Tx) (prices : List ℕ) (j : ℕ) (offers : List Offer) (trade : Trade)
-    → length prices ≡ assets_of parts → offers ≡ (body_after parts txs).offers
-    → IsTrade (length prices) (low_at prices j false offers) (high_at prices offers) trade
+-- what trades within the bounds of the offers after these transactions
+pub traded_at : (parts : Parts) (txs : List Tx) (prices : List ℕ) (j : ℕ) (bounds : BoundsTable) (trade : Trade)
+    → HasBoundsAt parts txs prices j bounds
+    → ((n : ℕ) (low high : ℕ → ℕ → ℕ) → HasBounds n low high bounds → IsTrade n low high trade)
     → IsTradeAt parts txs prices j trade
-trade_as parts txs prices j offers trade same are traded =
-    subst (λ (os : List Offer). IsTrade (assets_of parts) (low_at prices j false os) (high_at prices os) trade) are
-    (subst (λ (n : ℕ). IsTrade n (low_at prices j false offers) (high_at prices offers) trade) same traded)
+traded_at parts txs prices j bounds trade has traded =
+    let offers = (body_after parts txs).offers in
+    traded (assets_of parts) (low_at prices j false offers) (high_at prices offers) has
 
 best_from : (n : ℕ) (low high : ℕ → ℕ → ℕ) (bounds : BoundsTable) (flow : FlowTable) (potentials : List ℕ)
     → HasBounds n low high bounds → IsBest bounds.assets (low_of bounds) (high_of bounds) flow potentials

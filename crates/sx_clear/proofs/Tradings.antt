@@ -1,24 +1,25 @@
 -- What a body trades, and what follows of its block.
-use Rattle.std.proofs.Common.{◌≡◌, ℕ, ◌+◌, ◌*◌, ◌<◌, ◌≤◌, List, length, Result, Ok, Err, sym, ap, subst, ◌∙◌}
+use Rattle.std.proofs.Common.{◌≡◌, ℕ, ◌+◌, ◌*◌, ◌<◌, ◌≤◌, false, List, length, Result, Ok, Err, ap, subst, ◌∙◌}
 use Rattle.std.specs.Prelude.{All, IfOk, slice_index}
+use Rattle.sx_apply.specs.Bounds.{HasBounds}
 use Rattle.sx_apply.specs.Trading.{CanExecute}
 use Rattle.sx_block.specs.declared.header.Block.{Block}
 use Rattle.sx_block.specs.Validity.{digest_of_ledger}
 use Rattle.sx_clear.specs.declared.body.Body.{Body}
 use Rattle.sx_clear.specs.declared.clearing.Trading.{Trading}
 use Rattle.sx_clear.specs.declared.heading.Terms.{Terms}
-use Rattle.sx_clear.specs.Found.{CanLeave, IsBodyOf}
+use Rattle.sx_clear.specs.Found.{CanLeave, HasBoundsAt, IsBodyOf}
 use Rattle.sx_clear.specs.Searches.{IsCounted}
 use Rattle.sx_clear.specs.Terms.{AreTerms}
 use Rattle.sx_clear.specs.Traded.{IsTradeAt}
 use Rattle.sx_clear.specs.Trading.{IsCountedAt, IsTrading}
 use Rattle.sx_clear.proofs.BlockLaws.{rounded_by, tradable}
-use Rattle.sx_dual.specs.Tables.{value_of}
+use Rattle.sx_dual.specs.Tables.{BoundsTable, value_of}
 use Rattle.sx_fill.specs.AllFills.{all_fills}
 use Rattle.sx_ledger.specs.declared.offer.Offer.{Offer}
 use Rattle.sx_ledger.specs.declared.parts.Parts.{Parts}
 use Rattle.sx_ledger.specs.Body.{IsAdmissible, body_after}
-use Rattle.sx_ledger.specs.Bounds.{high_of}
+use Rattle.sx_ledger.specs.Bounds.{high_of, low_of}
 use Rattle.sx_ledger.specs.Fills.{IsRounding}
 use Rattle.sx_ledger.specs.Ledger.{IsLedger, assets_of}
 use Rattle.sx_ledger.specs.Trade.{traded}
@@ -50,15 +51,15 @@ module _ (parts : Parts) (txs : List Tx) (body : Body) (prices : List ℕ) (j : 
       record { txs = txs; admissible = admissible; body = found; trade = execute } in
       record { trade = trade; rounded = rounded; fills = fills; leaves = leaves }
 
-pub counted_at : (parts : Parts) (txs : List Tx) (prices : List ℕ) (offers : List Offer) (old new : ℕ)
-    → length prices ≡ assets_of parts → offers ≡ (body_after parts txs).offers
-    → ((b : ℕ) → HaveDigits (length prices) (high_of prices offers) b → new ≤ old + 2 * most_searches (length prices) b)
+-- what is counted by the bounds of a table is counted by the offers after these transactions
+pub counted_at : (parts : Parts) (txs : List Tx) (prices : List ℕ) (j : ℕ) (bounds : BoundsTable) (old new : ℕ)
+    → HasBoundsAt parts txs prices j bounds
+    → ((n : ℕ) (low high : ℕ → ℕ → ℕ) (b : ℕ) → HasBounds n low high bounds → HaveDigits n high b
+    → new ≤ old + 2 * most_searches n b)
     → IsCountedAt parts txs prices old new
-counted_at parts txs prices offers old new same are counted = λ b digits.
-    let by_offers : HaveDigits (assets_of parts) (high_of prices offers) b =
-    subst (λ (os : List Offer). HaveDigits (assets_of parts) (high_of prices os) b) (sym are) digits in
-    subst (λ (m : ℕ). HaveDigits m (high_of prices offers) b → new ≤ old + 2 * most_searches m b) same (counted b)
-    by_offers
+counted_at parts txs prices j bounds old new has counted = λ b digits.
+    let offers = (body_after parts txs).offers in
+    counted (assets_of parts) (low_of prices j false offers) (high_of prices offers) b has digits
 
 -- a block of these transactions at these prices is counted by its own bounds
 pub counted_block : {E : Type 0} (parts : Parts) (txs : List Tx) (prices : List ℕ) (old new : ℕ) (r : Result Block E)

@@ -1,4 +1,5 @@
 pub mod Quotes
+pub mod Bounding
 pub mod Dropping
 pub mod Digests
 pub mod Found

@@ -3,7 +3,7 @@
 ghost use Rattle.std.specs.Prelude.{◌≡◌, ◌+◌, ◌<◌, ◌≤◌, All, IfOk, length};
 ghost use Rattle.sx_block.specs.Validity.{IsValid, flow_of_block, high_in, low_in};
 ghost use Rattle.sx_clear.specs.Dropping.{DropsExactly};
-ghost use Rattle.sx_clear.specs.Found.{IsBodyOf};
+ghost use Rattle.sx_clear.specs.Found.{HasBoundsAt, IsBodyOf};
 ghost use Rattle.sx_clear.specs.Quotes.{imbalance_at, posted_at, searched_at};
 ghost use Rattle.sx_clear.specs.Searches.{IsCounted, most_clearing_searches};
 ghost use Rattle.sx_clear.specs.Trading.{IsCountedAt, IsTrading};
@@ -13,20 +13,21 @@ ghost use Rattle.sx_ledger.specs.Ledger.{IsLedger, assets_of, most_height};
 ghost use Rattle.sx_price.specs.Limits.{IsPrice};
 ghost use Rattle.sx_tx.specs.Transactions.{most_transactions};
 
-use crate::body::body_of;
+use crate::body::Body;
 use crate::digests::{Digests, digest_of_body, digest_of_parent};
 use crate::filling::{Filled, fill};
 use crate::heading::{Terms, block_of};
 use crate::leaving::{digest_left, digests_around};
-use crate::opening::{Opened, Search, copy_of, digest_and_prices};
+use crate::opening::{Opened, Search, digest_and_prices, open_at};
 use crate::ranges::price_ranges;
-use crate::trade::{Trade, trade_at};
+use crate::trade::{Trade, trade_within};
 use std::alloc::Global;
 use std::snapshot::Snapshot;
 use std::sync::ledger;
 use std::thread::Threads;
 use sx_block::Block;
 use sx_bytes::NoMemory;
+use sx_dual::Bounds;
 use sx_ledger::Ledger;
 use sx_multi::posted_laws;
 use sx_net::Steps;
@@ -40,30 +41,32 @@ pub struct Trading {
     pub filled: Filled,
 }
 
-// What the offers after a body trade at the prices that are found.
+// What the offers after a body trade at the prices that are found, within the bounds at these.
 pub fn trade_body<L: ledger::Ledger>(
     alloc: Global,
     ledger: &Ledger,
     txs: &[Tx],
     mu: Mu,
-    opened: &Opened,
+    body: &Body,
+    prices: &Prices,
+    bounds: Bounds,
     steps: &mut Steps<L>,
 ) -> Result<Trading, NoMemory>
     requires admissible { IsAdmissible ledger.now txs.now }
-    requires assets { length opened.now.prices ≡ assets_of ledger.now }
-    requires body { IsBodyOf ledger.now txs.now opened.now.body }
+    requires assets { length prices.now ≡ assets_of ledger.now }
+    requires body { IsBodyOf ledger.now txs.now body.now }
+    requires bounds { HasBoundsAt ledger.now txs.now prices.now mu bounds }
     ensures kept { IsLedger ledger.now }
-    ensures in_range { All IsPrice opened.now.prices }
-    ensures trading { IfOk result (IsTrading ledger.now txs.now opened.now.body opened.now.prices mu) }
-    ensures counted { IsCountedAt ledger.now txs.now opened.now.prices steps.old steps.new }
+    ensures in_range { All IsPrice prices.now }
+    ensures trading { IfOk result (IsTrading ledger.now txs.now body.now prices.now mu) }
+    ensures counted { IsCountedAt ledger.now txs.now prices.now steps.old steps.new }
     ensures limited { steps.new ≤ steps.old + most_clearing_searches }
     ensures rising { steps.old ≤ steps.new }
 {
     let _height = ledger.height();
-    price_ranges(&opened.prices);
-    let offers = opened.body.offers.after(ledger);
-    let trade = trade_at(alloc, offers, &opened.prices, mu, steps)?;
-    let filled = fill(alloc, offers, &opened.prices, &trade.flow)?;
+    price_ranges(prices);
+    let trade = trade_within(alloc, bounds, steps)?;
+    let filled = fill(alloc, body.offers.after(ledger), prices, &trade.flow)?;
     Ok(Trading { trade, filled })
 }
 
@@ -99,11 +102,21 @@ pub fn clear_at<L: ledger::Ledger>(
     ensures rising { steps.old ≤ steps.new }
 {
     let hash = digest_of_body(alloc, txs.items())?;
-    let body = body_of(alloc, ledger, txs.items())?;
-    let prices = copy_of(alloc, prices)?;
-    let opened = Opened { body, prices };
-    let Trading { trade, filled } = trade_body(alloc, ledger, txs.items(), mu, &opened, steps)?;
-    let Opened { body, prices } = opened;
+    let Opened {
+        body,
+        prices,
+        bounds,
+    } = open_at(alloc, ledger, txs.items(), prices, mu)?;
+    let Trading { trade, filled } = trade_body(
+        alloc,
+        ledger,
+        txs.items(),
+        mu,
+        &body,
+        &prices,
+        bounds,
+        steps,
+    )?;
     let Filled { fills, rounding } = filled;
     let parent = digest_of_parent(alloc, ledger)?;
     let after = digest_left(alloc, ledger, body, &prices, &rounding, fills.items())?;
@@ -190,9 +203,21 @@ pub fn clear_many<R: Threads + Sync, L: ledger::Ledger>(
     };
     let (hash, opened) = digest_and_prices(rt, alloc, ledger, txs.items(), by);
     let hash = hash?;
-    let opened = opened?;
-    let Trading { trade, filled } = trade_body(alloc, ledger, txs.items(), mu, &opened, steps)?;
-    let Opened { body, prices } = opened;
+    let Opened {
+        body,
+        prices,
+        bounds,
+    } = opened?;
+    let Trading { trade, filled } = trade_body(
+        alloc,
+        ledger,
+        txs.items(),
+        mu,
+        &body,
+        &prices,
+        bounds,
+        steps,
+    )?;
     let Filled { fills, rounding } = filled;
     let (parent, after) = digests_around(
         rt,

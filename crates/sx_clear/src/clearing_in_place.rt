@@ -15,6 +15,7 @@ ghost use Rattle.sx_ledger.specs.Ledger.{assets_of, most_height};
 ghost use Rattle.sx_price.specs.Limits.{IsPrice};
 ghost use Rattle.sx_tx.specs.Transactions.{list_bytes, most_transactions};
 
+use crate::body::Body;
 use crate::clearing::{Trading, trade_body};
 use crate::digests::Digests;
 use crate::filling::Filled;
@@ -29,7 +30,7 @@ use sx_block::{Block, Digest, StateDigest, WrittenBody};
 use sx_bytes::{NoMemory, Writer};
 use sx_ledger::Ledger;
 use sx_net::Steps;
-use sx_price::Mu;
+use sx_price::{Mu, Prices};
 use sx_tx::TxList;
 
 /// A block, and the encoding of its transactions.
@@ -49,7 +50,8 @@ fn closed<R: Threads + Sync>(
     txs: TxList,
     hash: Digest,
     mu: Mu,
-    opened: Opened,
+    body: Body,
+    prices: Prices,
     trading: Trading,
 ) -> Result<Block, NoMemory>
     requires parent { digest_in parent ≡ digest_of_ledger ledger }
@@ -58,17 +60,16 @@ fn closed<R: Threads + Sync>(
     requires few { length txs ≤ most_transactions }
     requires below_last { ledger.height < most_height }
     requires hash { IsBodyDigest txs hash }
-    requires body { IsBodyOf ledger txs opened.body }
-    requires assets { length opened.prices ≡ assets_of ledger }
-    requires in_range { All IsPrice opened.prices }
-    requires trading { IsTrading ledger txs opened.body opened.prices mu trading }
+    requires body { IsBodyOf ledger txs body }
+    requires assets { length prices ≡ assets_of ledger }
+    requires in_range { All IsPrice prices }
+    requires trading { IsTrading ledger txs body prices mu trading }
     ensures valid { IfOk result (IsValid ledger) }
     ensures version { IfOk result (λ block. block.header.version ≡ 1) }
     ensures txs { IfOk result (λ block. block.txs ≡ txs) }
     ensures mu { IfOk result (λ block. block.header.mu ≡ mu) }
-    ensures prices { IfOk result (λ block. block.header.prices ≡ opened.prices) }
+    ensures prices { IfOk result (λ block. block.header.prices ≡ prices) }
 {
-    let Opened { body, prices } = opened;
     let Trading { trade, filled } = trading;
     let Filled { fills, rounding } = filled;
     let height = ledger.height() + 1;
@@ -144,8 +145,24 @@ pub fn clear_in_place<R: Threads + Sync, L: ledger::Ledger>(
         searches,
     };
     let (written, opened) = written_and_opened(rt, alloc, &ledger, txs.items(), by, spare)?;
-    let trading = trade_body(alloc, &ledger, txs.items(), mu, &opened, steps)?;
+    let Opened {
+        body,
+        prices,
+        bounds,
+    } = opened;
+    let trading = trade_body(
+        alloc,
+        &ledger,
+        txs.items(),
+        mu,
+        &body,
+        &prices,
+        bounds,
+        steps,
+    )?;
     let WrittenBody { list, digest } = written;
-    let block = closed(rt, alloc, ledger, parent, txs, digest, mu, opened, trading)?;
+    let block = closed(
+        rt, alloc, ledger, parent, txs, digest, mu, body, prices, trading,
+    )?;
     Ok(Cleared { block, list })
 }

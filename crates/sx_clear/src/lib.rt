@@ -9,11 +9,13 @@
 //!
 //! The method: one pass over the body finds what it credits and the offers after it. Their quotes make
 //! curves, on which prices are searched. The offers that must and that may trade at the prices are the
-//! bounds of each pair. `solve` of `sx_level` finds a circulation of greatest value within them, or a cut.
-//! Where it finds a cut, it is asked once more, without the lower bounds: it is asked at most twice, and so
-//! the number of its searches has a bound. The value is shared out among the offers of each pair in their
-//! order, rounded to whole units. What the block leaves of the ledger, or of a copy, is hashed for its header. A thread
-//! makes the digest of a large body beside the search for prices, and that of a large ledger beside a copy and its digest.
+//! bounds of each pair. The curves hold their sums; where none are made, with no rounds or at prices that are
+//! given, the offers are summed up one by one. `solve` of `sx_level` finds a circulation of greatest value
+//! within the bounds, or a cut. Where it finds a cut, it is asked once more, without the lower bounds: it is
+//! asked at most twice, and so the number of its searches has a bound. The value is shared out among the offers
+//! of each pair in their order, rounded to whole units. What the block leaves of the ledger, or of a copy, is
+//! hashed for its header. A thread makes the digest of a large body beside the search for prices, and that of a
+//! large ledger beside a copy and its digest.
 //! In [`clear_in_place`] that thread writes the body, and others hash what it has written; the block and the body as it
 //! was written are answered.
 //! Threads also look up the accounts and offers that a large body names, but in [`clear_at`] and [`curves_of`]. In
@@ -21,9 +23,9 @@
 //! each in a part of the accounts (`sx_spread`).
 //!
 //! ```text
-//!                  .-> curves -> prices -.                .-> fills, rounding -.
-//!     body -> offers                     +-> circulation -+                    +-> block
-//!                  '-> bounds at these  -'                '-> potentials, cut -'
+//!                              .-> prices -.                          .-> fills, rounding -.
+//!     body -> offers -> curves-+           +-> bounds -> circulation -+                    +-> block
+//!                              '-----------'                          '-> potentials, cut -'
 //! ```
 //!
 //! Cost: for n transactions and offers, n log n for sorting and looking up, at most one copy of the ledger, and
@@ -40,6 +42,7 @@
 #![tactic(auto)]
 
 mod body;
+mod bounding;
 mod clearing;
 mod clearing_in_place;
 mod curves;

@@ -1,23 +1,19 @@
-//! What pairs trade at given prices.
+//! What pairs trade within given bounds.
 
-ghost use Rattle.std.specs.Prelude.{ℕ, false, ◌+◌, ◌*◌, ◌≤◌, IfOk, All, length};
-ghost use Rattle.sx_apply.specs.Bounds.{AreOffers, HasBounds};
+ghost use Rattle.std.specs.Prelude.{ℕ, ◌+◌, ◌*◌, ◌≤◌, IfOk};
+ghost use Rattle.sx_apply.specs.Bounds.{HasBounds};
 ghost use Rattle.sx_clear.specs.Searches.{most_clearing_searches};
 ghost use Rattle.sx_clear.specs.Traded.{HasNoLow, IsFreeTrade, IsTrade};
-ghost use Rattle.sx_dual.specs.Tables.{IsAssetCount, high_of as high_in};
-ghost use Rattle.sx_ledger.specs.Bounds.{high_of, low_of};
+ghost use Rattle.sx_dual.specs.Tables.{high_of as high_in};
 ghost use Rattle.sx_level.specs.Solved.{HaveDigits, most_searches};
-ghost use Rattle.sx_price.specs.Limits.{IsPrice};
 
 use std::alloc::Global;
 use std::sync::ledger::Ledger;
-use sx_apply::{bounds_of, without_low};
+use sx_apply::without_low;
 use sx_bytes::NoMemory;
 use sx_dual::{Bounds, Cut, Flow, Potentials};
-use sx_ledger::Offer;
 use sx_level::{Solved, solve};
 use sx_net::Steps;
-use sx_price::{Mu, Prices};
 
 // What each pair trades, the potentials that show that no more value could be traded, and, where lower
 // bounds were dropped, the cut that shows why.
@@ -54,7 +50,7 @@ fn trade_freely<L: Ledger>(
 }
 
 // A circulation of greatest value within the bounds. Where there is none, lower bounds are dropped.
-fn trade_within<L: Ledger>(
+pub fn trade_within<L: Ledger>(
     alloc: Global,
     bounds: Bounds,
     steps: &mut Steps<L>,
@@ -74,25 +70,4 @@ fn trade_within<L: Ledger>(
         }),
         Solved::Cut(cut) => trade_freely(alloc, &without_low(bounds), cut, steps),
     }
-}
-
-// What these offers trade at the prices.
-pub fn trade_at<L: Ledger>(
-    alloc: Global,
-    offers: &[Offer],
-    prices: &Prices,
-    mu: Mu,
-    steps: &mut Steps<L>,
-) -> Result<Trade, NoMemory>
-    requires assets { IsAssetCount (length prices.now) }
-    requires prices { All IsPrice prices.now }
-    requires offers { AreOffers (length prices.now) offers.now }
-    ensures traded { IfOk result (IsTrade (length prices.now) (low_of prices.now mu false offers.now) (high_of prices.now offers.now)) }
-    ensures counted { (b : ℕ) → HaveDigits (length prices.now) (high_of prices.now offers.now) b
-        → steps.new ≤ steps.old + 2 * most_searches (length prices.now) b }
-    ensures limited { steps.new ≤ steps.old + most_clearing_searches }
-    ensures rising { steps.old ≤ steps.new }
-{
-    let bounds = bounds_of(alloc, offers, prices, mu)?;
-    trade_within(alloc, bounds, steps)
 }

@@ -16,7 +16,7 @@ pub trade_body-requires-clause-assets : goal.trade_body-requires-clause-assets
 trade_body-requires-clause-assets g c =
     let parts = c.args.ledger.now in
     let quotes = quotes_of (body_after parts c.items.result.now).offers in
-    let prices = rw c.in_ok-opened.was at c.digest_and_prices-hash.ensures.prices in
+    let prices = rw c.in_ok-body.was at c.digest_and_prices-hash.ensures.prices in
     ap length prices
     ∙ posted_length quotes parts.prices c.args.mu c.args.rounds c.args.searches
 
@@ -24,14 +24,14 @@ pub block_of-requires-clause-terms : goal.block_of-requires-clause-terms
 block_of-requires-clause-terms g c =
     let parts = c.args.ledger.now in
     let txs = c.args.txs in
-    let opened = c.in_ok-opened.opened in
+    let opened = c.in_ok-body.field-0 in
     let trading = c.in_ok-trade.field-0 in
-    let prices = rw c.in_ok-opened.was at c.digest_and_prices-hash.ensures.prices in
+    let prices = rw c.in_ok-body.was at c.digest_and_prices-hash.ensures.prices in
     let same = ap length prices
     ∙ posted_length (quotes_of (body_after parts c.items.result.now).offers) parts.prices c.args.mu c.args.rounds
     c.args.searches in
     let found = subst (λ (xs : List Tx). IsBodyOf parts xs opened.body) c.items.ensures
-    (rw c.in_ok-opened.was at c.digest_and_prices-hash.ensures.body) in
+    (rw c.in_ok-body.was at c.digest_and_prices-hash.ensures.body) in
     let trades = subst (λ (xs : List Tx). IsTrading parts xs opened.body opened.prices c.args.mu trading)
     c.items-2.ensures c.in_ok-trade.ensures.trading in
     let left = rw c.in_ok-after.was at c.digests_around-parent.ensures.hash txs (value_of trading.trade.flow)
@@ -49,8 +49,8 @@ block_of-requires-clause-terms g c =
 pub returns-clause-mends : goal.returns-clause-mends
 returns-clause-mends g c =
     let parts = c.args.ledger.now in
-    let prices = rw c.in_ok-opened.was at c.digest_and_prices-hash.ensures.prices in
-    mends_from {E = NoMemory} parts c.args.txs c.args.mu c.args.rounds c.args.searches c.in_ok-opened.opened.prices
+    let prices = rw c.in_ok-body.was at c.digest_and_prices-hash.ensures.prices in
+    mends_from {E = NoMemory} parts c.args.txs c.args.mu c.args.rounds c.args.searches c.in_ok-body.field-0.prices
     (Ok c.block_of.result)
     (prices ∙ ap (λ (xs : List Tx). posted_at parts xs c.args.mu c.args.rounds c.args.searches) c.items.ensures)
     c.block_of.ensures.txs c.block_of.ensures.prices
@@ -64,7 +64,7 @@ returns-clause-dropped g c = drops_exactly c.args.ledger.now c.block_of.result (
 pub returns-clause-counted : goal.returns-clause-counted
 returns-clause-counted g c =
     let parts = c.args.ledger.now in
-    let prices = c.in_ok-opened.opened.prices in
+    let prices = c.in_ok-body.field-0.prices in
     counted_block {E = NoMemory} parts c.args.txs prices c.args.steps.now c.trade_body.new.steps (Ok c.block_of.result)
     (subst (λ (xs : List Tx). IsCountedAt parts xs prices c.args.steps.now c.trade_body.new.steps) c.items-2.ensures
     c.trade_body.ensures.counted)

@@ -17,15 +17,14 @@ pub block_of-requires-clause-terms : goal.block_of-requires-clause-terms
 block_of-requires-clause-terms g c =
     let parts = c.args.ledger in
     let txs = c.args.txs in
-    let opened = c.args.opened in
     let trading = c.args.trading in
     let trades = c.requires.trading in
     let left = c.in_ok-after.ensures.hash txs (value_of trading.trade.flow) c.requires.admissible c.requires.body
     (c.items.ensures ∙ trades.fills) in
-    rw c.of-snapshot.ensures (terms_of parts txs opened.body trading
+    rw c.of-snapshot.ensures (terms_of parts txs c.args.body trading
     (record {
       mu = c.args.mu;
-      prices = opened.prices;
+      prices = c.args.prices;
       trade = trading.trade;
       rounding = trading.filled.rounding;
       after = c.in_ok-after.after;

@@ -17,6 +17,6 @@ returns-clause-prices g c =
     let by = c.args.by in
     let parts = c.args.ledger.now in
     ◌∙◌ {b = posted (quotes_of c.after.result.now) parts.prices by.mu by.rounds by.searches}
-    c.in_ok-prices.ensures.exact
+    c.in_ok-prices.ensures.prices
     (ap (λ (os : List Offer). posted (quotes_of os) parts.prices by.mu by.rounds by.searches)
     (c.after.ensures ∙ offers_is parts c.args.txs.now c.in_ok-body.body c.requires.admissible c.in_ok-body.ensures))
