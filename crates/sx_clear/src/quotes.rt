@@ -9,7 +9,7 @@ use sx_curve::Quote;
 use sx_ledger::Offer;
 
 // What an offer says of price and amount.
-fn quote_of(offer: &Offer) -> Quote
+pub fn quote_of(offer: &Offer) -> Quote
     ensures { result ≡ the_quote_of offer.now }
 {
     Quote {
