@@ -17,6 +17,7 @@
 //!
 //! The search ends where nothing is to mend, where steps are too small, or after the rounds that it
 //! is given. Its result has at most the imbalance of its start.
+//! Steps that are too small to move any price are given up without a look at the demand.
 //!
 //! Cost: for n assets each round takes 2 n² searches in supply curves, and n² additions. Each search
 //! begins where that of an earlier round ended, and takes a few steps while prices move little. From 28

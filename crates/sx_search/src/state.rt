@@ -48,6 +48,11 @@ impl State {
             self.exponent,
             &mut trial.prices,
         );
+        // Steps become so small at last that no price moves. Then as much imbalance is left as before.
+        if trial.prices.as_slice() == held.prices.as_slice() {
+            self.exponent += 1;
+            return;
+        }
         trial.update(rt, curves, mu);
         if self.trial.off < self.held.off {
             mem::swap(&mut self.held, &mut self.trial);
