@@ -1,6 +1,6 @@
 //! Supply curves that grow by one quote after another.
 
-ghost use Rattle.std.specs.Prelude.{◌≡◌, ◌+◌, ◌^◌, ◌≤◌, ◌++◌, [], ◌∷◌, false, true, IfNone, IfOk, IfSome};
+ghost use Rattle.std.specs.Prelude.{◌≡◌, ◌+◌, ◌^◌, ◌≤◌, ◌++◌, [], ◌∷◌, false, true, IfNone, IfOk, IfSome, OnErr};
 ghost use Rattle.sx_curve.specs.Curves.{AreInOrder, AreQuotes};
 ghost use Rattle.sx_curve.specs.Quotes.{amounts, pair_of, weighted_amounts};
 
@@ -72,6 +72,8 @@ impl CurvesBuilder {
         requires fits { amounts (pair_of quote.now.sell quote.now.buy self.old) + quote.now.amount ≤ 2 ^ 62 }
         ensures taken { IfOk result (λ taken. taken ≡ true → self.new ≡ self.old ++ quote.now ∷ []) }
         ensures late { IfOk result (λ taken. taken ≡ false → AreInOrder (self.old ++ quote.now ∷ []) → ⊥) }
+        ensures passed { IfOk result (λ taken. taken ≡ false → self.new ≡ self.old) }
+        ensures kept { OnErr result (self.new ≡ self.old) }
     {
         let Some(before) = self.sums_before(quote) else {
             return Ok(false);
