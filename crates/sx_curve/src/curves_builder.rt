@@ -67,7 +67,8 @@ impl CurvesBuilder {
     }
 
     /// Takes in a quote, unless one that it should stand before is there already, and answers whether it took it in.
-    /// `NoMemory`, which comes where there is memory for fewer quotes, is the only error; nothing has changed then.
+    /// The amounts of the quotes of its pair, with its own, add up to at most `2^62`. `NoMemory`, which comes where there
+    /// is memory for fewer quotes, is the only error. Nothing has changed then, nor where the quote is passed over.
     pub fn push(&mut self, quote: &Quote) -> Result<bool, NoMemory>
         requires fits { amounts (pair_of quote.now.sell quote.now.buy self.old) + quote.now.amount ≤ 2 ^ 62 }
         ensures taken { IfOk result (λ taken. taken ≡ true → self.new ≡ self.old ++ quote.now ∷ []) }

@@ -66,6 +66,7 @@ fn bracket_downward(pair: &[Point], num: u128, den: u128, from: usize) -> (usize
 }
 
 // Two places that the answer is between, found from any place.
+#[inline(always)]
 fn bracket(pair: &[Point], num: u128, den: u128, near: usize) -> (usize, usize)
     requires in_order { IsNonDecreasingBy (λ point. point.limit) pair.now }
     requires den { den ≤ 2 ^ 60 }
@@ -81,6 +82,7 @@ fn bracket(pair: &[Point], num: u128, den: u128, near: usize) -> (usize, usize)
 
 // How many points of a pair, in order of their limits, have a limit of at most num over den. It is
 // found soonest where it is near a guess.
+#[inline(always)]
 pub(crate) fn count_below(pair: &[Point], num: u128, den: u128, near: usize) -> usize
     requires in_order { IsNonDecreasingBy (λ point. point.limit) pair.now }
     requires den { den ≤ 2 ^ 60 }
