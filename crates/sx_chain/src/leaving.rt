@@ -7,7 +7,7 @@ ghost use Rattle.sx_meaning.specs.Items.{state_record};
 
 use std::alloc::Global;
 use std::thread::{Threads, join};
-use sx_block::{Digest, digest_of, ledger_digest, par_ledger_digest};
+use sx_block::{Digest, digest_of, ledger_digest};
 use sx_bytes::{NoMemory, Writer};
 use sx_input::written;
 use sx_ledger::Ledger;
@@ -79,7 +79,7 @@ pub fn left_of<R: Threads>(
 {
     if !is_wanted {
         return Ok(Left {
-            digest: par_ledger_digest(rt, alloc, ledger)?,
+            digest: ledger_digest(alloc, ledger)?,
             state: None,
         });
     }

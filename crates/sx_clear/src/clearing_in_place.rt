@@ -101,8 +101,9 @@ fn closed<R: Threads + Sync>(
 /// The block that [`clear_many`](crate::clear_many) answers, of a ledger that the caller needs no more and whose digest
 /// it knows or has a thread make. The ledger changes in place to what the block leaves, and so no copy of it is made.
 /// Threads change the accounts where there are many, and credit the sellers where many offers trade, each in a part of
-/// the accounts. The call waits last of all for the thread that makes the digest. Where it fails before that, this
-/// thread is let go.
+/// the accounts. Where 32,768 offers or more are left, one encodes these, in 34 bytes each, while the accounts are
+/// hashed. The call waits last of all for the thread that makes the digest. Where it fails before that, this thread is
+/// let go.
 ///
 /// Beside the block it answers the encoding of the transactions. It is written over `spare`, whose bytes are lost, and
 /// takes memory only where that holds too little. With 8,192 transactions or more, a thread writes them while the prices

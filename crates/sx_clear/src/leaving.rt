@@ -49,7 +49,8 @@ pub fn digest_after(
     ledger_digest(alloc, &left)
 }
 
-// The same, with at most so many threads that change the accounts and credit the sellers.
+// The same, with at most so many threads that change the accounts and credit the sellers, and one that encodes the
+// offers that are left, where these are many.
 pub fn par_digest_after<R: Threads + Sync>(
     rt: &R,
     alloc: Global,

@@ -20,7 +20,8 @@
 //! was written are answered.
 //! Threads also look up the accounts and offers that a large body names, but in [`clear_at`] and [`curves_of`]. In
 //! [`clear_in_place`] they change the accounts too where there are many, and credit the sellers where many offers trade,
-//! each in a part of the accounts (`sx_spread`).
+//! each in a part of the accounts (`sx_spread`), and one encodes the offers that are left, where these are many, while
+//! the accounts are hashed.
 //!
 //! ```text
 //!                              .-> prices -.                          .-> fills, rounding -.

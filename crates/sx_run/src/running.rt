@@ -164,7 +164,8 @@ fn conclude<K: Sink>(sink: &mut K, found: Result<Output, Stop>) -> Status
 /// block whose transactions take 256 KiB or more is decoded while a thread of its own makes their digest, and the
 /// call returns where that thread returns. Where no thread can be started, the two are done in turn. What a block
 /// with many transactions names is looked up by threads, and a block that meets many accounts or fills is applied by
-/// threads, at most four for `check`; the call returns where these return.
+/// threads, at most four for `check`. For `seal` one encodes the offers that a block leaves, where these are 32,768 or
+/// more. The call returns where these return.
 pub fn run<R: Threads + Sync, S: Source, K: Sink, G: Gate + Sync, L: Ledger>(
     rt: &R,
     alloc: Global,
