@@ -12,7 +12,7 @@ use Rattle.std.proofs.lemmas.Option.{get_or_from_slice_get}
 use Rattle.std.proofs.lemmas.Nat.{leading_top, shr_below}
 use Rattle.std.proofs.Math.Nat.{pow-suc, zero-div}
 use Rattle.std.proofs.Math.Pow.{shr_mono, pow_mono}
-use Rattle.sx_ledger.specs.Buckets.{IsBegin, AreBegins}
+use Rattle.sx_ledger.specs.Buckets.{IsBegin, AreBegins, AreBuckets}
 use Rattle.sx_ledger.proofs.SearchNumbers.{rises_far, searched}
 
 -- a later id is of no earlier bucket
@@ -31,6 +31,14 @@ begins_rise xs shift b p q first second =
           let high = second.later q (omega arith) (omega (arith, first.within)) in absurd (omega arith)
       | inr le ↦ le
     ]
+
+-- an id beyond the last bucket is not there
+pub past_last : (xs : List ℕ) (shift : ℕ) (begins : List ℕ) → AreBuckets xs shift begins → (x : ℕ)
+    → length begins - 1 ≤ x / 2 ^ shift → Contains xs x → ⊥
+past_last xs shift begins buckets x far (k, lt, here) =
+    let is : get_or xs k 0 ≡ x = get_or_default xs k 0 x lt ∙ here in
+    let covered : get_or xs k 0 / 2 ^ shift + 1 < length begins = buckets.covered k lt in
+    omega (arith, far, rw is at covered)
 
 -- what a read of the places gives
 pub begin_at : (xs : List ℕ) (shift : ℕ) (begins : List ℕ) → AreBegins xs shift begins → (b p d : ℕ)

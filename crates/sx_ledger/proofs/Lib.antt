@@ -48,3 +48,4 @@ pub mod DecodedRanges
 pub mod BucketLaws
 pub mod Migrating
 pub mod FaultPlaces
+pub mod PlaceTableLaws

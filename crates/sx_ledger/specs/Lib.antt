@@ -14,3 +14,4 @@ pub mod Trade
 pub mod EffectLaws
 pub mod Places
 pub mod Buckets
+pub mod PlaceTable

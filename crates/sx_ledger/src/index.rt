@@ -7,6 +7,7 @@ ghost use Rattle.sx_ledger.specs.Buckets.{IsBegin, AreBegins};
 ghost use Rattle.sx_ledger.specs.Ledger.{ids, most_accounts};
 
 use crate::account::Account;
+use crate::place_table::{BLOCK, PlaceTable};
 use std::alloc::Global;
 use std::marker::Model;
 use sx_base::AccountId;
@@ -16,10 +17,12 @@ use sx_bytes::NoMemory;
 ///
 /// Ids that are equal after a shift to the right are one bucket, and where each bucket begins is in a
 /// list of its own, which has a half to the whole of the length of the list of ids where there are
-/// many: a search looks through one bucket alone.
+/// many: a search looks through one bucket alone. Where ids lie close together, a table tells their
+/// places without a search.
 #[derive(Debug, Drop)]
 pub struct AccountIndex {
     entries: Vec<u64>,
+    table: PlaceTable,
     begins: Vec<u32>,
     shift: u32,
 }
@@ -29,12 +32,13 @@ impl Model for AccountIndex {
     ghost use Rattle.std.specs.List.Sorted.{IsStrictlyIncreasing};
     ghost use Rattle.sx_ledger.specs.Buckets.{AreBuckets};
     ghost use Rattle.sx_ledger.specs.Ledger.{most_accounts};
+    ghost use Rattle.sx_ledger.specs.PlaceTable.{IsTable};
 
     ghost Value = { List ℕ };
 
     ghost view = { λ index. index.entries.items };
 
-    ghost invariant = { λ index. IsStrictlyIncreasing index.entries.items × (length index.entries.items ≤ most_accounts) × AreBuckets index.entries.items index.shift index.begins.items };
+    ghost invariant = { λ index. IsStrictlyIncreasing index.entries.items × (length index.entries.items ≤ most_accounts) × AreBuckets index.entries.items index.shift index.begins.items × IsTable index.entries.items index.table };
 }
 
 // A shift that leaves of the greatest id less than twice the count.
@@ -91,17 +95,31 @@ fn greatest_of(entries: &[u64]) -> u64
     }
 }
 
+// How many buckets are wanted beside a table. Where it has numbers, they serve no id that is there.
+fn wanted_buckets(table: &PlaceTable, ids: usize) -> u64
+    requires { ids ≤ most_accounts }
+    ensures some { 1 ≤ result }
+    ensures few { result ≤ ids / 2 + 1 }
+{
+    if table.counts.is_empty() {
+        return ids as u64 / 2 + 1;
+    }
+    1
+}
+
 // The index of ids that rise.
 fn with_buckets(alloc: Global, entries: Vec<u64>) -> Result<AccountIndex, NoMemory>
     requires by_id { IsStrictlyIncreasing entries.items }
     requires few { length entries.items ≤ most_accounts }
     ensures { IfOk result (λ index. index ≡ entries.items) }
 {
+    let table = PlaceTable::of(alloc, &entries)?;
     let greatest = greatest_of(&entries);
-    let shift = shift_of(greatest, entries.len() as u64 / 2 + 1);
+    let shift = shift_of(greatest, wanted_buckets(&table, entries.len()));
     let begins = begins_of(alloc, &entries, shift, (greatest >> shift) + 1)?;
     Ok(AccountIndex {
         entries,
+        table,
         begins,
         shift,
     })
@@ -157,14 +175,32 @@ impl AccountIndex {
         with_buckets(alloc, entries)
     }
 
-    /// The place of the account of this id, or `None` where there is no such account. The search takes
-    /// at most as many steps as the number of accounts has binary digits, and a few where the ids are
-    /// spread evenly.
+    // What the table tells of an id: its place, or that it is none. It tells nothing of an id that it does not reach.
+    fn find_in_table(&self, id: u64) -> Option<Option<u32>>
+        ensures found { IfSome result (λ told. IfSome told (λ place. slice_get self.now place ≡ Some id)) }
+        ensures absent { IfSome result (λ told. IfNone told (Contains self.now id → ⊥)) }
+        ensures by_id { IsStrictlyIncreasing self.now }
+    {
+        let far = id.checked_sub(self.table.first)? as usize;
+        let count = *self.table.counts.get(far)?;
+        if count == 0 {
+            return Some(None);
+        }
+        let place = self.table.starts[far / BLOCK] + u32::from(count) - 1;
+        Some(Some(place))
+    }
+
+    /// The place of the account of this id, or `None` where there is no such account. Where the ids lie
+    /// close together, a table tells it. Else a search takes at most as many steps as the number of
+    /// accounts has binary digits, and a few where the ids are spread evenly.
     pub fn find(&self, id: AccountId) -> Option<u32>
         ensures found { IfSome result (λ place. slice_get self.now place ≡ Some id.0) }
         ensures absent { IfNone result (Contains self.now id.0 → ⊥) }
         ensures by_id { IsStrictlyIncreasing self.now }
     {
+        if let Some(told) = self.find_in_table(id.0) {
+            return told;
+        }
         let bucket = (id.0 >> self.shift) as usize;
         if bucket >= self.begins.len().saturating_sub(1) {
             return None;

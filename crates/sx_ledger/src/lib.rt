@@ -53,6 +53,7 @@ mod offer_reading;
 mod offer_standing;
 mod offer_sums;
 mod parts;
+mod place_table;
 mod places;
 mod reading;
 mod sizes;
