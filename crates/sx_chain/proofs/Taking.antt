@@ -15,7 +15,7 @@ use Rattle.sx_follow.specs.Follower.{Followed, begun}
 use Rattle.sx_input.specs.declared.stop.Stop.{Stop}
 use Rattle.sx_input.specs.declared.stop.Stop.TheVariants as stop
 use Rattle.sx_input.specs.Found.{Found}
-use Rattle.sx_input.specs.Stream.{FailsAs, FaultsAt, Reads, Stops, TakesRecord, UnlessReadFault, WasAtEnd}
+use Rattle.sx_input.specs.Stream.{FailsAs, FaultsAt, Reads, Stops, TakesRecord, WasAtEnd}
 use Rattle.sx_input.proofs.Faults.{bad_payload, bad_record, no_record, one_too_many}
 use Rattle.sx_input.proofs.Readings.{HasRead, concludes, nothing_read, stops as stops_here, took_then}
 use Rattle.sx_layout.specs.declared.outcome.Outcome.{Outcome}
@@ -299,13 +299,3 @@ fewer place next found steps =
     let blocks = ap (λ (f : Followed). f.blocks) steps.follower in
     rw (blocks, steps.after) (fewer_then steps.item place.follower.blocks place.after_block steps.listed.0
     (subst (λ (l : List Block). length l ≤ most_blocks) blocks steps.may_go_on.few))
-
--- ---- faults
-
--- what holds at each answer but a fault of reading, where one fact follows from another
-pub steady_too : (X Y : Type 0) (s : Stop) (one other : Type 0) → (one → other)
-    → UnlessReadFault {X = X} (Err s) one → UnlessReadFault {X = Y} (Err s) other
-steady_too X Y stop.NoMemory one other follows is = follows is
-steady_too X Y (stop.Malformed fault) one other follows is = follows is
-steady_too X Y (stop.Refused number why) one other follows is = follows is
-steady_too X Y stop.ReadFault one other follows is = tt

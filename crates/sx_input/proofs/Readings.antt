@@ -8,7 +8,7 @@ use Rattle.sx_check.specs.declared.invalid.Invalid.{Invalid}
 use Rattle.sx_input.specs.declared.stop.Stop.{Stop}
 use Rattle.sx_input.specs.declared.stop.Stop.TheVariants as stop
 use Rattle.sx_input.specs.Found.{ConcludesAs, Found}
-use Rattle.sx_input.specs.Stream.{FaultsAt, Stops, WasAtEnd}
+use Rattle.sx_input.specs.Stream.{FaultsAt, Stops, UnlessReadFault, WasAtEnd}
 use Rattle.sx_ledger.specs.declared.parts.Parts.{Parts}
 use Rattle.sx_ledger.specs.Ledger.{IsLedger}
 use Rattle.sx_meaning.specs.Answers.{FindsIn, FindsInSome, MayWriteIn}
@@ -22,6 +22,16 @@ use Rattle.sx_meaning.proofs.ItemLists.{come_then, needed_listed, records_then}
 use Rattle.sx_record.specs.Stream.{Took}
 use Rattle.sx_record.specs.Tags.{state_tag}
 use Rattle.sx_words.specs.declared.command.Command.{Command}
+
+-- ---- faults
+
+-- what holds at each answer but a fault of reading, where one fact follows from another
+pub steady_too : (X Y : Type 0) (s : Stop) (one other : Type 0) → (one → other)
+    → UnlessReadFault {X = X} (Err s) one → UnlessReadFault {X = Y} (Err s) other
+steady_too X Y stop.NoMemory one other follows is = follows is
+steady_too X Y (stop.Malformed fault) one other follows is = follows is
+steady_too X Y (stop.Refused number why) one other follows is = follows is
+steady_too X Y stop.ReadFault one other follows is = tt
 
 -- ---- what was taken
 

@@ -1,11 +1,10 @@
 use Rattle.std.proofs.Common.{[], ◌∷◌, List, ℕ, refl, sym, subst, ◌∙◌}
 use Rattle.std.specs.Prelude.{IsTrue}
 use Rattle.std.proofs.lemmas.Result.{err_from_is_err_and}
-use Rattle.sx_input.proofs.Readings.{concludes, has_state, nothing_read, one_more, stops}
+use Rattle.sx_input.proofs.Readings.{concludes, has_state, nothing_read, one_more, steady_too, stops}
 use Rattle.sx_meaning.specs.Items.{block, state}
 use Rattle.sx_meaning.proofs.ItemLists.{needed_listed}
 use Rattle.sx_record.specs.Tags.{block_tag}
-use Rattle.sx_chain.proofs.Taking.{steady_too}
 use Rattle.sx_chain.proofs.checking.check.Goals as goal
 use Rattle.sx_words.specs.declared.command.Command.TheVariants.{Check}
 

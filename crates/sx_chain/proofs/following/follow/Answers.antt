@@ -1,10 +1,9 @@
 use Rattle.std.proofs.Common.{ℕ, List, Option, rules, subst, sym, ◌∙◌}
 use Rattle.std.proofs.lemmas.Result.{err_from_is_err_and}
 use Rattle.std.specs.Prelude.{IsTrue}
-use Rattle.sx_chain.proofs.Taking.{begins, fails, fewer, finishes, goes_on, never_began, steady_too}
-use Rattle.sx_chain.proofs.Taking.{stops}
+use Rattle.sx_chain.proofs.Taking.{begins, fails, fewer, finishes, goes_on, never_began, stops}
 use Rattle.sx_chain.proofs.following.follow.Goals as goal
-use Rattle.sx_input.proofs.Readings.{from_zero}
+use Rattle.sx_input.proofs.Readings.{from_zero, steady_too}
 use Rattle.sx_record.specs.declared.frame.Record.{Record}
 
 pub returns-in_err-opening-clause-found : goal.returns-in_err-opening-clause-found

@@ -1,7 +1,8 @@
-use Rattle.std.proofs.Common.{[], ◌∷◌, refl, subst}
+use Rattle.std.proofs.Common.{[], ◌∷◌, List, ℕ, refl, sym, subst, ◌∙◌}
+use Rattle.std.specs.Prelude.{IsTrue}
 use Rattle.std.proofs.lemmas.Result.{err_from_is_err_and}
 use Rattle.sx_input.specs.Found.{ConcludesAs}
-use Rattle.sx_input.proofs.Readings.{concludes, from_zero, has_state, one_more, stops}
+use Rattle.sx_input.proofs.Readings.{concludes, from_zero, has_state, one_more, steady_too, stops}
 use Rattle.sx_meaning.specs.Items.{candidates, state}
 use Rattle.sx_meaning.proofs.ItemLists.{needed_listed}
 use Rattle.sx_ledger.specs.declared.parts.Parts.{Parts}
@@ -47,3 +48,13 @@ returns-clause-found g c =
     c.in_ok-end.ensures.ended refl
     (subst (λ (parts : Parts). ConcludesAs words (state parts ∷ candidates txs.held ∷ []) c.kept.result)
     c.in_ok-ledger.ensures c.kept.ensures.concludes)
+
+pub returns-in_err-end-clause-steady : goal.returns-in_err-end-clause-steady
+returns-in_err-end-clause-steady g c =
+    let p = err_from_is_err_and c.from_residual-in_err-end.result c.from_residual-in_err-end.ensures.1 in
+    rw (p.1, p.2) (steady_too (Unit {0}) (List ℕ) c.in_err-end.field-0.0 _ _
+    (λ ended is.
+    let first = subst IsTrue (sym c.in_ok-opening.ensures.kept) is in
+    ended (subst IsTrue (sym c.in_ok-candidates.ensures.kept) first)
+    ∙ c.in_ok-candidates.ensures.steady first ∙ c.in_ok-opening.ensures.steady is)
+    c.in_err-end.ensures.steady)
