@@ -18,10 +18,11 @@ use sx_base::Source;
 use sx_block::{Block, read_block, validity_laws};
 use sx_check::check;
 use sx_clear::clear;
-use sx_ledger::{Ledger, read_state};
+use sx_ledger::Ledger;
 use sx_net::Steps;
 use sx_price::Mu;
 use sx_record::{Record, next_record, tag};
+use sx_state::read_state;
 use sx_tx::TxList;
 
 pub const NAME: &str = "clear";

@@ -10,8 +10,9 @@ use std::rt::Clock;
 use std::thread::Threads;
 use std::time::Instant;
 use sx_base::Source;
-use sx_ledger::{Ledger, read_state};
+use sx_ledger::Ledger;
 use sx_record::{Record, next_record, tag};
+use sx_state::read_state;
 use sx_tx::{TxList, read_candidates};
 use sx_workers::{NoGate, gather_all};
 

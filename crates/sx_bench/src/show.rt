@@ -5,7 +5,7 @@ use crate::state::State;
 use anyhow::Result;
 use std::alloc::Global;
 use sx_bytes::Writer;
-use sx_ledger::read_state;
+use sx_state::read_state;
 use sx_text::{Shown, show};
 
 pub const NAME: &str = "show";

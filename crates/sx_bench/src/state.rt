@@ -9,7 +9,8 @@ use rand_xoshiro::Xoshiro256PlusPlus;
 use std::alloc::Global;
 use sx_base::{AccountId, AssetId, Seq};
 use sx_bytes::Writer;
-use sx_ledger::{Ledger, Offer, read_state};
+use sx_ledger::{Ledger, Offer};
+use sx_state::{read_state, write_state};
 
 pub const NAME: &str = "state";
 
@@ -52,7 +53,7 @@ impl Benchmark for State {
     fn run(&self, alloc: Global) -> Result<Writer> {
         let ledger = read_state(alloc, self.bytes())?;
         let mut again = Writer::new(alloc);
-        ledger.write_state(&mut again)?;
+        write_state(&mut again, &ledger)?;
         Ok(again)
     }
 

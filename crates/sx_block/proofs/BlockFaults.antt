@@ -12,9 +12,9 @@ use Rattle.sx_bytes.specs.Grammar.{between, field_at, many_at}
 use Rattle.sx_bytes.proofs.FaultPlaces.{IsAny, IsOn, Keeps, Stays, either, field_stays, many_stays, ordered_stays}
 use Rattle.sx_bytes.proofs.FaultPlaces.{payload_faults_within, raw_stays, tested, then}
 use Rattle.sx_ledger.specs.Body.{tx_before}
-use Rattle.sx_ledger.specs.Decoding.{buy_at, price_at, sell_at, units_field_at}
+use Rattle.sx_state.specs.Decoding.{buy_at, price_at, sell_at, units_field_at}
 use Rattle.sx_ledger.specs.Ledger.{most_height}
-use Rattle.sx_ledger.proofs.FaultPlaces.{buy_stays, price_stays, sell_stays, units_stay}
+use Rattle.sx_state.proofs.FaultPlaces.{buy_stays, price_stays, sell_stays, units_stay}
 use Rattle.sx_tx.specs.TransactionDecoding.{tx_at}
 use Rattle.sx_tx.specs.Transactions.{most_transactions}
 use Rattle.sx_tx.proofs.FaultPlaces.{tx_stays}

@@ -24,8 +24,8 @@ use Rattle.sx_bytes.proofs.Parts.{Reading, TakesAll, ReadsAgain, two_at, two_tak
 use Rattle.sx_bytes.proofs.Parts.{three_again}
 use Rattle.sx_bytes.proofs.DecodingSteps.{bytes_after, range_takes, range_again, again_then}
 use Rattle.sx_price.specs.Limits.{IsPrice}
-use Rattle.sx_ledger.specs.Decoding.{price_at, units_field_at}
-use Rattle.sx_ledger.proofs.DependentParts.{chained_takes, chained_again}
+use Rattle.sx_state.specs.Decoding.{price_at, units_field_at}
+use Rattle.sx_state.proofs.DependentParts.{chained_takes, chained_again}
 
 -- ---- 32 bytes as they are
 

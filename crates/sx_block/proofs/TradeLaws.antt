@@ -24,8 +24,8 @@ use Rattle.sx_bytes.proofs.Parts.{Reading, TakesAll, ReadsAgain, made_is}
 use Rattle.sx_bytes.proofs.DecodingSteps.{bytes_after, range_takes, range_again, again_then}
 use Rattle.sx_dual.specs.declared.cut.Cut.{Cut}
 use Rattle.sx_dual.specs.Tables.{FlowTable, IsFlow}
-use Rattle.sx_ledger.specs.Decoding.{sell_at, buy_at}
-use Rattle.sx_ledger.proofs.DependentParts.{guard_takes, guard_again}
+use Rattle.sx_state.specs.Decoding.{sell_at, buy_at}
+use Rattle.sx_state.proofs.DependentParts.{guard_takes, guard_again}
 
 abbrev IsBought : ℕ → ℕ → ℕ → Type 0
 IsBought n sell buy = (buy < n) × (buy ≢ sell)

@@ -13,7 +13,7 @@ use Rattle.sx_bytes.specs.Grammar.{◌>>=◌, or_fault, between, field_at, many_
 use Rattle.sx_dual.specs.declared.cut.Cut.{Cut}
 use Rattle.sx_dual.specs.Tables.{FlowTable}
 use Rattle.sx_ledger.specs.Body.{tx_before}
-use Rattle.sx_ledger.specs.Decoding.{price_at, units_field_at, sell_at, buy_at}
+use Rattle.sx_state.specs.Decoding.{price_at, units_field_at, sell_at, buy_at}
 use Rattle.sx_ledger.specs.Ledger.{most_height}
 use Rattle.sx_tx.specs.declared.tx.Tx.{Tx}
 use Rattle.sx_tx.specs.TransactionDecoding.{tx_at}

@@ -4,7 +4,7 @@ use Rattle.std.specs.List.{flat_map}
 use Rattle.sha2.specs.Hashers.{Holds256}
 use Rattle.sha2.specs.declared.Sha256.{Sha256}
 use Rattle.sx_ledger.specs.declared.parts.Parts.{Parts}
-use Rattle.sx_ledger.specs.Encoding.{offer_bytes, state_bytes}
+use Rattle.sx_state.specs.Encoding.{offer_bytes, state_bytes}
 use Rattle.sx_record.specs.Frame.{record_bytes}
 use Rattle.sx_record.specs.Tags.{state_tag}
 

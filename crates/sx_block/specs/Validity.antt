@@ -18,7 +18,7 @@ use Rattle.sx_ledger.specs.declared.parts.Parts.{Parts}
 use Rattle.sx_ledger.specs.Body.{body_after, cancelled, created, made, spendable}
 use Rattle.sx_ledger.specs.Bounds.{high_of, low_of}
 use Rattle.sx_ledger.specs.Effects.{debits}
-use Rattle.sx_ledger.specs.Encoding.{state_bytes}
+use Rattle.sx_state.specs.Encoding.{state_bytes}
 use Rattle.sx_ledger.specs.Fills.{IsRounding}
 use Rattle.sx_ledger.specs.Ledger.{assets_of, most_accounts, most_height, most_offers}
 use Rattle.sx_ledger.specs.Order.{same_key}

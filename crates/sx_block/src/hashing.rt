@@ -17,6 +17,7 @@ use std::alloc::Global;
 use sx_bytes::{NoMemory, Writer};
 use sx_ledger::Ledger;
 use sx_record::tag;
+use sx_state::{state_length, write_opening};
 use sx_tx::Tx;
 
 /// SHA-256 of these bytes. It takes no memory.
@@ -54,8 +55,8 @@ pub fn hash_before_offers(piece: &mut Writer, ledger: &Ledger) -> Result<Sha256,
     };
     let mut hasher = Sha256::new();
     piece.put_u8(tag::STATE)?;
-    piece.put_u32(ledger.state_length())?;
-    ledger.write_opening(piece)?;
+    piece.put_u32(state_length(ledger))?;
+    write_opening(piece, ledger)?;
     add_written(&mut hasher, piece);
     add_entries(&accounts, &mut hasher, piece, parts.accounts.items())?;
     piece.put_u32(ledger.offers())?;

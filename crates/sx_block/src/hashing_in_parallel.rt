@@ -5,7 +5,7 @@ ghost use Rattle.std.specs.List.{flat_map};
 ghost use Rattle.sx_block.specs.Digest.{IsDigest};
 ghost use Rattle.sx_block.specs.Hashing.{HoldsAllButOffers};
 ghost use Rattle.sx_block.specs.Validity.{digest_of_ledger};
-ghost use Rattle.sx_ledger.specs.Encoding.{offer_bytes};
+ghost use Rattle.sx_state.specs.Encoding.{offer_bytes};
 
 use crate::digest::Digest;
 use crate::hashing::{hash_before_offers, ledger_digest};
@@ -13,7 +13,8 @@ use sha2::{Digest as Hasher, Sha256};
 use std::alloc::Global;
 use std::thread::{Threads, join};
 use sx_bytes::{NoMemory, Writer};
-use sx_ledger::{Ledger, write_offers};
+use sx_ledger::Ledger;
+use sx_state::write_offers;
 
 // From how many offers on a thread of its own encodes them. For fewer it is not worth starting one.
 const MANY_OFFERS: u32 = 32_768;

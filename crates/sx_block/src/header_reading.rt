@@ -4,7 +4,7 @@
 ghost use Rattle.std.specs.Prelude.{◌≡◌, ◌≤◌, IfOk, vec_len};
 ghost use Rattle.sx_block.specs.Decoding.{digest_at, potential_at, front_at, market_at, outcome_at, header_at};
 ghost use Rattle.sx_bytes.specs.Grammar.{DecodesOrStrays, MayDecodeOrStray, many_at};
-ghost use Rattle.sx_ledger.specs.Decoding.{units_field_at};
+ghost use Rattle.sx_state.specs.Decoding.{units_field_at};
 
 use crate::digest::Digest;
 use crate::header::Header;
@@ -13,8 +13,9 @@ use std::alloc::Global;
 use sx_base::{Amount, AssetId, BalanceVec, Balances};
 use sx_bytes::{Form, FormFault, ReadError, Reader};
 use sx_dual::{Cut, Flow, Potentials};
-use sx_ledger::{Ledger, read_prices};
+use sx_ledger::Ledger;
 use sx_price::{Mu, Prices};
+use sx_state::read_prices;
 
 // The greatest version.
 const MOST_VERSION: u8 = 2;

@@ -5,12 +5,13 @@ ghost use Rattle.std.specs.List.{flat_map};
 ghost use Rattle.sha2.specs.Hashers.{Holds256};
 ghost use Rattle.sx_ledger.specs.declared.account.Account.{Account as OneAccount};
 ghost use Rattle.sx_ledger.specs.declared.offer.Offer.{Offer as OneOffer};
-ghost use Rattle.sx_ledger.specs.Encoding.{account_bytes, offer_bytes};
+ghost use Rattle.sx_state.specs.Encoding.{account_bytes, offer_bytes};
 ghost use Rattle.sx_tx.specs.Transactions.{tx_bytes};
 
 use sha2::{Digest as Hasher, Sha256};
 use sx_bytes::{NoMemory, Writer};
-use sx_ledger::{Account, Offer, write_accounts, write_offers};
+use sx_ledger::{Account, Offer};
+use sx_state::{write_accounts, write_offers};
 use sx_tx::{Tx, write_tx};
 
 // How many entries are written before their bytes are hashed, which are then still in a processor's cache.

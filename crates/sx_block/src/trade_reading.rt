@@ -5,7 +5,7 @@ ghost use Rattle.sx_block.specs.Decoding.{trade_at, trades_at, flow_at, set_at, 
 ghost use Rattle.sx_block.specs.Trades.{IsTrade, trade_before};
 ghost use Rattle.sx_bytes.specs.declared.fault.ReadError.TheVariants as read_error;
 ghost use Rattle.sx_bytes.specs.Grammar.{DecodesOrStrays, MayDecodeOrStray, may_follow};
-ghost use Rattle.sx_ledger.specs.Decoding.{sell_at, buy_at};
+ghost use Rattle.sx_state.specs.Decoding.{sell_at, buy_at};
 
 use crate::trade::{Trade, entries_of};
 use std::alloc::Global;

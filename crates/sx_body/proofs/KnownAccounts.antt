@@ -28,7 +28,7 @@ use Rattle.sx_ledger.specs.Body.{holding_of, new_account, put_accounts}
 use Rattle.sx_ledger.specs.Effects.{credits, debits}
 use Rattle.sx_ledger.specs.Ledger.{IsAccount, IsLedger, assets_of, balance_at, ids}
 use Rattle.sx_ledger.specs.Static.{has_account}
-use Rattle.sx_ledger.proofs.AccountLaws.{order_from_increasing}
+use Rattle.sx_ledger.proofs.IdsInOrder.{order_from_increasing}
 use Rattle.sx_ledger.proofs.BodyKeepsLedger.{body_keeps_ledger}
 use Rattle.sx_ledger.proofs.Insertion.{id_of, put_accounts_are}
 use Rattle.sx_ledger.proofs.PlacesOfIds.{holding_at}

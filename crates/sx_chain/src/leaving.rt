@@ -11,6 +11,7 @@ use sx_block::{Digest, digest_of, ledger_digest};
 use sx_bytes::{NoMemory, Writer};
 use sx_input::written;
 use sx_ledger::Ledger;
+use sx_state::state_length;
 
 // From how many bytes of a ledger on its record is written on a thread of its own. Writing takes a millisecond there,
 // and to start a thread a small part of one.
@@ -83,7 +84,7 @@ pub fn left_of<R: Threads>(
             state: None,
         });
     }
-    if ledger.state_length() < MANY_BYTES {
+    if state_length(ledger) < MANY_BYTES {
         return in_turn(alloc, ledger, earlier);
     }
     side_by_side(rt, alloc, ledger, earlier)

@@ -24,6 +24,7 @@ use sx_bytes::NoMemory;
 use sx_ledger::{Fill, Ledger};
 use sx_price::Prices;
 use sx_spread::{par_apply_accounts, par_execute};
+use sx_state::state_length;
 
 // From how many bytes of a ledger on its digest is made on a thread of its own. Hashing takes a millisecond there, and
 // to start a thread a small part of one.
@@ -108,7 +109,7 @@ pub fn digests_around<R: Threads>(
     ensures hash { (txs : List Tx) (flow : Flow) → IsAdmissible ledger.now txs → IsBodyOf ledger.now txs body → fills.now ≡ all_fills prices.now flow (body_after ledger.now txs).offers → IfOk result.1 (λ digest. digest ≡ digest_of_ledger (traded (body_after ledger.now txs) prices.now flow rounding.now)) }
     ensures digest { IfOk result.1 IsDigest }
 {
-    if ledger.state_length() < MANY_BYTES {
+    if state_length(ledger) < MANY_BYTES {
         let parent = digest_of_parent(alloc, ledger);
         return (
             parent,

@@ -10,7 +10,7 @@ use Rattle.sx_commit.specs.declared.proof.Proof.{Proof}
 use Rattle.sx_commit.specs.Decoding.{claim_at, fields_at, proof_at}
 use Rattle.sx_commit.specs.Encoding.{claim_bytes, proof_bytes}
 use Rattle.sx_commit.proofs.Cases.{seven}
-use Rattle.sx_ledger.specs.Decoding.{account_at}
+use Rattle.sx_state.specs.Decoding.{account_at}
 use Rattle.sx_tx.specs.Window.{bit_length}
 
 abbrev fault_at : ℕ → Form → FormFault

@@ -12,9 +12,9 @@ use Rattle.sx_commit.specs.Clashes.{IsProof}
 use Rattle.sx_commit.specs.Encoding.{digest_bytes, fields_bytes}
 use Rattle.sx_commit.specs.Laws.{HasMostBytes, SomeHasMostBytes}
 use Rattle.sx_ledger.specs.declared.account.Account.{Account}
-use Rattle.sx_ledger.specs.Encoding.{account_bytes, map_bytes}
+use Rattle.sx_state.specs.Encoding.{account_bytes, map_bytes}
 use Rattle.sx_ledger.specs.Ledger.{IsAccount}
-use Rattle.sx_ledger.proofs.Lengths.{length-numbers}
+use Rattle.sx_state.proofs.Lengths.{length-numbers}
 use Rattle.sx_tx.specs.Window.{IsWindow, bit_length}
 
 -- ---- no more

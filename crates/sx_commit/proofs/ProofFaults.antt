@@ -10,9 +10,9 @@ use Rattle.sx_bytes.proofs.FaultPlaces.{IsAny, IsOn, Keeps, Stays, either, field
 use Rattle.sx_bytes.proofs.FaultPlaces.{payload_faults_within, raw_stays, tested, then}
 use Rattle.sx_commit.specs.Commitments.{levels, most_places}
 use Rattle.sx_commit.specs.Decoding.{claim_at, fields_at, proof_at}
-use Rattle.sx_ledger.specs.Decoding.{account_at, last_at, map_at, units_field_at, window_at}
+use Rattle.sx_state.specs.Decoding.{account_at, last_at, map_at, units_field_at, window_at}
 use Rattle.sx_ledger.specs.Ledger.{most_version}
-use Rattle.sx_ledger.proofs.FaultPlaces.{units_stay}
+use Rattle.sx_state.proofs.FaultPlaces.{units_stay}
 use Rattle.sx_tx.specs.TransactionDecoding.{id_at}
 use Rattle.sx_tx.specs.Window.{is_map}
 use Rattle.sx_tx.proofs.FaultPlaces.{id_stays}

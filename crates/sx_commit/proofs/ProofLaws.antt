@@ -24,11 +24,11 @@ use Rattle.sx_commit.specs.Commitments.{levels}
 use Rattle.sx_commit.specs.Decoding.{claim_at, fields_at}
 use Rattle.sx_commit.specs.Encoding.{claim_bytes, digest_bytes, fields_bytes}
 use Rattle.sx_ledger.specs.declared.account.Account.{Account}
-use Rattle.sx_ledger.specs.Decoding.{account_at}
-use Rattle.sx_ledger.specs.Encoding.{account_bytes}
+use Rattle.sx_state.specs.Decoding.{account_at}
+use Rattle.sx_state.specs.Encoding.{account_bytes}
 use Rattle.sx_ledger.specs.Ledger.{IsAccount}
-use Rattle.sx_ledger.proofs.AccountLaws.{account_takes, account_again}
-use Rattle.sx_ledger.proofs.DependentParts.{chained_takes, chained_again}
+use Rattle.sx_state.proofs.AccountLaws.{account_takes, account_again}
+use Rattle.sx_state.proofs.DependentParts.{chained_takes, chained_again}
 
 -- ---- digests
 

@@ -5,7 +5,7 @@ use Rattle.sha2.specs.Sha256.{sha256}
 use Rattle.sx_commit.specs.declared.proof.Proof.{Proof}
 use Rattle.sx_ledger.specs.declared.account.Account.{Account}
 use Rattle.sx_ledger.specs.declared.parts.Parts.{Parts}
-use Rattle.sx_ledger.specs.Encoding.{account_bytes}
+use Rattle.sx_state.specs.Encoding.{account_bytes}
 
 -- ---- the tree: a leaf for each place at level 0, and the root at level 16
 

@@ -9,7 +9,7 @@ use Rattle.sx_bytes.specs.Grammar.{◌>>=◌, between, field_at, many_at}
 use Rattle.sx_commit.specs.declared.proof.Proof.{Proof}
 use Rattle.sx_commit.specs.Claim.{Claim}
 use Rattle.sx_commit.specs.Commitments.{levels, most_places}
-use Rattle.sx_ledger.specs.Decoding.{account_at}
+use Rattle.sx_state.specs.Decoding.{account_at}
 use Rattle.sx_ledger.specs.Ledger.{most_version}
 
 -- what stands after the root

@@ -4,7 +4,7 @@ use Rattle.std.specs.List.{flat_map}
 use Rattle.byteorder.specs.Endian.{big_bytes}
 use Rattle.sx_commit.specs.declared.proof.Proof.{Proof}
 use Rattle.sx_commit.specs.Claim.{Claim}
-use Rattle.sx_ledger.specs.Encoding.{account_bytes}
+use Rattle.sx_state.specs.Encoding.{account_bytes}
 
 -- a digest is written as it is
 abbrev pub digest_bytes : List ℕ → List ℕ

@@ -12,7 +12,8 @@ use crate::leaf::{put_bytes, put_leaf};
 use sha2::{Digest as Hasher, Sha256};
 use sx_block::{Digest, digest_of};
 use sx_bytes::{NoMemory, Writer};
-use sx_ledger::{Account, write_account};
+use sx_ledger::Account;
+use sx_state::write_account;
 
 // What the bytes begin with of which a digest is made, so that none of the three is taken for another.
 pub(crate) const LEAF: u8 = 0;

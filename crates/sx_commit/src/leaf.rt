@@ -3,7 +3,7 @@
 ghost use Rattle.std.specs.Prelude.{◌≡◌, ◌+◌, ◌*◌, ◌≤◌, ◌∷◌, ◌++◌, length, take};
 ghost use Rattle.std.specs.List.{flat_map};
 ghost use Rattle.byteorder.specs.Endian.{big_bytes};
-ghost use Rattle.sx_ledger.specs.Encoding.{window_bytes};
+ghost use Rattle.sx_state.specs.Encoding.{window_bytes};
 
 use crate::hashing::LEAF;
 use sx_ledger::Account;

@@ -14,7 +14,8 @@ use std::alloc::Global;
 use sx_base::AssetId;
 use sx_block::{Digest, Digests};
 use sx_bytes::{Form, FormFault, ReadError, Reader};
-use sx_ledger::{Ledger, read_account};
+use sx_ledger::Ledger;
+use sx_state::read_account;
 
 // The greatest place.
 const MOST_PLACE: u32 = 65_535;

@@ -11,7 +11,7 @@ ghost use Rattle.sx_commit.specs.Encoding.{digest_bytes, fields_bytes, proof_byt
 use crate::proof::Proof;
 use sx_block::Digest;
 use sx_bytes::{NoMemory, Writer};
-use sx_ledger::write_account;
+use sx_state::write_account;
 
 #[tactic(auto, using(sx_bytes::proofs::Written::begins, sx_bytes::proofs::Written::begins_then))]
 fn put_siblings(to: &mut Writer, siblings: &[Digest]) -> Result<(), NoMemory>

@@ -7,7 +7,7 @@ use Rattle.sx_follow.specs.Ahead.{AreAhead, AreChosen, IsAhead}
 use Rattle.sx_follow.specs.declared.batch.Claim.{Claim}
 use Rattle.sx_follow.proofs.Chosen.{chosen_block}
 use Rattle.sx_ledger.specs.declared.parts.Parts.{Parts}
-use Rattle.sx_ledger.specs.Encoding.{state_bytes}
+use Rattle.sx_state.specs.Encoding.{state_bytes}
 
 -- one more
 pub ahead_push : (parts : Parts) (named : List ℕ) (blocks : List Block) (claims : List Claim) (ledger : Parts)

@@ -7,7 +7,7 @@ use Rattle.sx_block.specs.Validity.{IsApplicable, ledger_after}
 use Rattle.sx_follow.specs.declared.batch.Batch.{Batch}
 use Rattle.sx_follow.specs.declared.batch.Claim.{Claim}
 use Rattle.sx_ledger.specs.declared.parts.Parts.{Parts}
-use Rattle.sx_ledger.specs.Encoding.{state_bytes}
+use Rattle.sx_state.specs.Encoding.{state_bytes}
 use Rattle.sx_record.specs.Frame.{record_bytes}
 
 -- ---- by the digests that blocks name

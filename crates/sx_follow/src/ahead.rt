@@ -23,6 +23,7 @@ use sx_block::{Block, Digest};
 use sx_bytes::NoMemory;
 use sx_check::{CheckFault, judge_applicable, survey_of};
 use sx_ledger::Ledger;
+use sx_state::state_length;
 
 // How many blocks are applied ahead at most, each of which leaves a state to be hashed. Up to four threads share so many
 // evenly.
@@ -43,7 +44,7 @@ const FRAME_BYTES: u32 = 5;
 fn most_ahead(ledger: &Ledger) -> u32
     ensures { result ≤ 12 }
 {
-    let length = FRAME_BYTES + ledger.state_length();
+    let length = FRAME_BYTES + state_length(ledger);
     let most = MOST_BYTES / length;
     if length < LEAST_BYTES || most < 2 {
         return 0;

@@ -8,15 +8,15 @@ ghost use Rattle.sx_follow.specs.Ahead.{IsRight};
 use crate::batch::Claim;
 use std::thread::{Threads, join};
 use sx_block::record_digest;
-use sx_ledger::Ledger;
 use sx_record::tag;
+use sx_state::LONGEST_STATE;
 
 // Whether the state has the digest that is named. One that is longer than the state of any ledger has not.
 fn is_right(claim: &Claim) -> bool
     ensures { result ≡ true → IsRight claim.now }
 {
     let state = claim.state.bytes();
-    state.len() <= Ledger::LONGEST as usize && record_digest(tag::STATE, state) == claim.digest
+    state.len() <= LONGEST_STATE as usize && record_digest(tag::STATE, state) == claim.digest
 }
 
 // How many stand before the first whose state has another digest than is named.

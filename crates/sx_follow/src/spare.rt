@@ -2,7 +2,7 @@
 
 ghost use Rattle.std.specs.Prelude.{◌≡◌, [], ◌^◌, ◌<◌, length, IfOk};
 ghost use Rattle.sx_block.specs.Validity.{digest_of_ledger};
-ghost use Rattle.sx_ledger.specs.Encoding.{state_bytes};
+ghost use Rattle.sx_state.specs.Encoding.{state_bytes};
 
 use crate::batch::{Batch, Claim};
 use crate::refilling::copied;
@@ -11,6 +11,7 @@ use sx_block::{Digest, record_digest};
 use sx_bytes::{NoMemory, Writer};
 use sx_ledger::Ledger;
 use sx_record::tag;
+use sx_state::{state_length, write_state};
 
 // Ledgers and states that are no longer needed. Nothing is read of them: copies and other states are written over them.
 #[derive(Debug, Drop)]
@@ -83,9 +84,9 @@ impl Spare {
         ensures state { IfOk result (λ state. state ≡ state_bytes ledger.now) }
         ensures fits { IfOk result (λ state. length state < 2 ^ 32) }
     {
-        let length = ledger.state_length();
+        let length = state_length(ledger);
         let mut state = self.empty(alloc, length)?;
-        ledger.write_state(&mut state)?;
+        write_state(&mut state, ledger)?;
         prove!(state.bytes().len() == length as usize);
         Ok(state)
     }

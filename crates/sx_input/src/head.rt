@@ -9,6 +9,7 @@ use sx_block::StateDigest;
 use sx_bytes::{NoMemory, Writer};
 use sx_ledger::Ledger;
 use sx_record::{FRAME_BYTES, tag, write_frame};
+use sx_state::{state_length, write_state};
 
 /// A ledger, its record, where that was written, and its digest, which is that of the record and which a thread may
 /// still be making.
@@ -53,9 +54,9 @@ fn writer_in(alloc: Global, spare: Option<Writer>, length: usize) -> Writer
 pub fn written(alloc: Global, ledger: &Ledger, spare: Option<Writer>) -> Result<Writer, NoMemory>
     ensures { IfOk result (λ state. state ≡ state_record ledger.now) }
 {
-    let size = ledger.state_length();
+    let size = state_length(ledger);
     let mut state = writer_in(alloc, spare, FRAME_BYTES as usize + size as usize);
     write_frame(&mut state, tag::STATE, size)?;
-    ledger.write_state(&mut state)?;
+    write_state(&mut state, ledger)?;
     Ok(state)
 }

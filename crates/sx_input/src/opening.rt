@@ -4,7 +4,7 @@ ghost use Rattle.std.specs.Prelude.{◌≡◌, ◌+◌, ◌^◌, ◌<◌, ◌≤
 ghost use Rattle.sx_base.specs.Outside.{Rose};
 ghost use Rattle.sx_input.specs.Head.{IsHead};
 ghost use Rattle.sx_input.specs.Stream.{Holds, Stops, UnlessReadFault};
-ghost use Rattle.sx_ledger.specs.Encoding.{state_bytes};
+ghost use Rattle.sx_state.specs.Encoding.{state_bytes};
 ghost use Rattle.sx_ledger.specs.Ledger.{IsLedger};
 ghost use Rattle.sx_meaning.specs.Expected.{item_at, needed};
 ghost use Rattle.sx_meaning.specs.Items.{item_record, payload_at};

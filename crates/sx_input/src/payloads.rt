@@ -17,8 +17,9 @@ use sx_block::{Block, Digest, block_laws, par_read_block};
 use sx_bytes::{FormFault, ReadError};
 use sx_commit::{Proof, proof_laws, read_proof};
 use sx_layout::{Outcomes, Script, outcome_list_laws, read_outcomes, read_script, script_laws};
-use sx_ledger::{Ledger, par_read_state, state_laws};
+use sx_ledger::Ledger;
 use sx_record::{Record, tag};
+use sx_state::{par_read_state, state_laws};
 use sx_tx::{TxList, TxParts, list_laws, par_read_candidates, par_read_candidates_in_parts};
 
 // How many threads share the reading of a long payload. They wait for memory more than they calculate, so more of them

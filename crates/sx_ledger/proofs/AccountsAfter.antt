@@ -20,7 +20,7 @@ use Rattle.sx_ledger.specs.Body.{used_numbers, uses}
 use Rattle.sx_ledger.specs.EffectLaws.{InWindow}
 use Rattle.sx_ledger.specs.Ledger.{IsAccount, IsLedger, assets_of, has_owner, ids}
 use Rattle.sx_ledger.specs.Static.{has_account, window_of}
-use Rattle.sx_ledger.proofs.AccountLaws.{increasing_from_order, order_from_increasing}
+use Rattle.sx_ledger.proofs.IdsInOrder.{increasing_from_order, order_from_increasing}
 use Rattle.sx_ledger.proofs.Insertion.{Apart, AreApart, all_mapped, all_put_all, any_put_all, id_of, put_accounts_are}
 use Rattle.sx_ledger.proofs.Insertion.{put_all_in_order, put_all}
 use Rattle.sx_ledger.proofs.LastNumbers.{used_after}

@@ -4,8 +4,6 @@ pub mod GapCases
 pub mod AdmissibleCases
 pub mod WideCases
 pub mod StaticCases
-mod FormatCases
-pub mod Opening
 pub mod TradeCases
 pub mod UsedBits
 pub mod LastNumbers
@@ -28,24 +26,9 @@ pub mod KeyOrder
 pub mod OfferOrder
 pub mod SearchByKey
 pub mod KeysBetween
+pub mod IdsInOrder
 pub mod Lookup
 pub mod SequenceChecks
-pub mod RunningTotals
-pub mod TotalsInRange
-pub mod EntriesInOrder
-pub mod OwnersLater
-pub mod SoundOffers
-pub mod SoundAccounts
-pub mod DependentParts
-pub mod WindowFields
-pub mod AccountLaws
-pub mod OfferLaws
-pub mod HeadLaws
-pub mod PartsLaws
-pub mod Payload
-pub mod Lengths
-pub mod DecodedRanges
 pub mod BucketLaws
 pub mod Migrating
-pub mod FaultPlaces
 pub mod PlaceTableLaws

@@ -25,10 +25,6 @@ most_offers = 262144
 abbrev pub most_height : ℕ
 most_height = 2 ^ 63 - 1
 
--- the bytes of the longest state
-abbrev pub longest_state : ℕ
-longest_state = 27263506
-
 -- the versions of a ledger are 1 and 2
 abbrev pub most_version : ℕ
 most_version = 2

@@ -1,10 +1,5 @@
 pub mod Order
-pub mod SoundOffers
-pub mod SoundAccounts
 pub mod Ledger
-pub mod Encoding
-pub mod Decoding
-pub mod Laws
 pub mod Static
 pub mod Effects
 pub mod Body

@@ -26,18 +26,6 @@ pub fn find_account(accounts: &[Account], id: AccountId) -> Option<usize>
         .ok()
 }
 
-// Whether the account of an offer is among these accounts, of which the ids are given, and has used
-// the offer's sequence number.
-pub fn has_owner(index: &AccountIndex, accounts: &[Account], offer: &Offer) -> bool
-    requires { index.now ≡ ids accounts.now }
-    ensures { result ≡ is_owned accounts.now offer.now }
-{
-    match index.find(offer.account) {
-        Some(place) => accounts[place as usize].window.has_used(offer.seq),
-        None => false,
-    }
-}
-
 // Whether a key stands before another.
 fn is_before(one: &Key, other: &Key) -> bool
     ensures { result ≡ key_before one.now other.now }

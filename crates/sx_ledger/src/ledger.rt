@@ -43,9 +43,6 @@ impl Ledger {
     /// stays open.
     pub const NEWEST: u8 = 2;
 
-    /// How many bytes the longest state has.
-    pub const LONGEST: u32 = 27_263_506;
-
     /// The ledger of these parts, which keep what a ledger keeps.
     pub fn of(parts: Parts) -> Ledger
         requires { IsLedger parts }

@@ -22,9 +22,9 @@ use Rattle.sx_layout.specs.Scripts.{IsScript, script_bytes}
 use Rattle.sx_layout.proofs.OutcomeListLaws.{only_in as outcomes_only_in, outcomes_fit}
 use Rattle.sx_layout.proofs.ScriptLaws.{only_in as script_only_in, scripts_fit}
 use Rattle.sx_ledger.specs.declared.parts.Parts.{Parts}
-use Rattle.sx_ledger.specs.Encoding.{state_bytes}
+use Rattle.sx_state.specs.Encoding.{state_bytes}
 use Rattle.sx_ledger.specs.Ledger.{IsLedger}
-use Rattle.sx_ledger.proofs.Lengths.{state_fits}
+use Rattle.sx_state.proofs.Lengths.{state_fits}
 use Rattle.sx_record.specs.Frame.{most_bytes}
 use Rattle.sx_tx.specs.declared.tx.Tx.{Tx}
 use Rattle.sx_tx.specs.Transactions.{IsTxList, list_bytes}

@@ -12,7 +12,7 @@ use Rattle.sx_commit.specs.Claim.{Claim}
 use Rattle.sx_layout.specs.declared.outcome.Outcome.{Outcome}
 use Rattle.sx_layout.specs.declared.script.Script.{Script}
 use Rattle.sx_ledger.specs.declared.parts.Parts.{Parts}
-use Rattle.sx_ledger.proofs.Payload.{state_again}
+use Rattle.sx_state.proofs.Payload.{state_again}
 use Rattle.sx_meaning.specs.Expected.{Expected, IsExpected, as_some, end_only, item_at, item_in, item_of, record_of}
 use Rattle.sx_meaning.specs.Expected.{unread, shifted}
 use Rattle.sx_meaning.specs.Items.{IsItem, Item, as_item, block, candidates, item_record, outcomes, payload_at}

@@ -21,8 +21,8 @@ use Rattle.sx_layout.specs.ScriptDecoding.{script_at}
 use Rattle.sx_layout.proofs.OutcomeListLaws.{found_in as outcomes_found}
 use Rattle.sx_layout.proofs.ScriptLaws.{found_in as script_found}
 use Rattle.sx_ledger.specs.declared.parts.Parts.{Parts}
-use Rattle.sx_ledger.specs.Decoding.{state_at}
-use Rattle.sx_ledger.proofs.Payload.{state_takes}
+use Rattle.sx_state.specs.Decoding.{state_at}
+use Rattle.sx_state.proofs.Payload.{state_takes}
 use Rattle.sx_meaning.specs.Expected.{Expected, IsDoneWith, IsExpected, as_some, end_only, item_at, item_in, item_of}
 use Rattle.sx_meaning.specs.Expected.{may_end, record_of, shifted, unread}
 use Rattle.sx_meaning.specs.Items.{IsItem, Item, as_item, block, candidates, item_record, outcomes, payload_at}

@@ -16,8 +16,8 @@ use Rattle.sx_layout.specs.Outcomes.{AreOutcomes, outcomes_bytes}
 use Rattle.sx_layout.specs.ScriptDecoding.{script_at}
 use Rattle.sx_layout.specs.Scripts.{IsScript, script_bytes}
 use Rattle.sx_ledger.specs.declared.parts.Parts.{Parts}
-use Rattle.sx_ledger.specs.Decoding.{state_at}
-use Rattle.sx_ledger.specs.Encoding.{state_bytes}
+use Rattle.sx_state.specs.Decoding.{state_at}
+use Rattle.sx_state.specs.Encoding.{state_bytes}
 use Rattle.sx_ledger.specs.Ledger.{IsLedger}
 use Rattle.sx_record.specs.Frame.{record_bytes}
 use Rattle.sx_record.specs.Tags.{block_tag, candidates_tag, outcomes_tag, proof_tag, script_tag, state_tag}

@@ -9,7 +9,7 @@ use Rattle.std.proofs.lemmas.Grind.{div_ceil_times, flat_map-append}
 use Rattle.std.proofs.lemmas.List.{drop-drop, get_or-map, length-drop, length-map, take-append-drop}
 use Rattle.std.proofs.lemmas.Result.{IfOk-at_ok}
 use Rattle.sx_ledger.specs.declared.parts.Parts.{Parts}
-use Rattle.sx_ledger.specs.Encoding.{account_bytes, offer_bytes}
+use Rattle.sx_state.specs.Encoding.{account_bytes, offer_bytes}
 use Rattle.sx_run.specs.declared.state_writing.Part.{Part}
 use Rattle.sx_run.specs.StateParts.{IsPart}
 

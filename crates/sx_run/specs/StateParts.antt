@@ -4,7 +4,7 @@ use Rattle.std.specs.Fork.{slice_chunk}
 use Rattle.std.specs.Int.{div_ceil}
 use Rattle.std.specs.List.{flat_map}
 use Rattle.sx_ledger.specs.declared.parts.Parts.{Parts}
-use Rattle.sx_ledger.specs.Encoding.{account_bytes, offer_bytes}
+use Rattle.sx_state.specs.Encoding.{account_bytes, offer_bytes}
 use Rattle.sx_run.specs.declared.state_writing.Part.{Part}
 
 -- the part at a place, where a list is cut into so many parts

@@ -9,7 +9,7 @@
 
 ghost use Rattle.std.specs.Prelude.{◌≡◌, ◌≤◌, ◌++◌, IfOk, length};
 ghost use Rattle.std.specs.List.{flat_map};
-ghost use Rattle.sx_ledger.specs.Encoding.{account_bytes, offer_bytes, opening_bytes, state_bytes};
+ghost use Rattle.sx_state.specs.Encoding.{account_bytes, offer_bytes, opening_bytes, state_bytes};
 ghost use Rattle.sx_meaning.specs.Items.{state_record};
 ghost use Rattle.sx_record.specs.Frame.{frame};
 ghost use Rattle.sx_record.specs.Tags.{state_tag};
@@ -19,9 +19,10 @@ use std::alloc::Global;
 use std::thread::{Threads, map_indices};
 use sx_bytes::{NoMemory, Writer, all_of};
 use sx_input::written;
-use sx_ledger::{Account, Ledger, Offer, write_accounts, write_offers};
+use sx_ledger::{Account, Ledger, Offer};
 use sx_record::tag;
 use sx_seal::Pieces;
+use sx_state::{state_length, write_accounts, write_offers, write_opening};
 
 // How many accounts and offers are worth a thread of their own.
 const WORTH_A_THREAD: u32 = 8_192;
@@ -151,8 +152,8 @@ fn front_of(alloc: Global, ledger: &Ledger) -> Result<Writer, NoMemory>
 {
     let mut front = Writer::new(alloc);
     front.put_u8(tag::STATE)?;
-    front.put_u32(ledger.state_length())?;
-    ledger.write_opening(&mut front)?;
+    front.put_u32(state_length(ledger))?;
+    write_opening(&mut front, ledger)?;
     Ok(front)
 }
 

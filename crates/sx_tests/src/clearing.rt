@@ -19,8 +19,9 @@ use sx_block::{Block, Header, read_block, validity_laws};
 use sx_check::{Checked, check};
 use sx_clear::{clear, clear_at, curves_of};
 use sx_curve::Sums;
-use sx_ledger::{Ledger, read_state};
+use sx_ledger::Ledger;
 use sx_net::Steps;
+use sx_state::read_state;
 use sx_tx::TxList;
 
 // A state and a valid block after it, both in `worked` or `dropped`.

@@ -14,7 +14,8 @@ use sx_apply::{apply_body, apply_laws, trade};
 use sx_base::AssetId;
 use sx_block::{Block, read_block};
 use sx_check::{CheckFault, Checked, check};
-use sx_ledger::{Ledger, read_state};
+use sx_ledger::Ledger;
+use sx_state::read_state;
 
 // Two assets at 3 to 2. Account 1 has 5 units of the first, account 2 has 8 of the second.
 #[rattlefmt::skip]

@@ -3,8 +3,9 @@
 use std::alloc::Global;
 use std::test::Fail;
 use sx_fill::*;
-use sx_ledger::{Fill, Fills, read_state};
+use sx_ledger::{Fill, Fills};
 use sx_price::Price;
+use sx_state::read_state;
 
 // Prices and values below are in units of 2^-4.
 const STEP: u64 = 1 << 20;

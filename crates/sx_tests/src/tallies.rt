@@ -3,7 +3,7 @@
 use std::alloc::Global;
 use sx_base::{AccountId, Amount, AssetId, Seq};
 use sx_body::{Overdraft, precheck};
-use sx_ledger::read_state;
+use sx_state::read_state;
 use sx_tx::{Kind, Tx};
 
 // Two assets, and five accounts that hold nothing.

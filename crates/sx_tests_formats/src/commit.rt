@@ -7,8 +7,9 @@ use std::test::Fail;
 use std::thread::Threads;
 use sx_bytes::Writer;
 use sx_commit::*;
-use sx_ledger::{Ledger, read_state};
+use sx_ledger::Ledger;
 use sx_record::{tag, write_record};
+use sx_state::read_state;
 
 // One asset at 1. Account 1 has 100 units of it, and account 2 has 5.
 #[rattlefmt::skip]

@@ -6,6 +6,7 @@ use sx_base::{AccountId, Amount, AssetId, Seq};
 use sx_bytes::{Form, FormFault, ReadError, Reader, Writer};
 use sx_ledger::*;
 use sx_price::{Limit, Price};
+use sx_state::*;
 use sx_tx::{Kind, Tx};
 
 // Two assets, the second at the greatest price and with 3 units kept by rounding, at the greatest
@@ -120,8 +121,8 @@ fn written(alloc: Global) -> Option<(Writer, u32)> {
     let ledger = read_state(alloc, &state_bytes()).ok()?;
     let again = Ledger::of(ledger.copy().ok()?.into_parts());
     let mut to = Writer::new(alloc);
-    again.write_state(&mut to).ok()?;
-    Some((to, again.state_length()))
+    write_state(&mut to, &again).ok()?;
+    Some((to, state_length(&again)))
 }
 
 #[test]

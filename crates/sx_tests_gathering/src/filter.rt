@@ -8,7 +8,7 @@ use std::alloc::Global;
 use std::thread::Threads;
 use sx_base::{AccountId, Amount, AssetId, Seq};
 use sx_filter::filter;
-use sx_ledger::read_state;
+use sx_state::read_state;
 use sx_tx::{Kind, Tx};
 
 fn pay(from: u64, seq: u64, to: u64, amount: u64) -> Option<Tx> {

@@ -6,7 +6,7 @@ use std::alloc::Global;
 use std::test::Fail;
 use sx_base::{AccountId, AssetId, Seq};
 use sx_layout::{Layout, Spot, closing_law, layout_laws};
-use sx_ledger::read_state;
+use sx_state::read_state;
 use sx_tx::{Kind, Tx};
 
 // Two assets, three accounts, and one offer of the first account.

@@ -10,7 +10,8 @@ use std::alloc::Global;
 use std::test::Fail;
 use std::thread::{Threads, join_mut};
 use sx_gather::*;
-use sx_ledger::{Ledger, read_state};
+use sx_ledger::Ledger;
+use sx_state::read_state;
 use sx_tx::Tx;
 
 const TIMES: u32 = 100;

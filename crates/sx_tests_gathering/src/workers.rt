@@ -9,8 +9,8 @@ use std::test::Fail;
 use std::thread::Threads;
 use sx_base::{AccountId, Amount, AssetId, Seq};
 use sx_layout::Outcome;
-use sx_ledger::read_state;
 use sx_price::Limit;
+use sx_state::read_state;
 use sx_tx::{Kind, Tx, TxList};
 use sx_workers::{Gate, NoGate, gather_all, gather_list};
 

@@ -13,7 +13,8 @@ use sx_check::{Checked, Invalid};
 use sx_commit::Proof;
 use sx_dual::Cut;
 use sx_layout::{Outcome, Script};
-use sx_ledger::{Account, Static, read_state};
+use sx_ledger::{Account, Static};
+use sx_state::read_state;
 use sx_text::{Shown, Status, check_line, par_show, proof_line, show, status_line};
 use sx_tx::{Window, read_candidates};
 

@@ -1,5 +1,5 @@
 use Rattle.std.proofs.lemmas.Result.{err_from_is_err_and}
-use Rattle.sx_ledger.specs.Decoding.{units_field_at}
+use Rattle.sx_state.specs.Decoding.{units_field_at}
 use Rattle.sx_bytes.specs.declared.fault.ReadError.TheVariants as read_error
 use Rattle.sx_bytes.specs.Grammar.{many_at}
 use Rattle.sx_bytes.proofs.ListReading.{goes_on, ends, is_done}

@@ -1,5 +1,5 @@
 use Rattle.std.proofs.Common.{◌≡◌, ◌-◌}
-use Rattle.sx_ledger.specs.Decoding.{units_field_at}
+use Rattle.sx_state.specs.Decoding.{units_field_at}
 use Rattle.sx_bytes.specs.Grammar.{many_at}
 use Rattle.sx_bytes.proofs.ListReading.{with_front}
 use Rattle.sx_block.proofs.header_reading.read_rounding.Given as goal

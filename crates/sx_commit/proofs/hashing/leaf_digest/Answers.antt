@@ -6,7 +6,7 @@ use Rattle.byteorder.specs.Endian.{big_bytes}
 use Rattle.sha2.specs.Sha256.{sha256}
 use Rattle.sx_commit.specs.Commitments.{leaf_bytes}
 use Rattle.sx_commit.proofs.hashing.leaf_digest.Goals as goal
-use Rattle.sx_ledger.specs.Encoding.{window_bytes}
+use Rattle.sx_state.specs.Encoding.{window_bytes}
 
 pub returns-clause-hash : goal.returns-clause-hash
 returns-clause-hash c =

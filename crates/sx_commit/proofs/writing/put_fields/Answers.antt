@@ -3,7 +3,7 @@ use Rattle.std.specs.List.{flat_map}
 use Rattle.byteorder.specs.Endian.{big_bytes}
 use Rattle.sx_bytes.proofs.Written.{written_then}
 use Rattle.sx_commit.specs.Encoding.{digest_bytes}
-use Rattle.sx_ledger.specs.Encoding.{account_bytes}
+use Rattle.sx_state.specs.Encoding.{account_bytes}
 use Rattle.sx_commit.proofs.writing.put_fields.Goals as goal
 
 pub returns-clause-ok : goal.returns-clause-ok

@@ -1,7 +1,7 @@
 use Rattle.std.proofs.Common.{◌≡◌, Ok, map, arith}
 use Rattle.std.specs.List.{flat_map}
 use Rattle.std.proofs.lemmas.Result.{IfOk-weaker}
-use Rattle.sx_ledger.specs.Encoding.{account_bytes, offer_bytes}
+use Rattle.sx_state.specs.Encoding.{account_bytes, offer_bytes}
 use Rattle.sx_run.proofs.StateParts.{accounts_told, offers_told}
 use Rattle.sx_run.proofs.state_writing.encoded_parts.Goals as goal
 

@@ -1,6 +1,6 @@
 use Rattle.sx_input.proofs.PayloadItems.{inside_where_wrong}
 use Rattle.sx_input.proofs.payloads.LedgerPayload.read.Goals as goal
-use Rattle.sx_ledger.specs.Decoding.{state_at}
+use Rattle.sx_state.specs.Decoding.{state_at}
 
 pub returns-clause-within : goal.returns-clause-within
 returns-clause-within g c =

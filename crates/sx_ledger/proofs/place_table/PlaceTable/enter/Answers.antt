@@ -1,6 +1,6 @@
-use Rattle.std.proofs.Common.{◌∙◌, ◌≡◌, ℕ, ◌+◌, ◌-◌, ◌*◌, ◌/◌, ◌<◌, ◌≤◌, get_or, length, arith}
+use Rattle.std.proofs.Common.{◌∙◌, ◌≡◌, ◌+◌, ◌-◌, ◌*◌, ◌/◌, ◌<◌, ◌≤◌, get_or, length, arith}
 use Rattle.std.proofs.lemmas.List.{get_or_default}
-use Rattle.sx_ledger.proofs.PlaceTableLaws.{AreEarly, AreHere, AreKept, AreLate, few_before, still_early, still_held, still_late, still_told}
+use Rattle.sx_ledger.proofs.PlaceTableLaws.{AreEarly, AreLate, few_before, still_early, still_held, still_late, still_told}
 use Rattle.sx_ledger.proofs.place_table.PlaceTable.enter.Goals as goal
 
 pub overflow_cast-place-2 : goal.overflow_cast-place-2

@@ -1,4 +1,4 @@
-use Rattle.std.proofs.Common.{ℕ, ◌+◌, ◌≤◌, get_or, arith, rules}
+use Rattle.std.proofs.Common.{◌+◌, ◌≤◌, get_or, arith, rules}
 use Rattle.std.specs.Prelude.{slice_get, Some, ◌≡◌}
 use Rattle.std.proofs.lemmas.Option.{get_or_from_slice_get}
 use Rattle.sx_ledger.proofs.SearchNumbers.{rises_far}

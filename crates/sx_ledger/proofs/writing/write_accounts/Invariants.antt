@@ -1,7 +1,0 @@
-use Rattle.std.proofs.Common.{◌≡◌, ◌++◌, take}
-use Rattle.std.specs.List.{flat_map}
-use Rattle.sx_ledger.specs.Encoding.{account_bytes}
-use Rattle.sx_ledger.proofs.writing.write_accounts.Given as goal
-
-abbrev pub invariant-loop-account : goal.invariant-loop-account
-invariant-loop-account l = l.to ≡ l.fn.to ++ flat_map (account_bytes l.version) (take l.account-index l.accounts)

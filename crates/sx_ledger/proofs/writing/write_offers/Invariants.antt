@@ -1,7 +1,0 @@
-use Rattle.std.proofs.Common.{◌≡◌, ◌++◌, take}
-use Rattle.std.specs.List.{flat_map}
-use Rattle.sx_ledger.specs.Encoding.{offer_bytes}
-use Rattle.sx_ledger.proofs.writing.write_offers.Given as goal
-
-abbrev pub invariant-loop-offer : goal.invariant-loop-offer
-invariant-loop-offer l = l.to ≡ l.fn.to ++ flat_map offer_bytes (take l.offer-index l.offers)
