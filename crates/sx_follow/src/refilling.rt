@@ -5,17 +5,28 @@ ghost use Rattle.std.specs.Prelude.{◌≡◌, length, IfOk, OnOk};
 use std::alloc::Global;
 use std::mem;
 use sx_base::{BalanceVec, Balances};
-use sx_bytes::{ListOf, NoMemory};
-use sx_ledger::{Account, Accounts, Ledger, Parts};
+use sx_bytes::NoMemory;
+use sx_ledger::{Account, Accounts, Ledger, Offers, Parts};
+use sx_price::Prices;
 
-// The values of a list, in the memory of another one.
-fn refilled<T: Copy>(spare: ListOf<T>, list: &ListOf<T>) -> Result<ListOf<T>, NoMemory>
-    ensures { IfOk result (λ copy. copy ≡ list.now) }
+// Prices, in the memory of others.
+fn refilled_prices(spare: Prices, prices: &Prices) -> Result<Prices, NoMemory>
+    ensures { IfOk result (λ copy. copy ≡ prices.now) }
 {
     let mut copy = spare.into_items();
     copy.clear();
-    copy.extend_from_slice(list.items())?;
-    Ok(ListOf::of(copy))
+    copy.extend_from_slice(prices.items())?;
+    Ok(Prices::of(copy))
+}
+
+// Offers, in the memory of others.
+fn refilled_offers(spare: Offers, offers: &Offers) -> Result<Offers, NoMemory>
+    ensures { IfOk result (λ copy. copy ≡ offers.now) }
+{
+    let mut copy = spare.into_items();
+    copy.clear();
+    copy.extend_from_slice(offers.items())?;
+    Ok(Offers::of(copy))
 }
 
 // Balances, in the memory of others.
@@ -103,9 +114,9 @@ pub fn copied(alloc: Global, ledger: &Ledger, spare: Option<Ledger>) -> Result<L
     Ok(Ledger::of(Parts {
         version: parts.version,
         height: parts.height,
-        prices: refilled(prices, &parts.prices)?,
+        prices: refilled_prices(prices, &parts.prices)?,
         rounding: refilled_balances(rounding, &parts.rounding)?,
         accounts: refilled_accounts(alloc, accounts, &parts.accounts)?,
-        offers: refilled(offers, &parts.offers)?,
+        offers: refilled_offers(offers, &parts.offers)?,
     }))
 }
