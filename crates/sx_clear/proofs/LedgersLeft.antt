@@ -5,8 +5,8 @@ use Rattle.sx_apply.specs.Trading.{CanExecute}
 use Rattle.sx_block.specs.Validity.{digest_of_ledger}
 use Rattle.sx_body.specs.Tally.{IsTally, IsTallyOfBody}
 use Rattle.sx_bytes.specs.declared.memory.NoMemory.{NoMemory}
-use Rattle.sx_clear.specs.declared.body.Body.{Body}
-use Rattle.sx_clear.specs.Found.{CanLeave, IsBodyOf}
+use Rattle.sx_discovery.specs.declared.body.Body.{Body}
+use Rattle.sx_discovery.specs.Found.{CanLeave, IsBodyOf}
 use Rattle.sx_fill.specs.AllFills.{all_fills}
 use Rattle.sx_ledger.specs.declared.fill.Fill.{Fill}
 use Rattle.sx_ledger.specs.declared.parts.Parts.{Parts}

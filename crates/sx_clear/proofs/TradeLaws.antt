@@ -8,7 +8,7 @@ use Rattle.sx_apply.proofs.SameBounds.{cut_from, fits_from}
 use Rattle.sx_block.specs.Block.{CutFits}
 use Rattle.sx_block.specs.Validity.{CutHolds}
 use Rattle.sx_clear.specs.declared.trade.Trade.{Trade}
-use Rattle.sx_clear.specs.Found.{HasBoundsAt}
+use Rattle.sx_discovery.specs.Found.{HasBoundsAt}
 use Rattle.sx_clear.specs.Traded.{HasNoLow, IsFreeTrade, IsTrade, IsTradeAt}
 use Rattle.sx_dual.specs.declared.cut.Cut.{Cut}
 use Rattle.sx_dual.specs.Cuts.{goes_in, sum_in}

@@ -5,10 +5,10 @@ use Rattle.sx_apply.specs.Bounds.{HasBounds}
 use Rattle.sx_apply.specs.Trading.{CanExecute}
 use Rattle.sx_block.specs.declared.header.Block.{Block}
 use Rattle.sx_block.specs.Validity.{digest_of_ledger}
-use Rattle.sx_clear.specs.declared.body.Body.{Body}
+use Rattle.sx_discovery.specs.declared.body.Body.{Body}
 use Rattle.sx_clear.specs.declared.clearing.Trading.{Trading}
 use Rattle.sx_clear.specs.declared.heading.Terms.{Terms}
-use Rattle.sx_clear.specs.Found.{CanLeave, HasBoundsAt, IsBodyOf}
+use Rattle.sx_discovery.specs.Found.{CanLeave, HasBoundsAt, IsBodyOf}
 use Rattle.sx_clear.specs.Searches.{IsCounted}
 use Rattle.sx_clear.specs.Terms.{AreTerms}
 use Rattle.sx_clear.specs.Traded.{IsTradeAt}

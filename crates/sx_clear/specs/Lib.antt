@@ -1,8 +1,4 @@
-pub mod Quotes
-pub mod Bounding
 pub mod Dropping
-pub mod Digests
-pub mod Found
 pub mod Traded
 pub mod Searches
 pub mod Terms

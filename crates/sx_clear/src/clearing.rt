@@ -3,8 +3,8 @@
 ghost use Rattle.std.specs.Prelude.{◌≡◌, ◌+◌, ◌<◌, ◌≤◌, All, IfOk, length};
 ghost use Rattle.sx_block.specs.Validity.{IsValid, flow_of_block, high_in, low_in};
 ghost use Rattle.sx_clear.specs.Dropping.{DropsExactly};
-ghost use Rattle.sx_clear.specs.Found.{HasBoundsAt, IsBodyOf};
-ghost use Rattle.sx_clear.specs.Quotes.{imbalance_at, posted_at, searched_at};
+ghost use Rattle.sx_discovery.specs.Found.{HasBoundsAt, IsBodyOf};
+ghost use Rattle.sx_discovery.specs.Quotes.{imbalance_at, posted_at, searched_at};
 ghost use Rattle.sx_clear.specs.Searches.{IsCounted, most_clearing_searches};
 ghost use Rattle.sx_clear.specs.Trading.{IsCountedAt, IsTrading};
 ghost use Rattle.sx_dual.specs.Circulation.{IsGreatest};
@@ -13,13 +13,9 @@ ghost use Rattle.sx_ledger.specs.Ledger.{IsLedger, assets_of, most_height};
 ghost use Rattle.sx_price.specs.Limits.{IsPrice};
 ghost use Rattle.sx_tx.specs.Transactions.{most_transactions};
 
-use crate::body::Body;
-use crate::digests::{Digests, digest_of_body, digest_of_parent};
 use crate::filling::{Filled, fill};
 use crate::heading::{Terms, block_of};
 use crate::leaving::{digest_left, digests_around};
-use crate::opening::{Opened, Search, digest_and_prices, open_at};
-use crate::ranges::price_ranges;
 use crate::trade::{Trade, trade_within};
 use std::alloc::Global;
 use std::snapshot::Snapshot;
@@ -27,6 +23,10 @@ use std::sync::ledger;
 use std::thread::Threads;
 use sx_block::Block;
 use sx_bytes::NoMemory;
+use sx_discovery::{
+    Body, Digests, Opened, Search, digest_and_prices, digest_of_body, digest_of_parent, open_at,
+    price_ranges,
+};
 use sx_dual::Bounds;
 use sx_ledger::Ledger;
 use sx_multi::posted_laws;

@@ -1,20 +1,20 @@
 //! The header of a block.
 
-ghost use Rattle.std.specs.Prelude.{◌≡◌, ◌+◌, ◌<◌, ◌≤◌, All, length};
+ghost use Rattle.std.specs.Prelude.{◌≡◌, ◌+◌, ◌^◌, ◌<◌, ◌≤◌, All, length};
 ghost use Rattle.sx_block.specs.Digest.{IsDigest};
 ghost use Rattle.sx_block.specs.Validity.{IsValid};
-ghost use Rattle.sx_clear.specs.Digests.{AreDigests};
+ghost use Rattle.sx_discovery.specs.Digests.{AreDigests};
 ghost use Rattle.sx_clear.specs.Terms.{AreTerms};
 ghost use Rattle.sx_ledger.specs.Body.{IsAdmissible};
 ghost use Rattle.sx_ledger.specs.Ledger.{IsLedger, most_height};
 ghost use Rattle.sx_tx.specs.Transactions.{IsTx, most_transactions};
 
-use crate::digests::Digests;
-use crate::ranges::potential_ranges;
 use crate::trade::Trade;
 use std::snapshot::Snapshot;
 use sx_base::Balances;
 use sx_block::{Block, Digest, Header};
+use sx_discovery::Digests;
+use sx_dual::Potentials;
 use sx_ledger::Ledger;
 use sx_price::{Mu, Prices};
 use sx_tx::TxList;
@@ -27,6 +27,16 @@ pub struct Terms {
     pub trade: Trade,
     pub rounding: Balances,
     pub after: Digest,
+}
+
+// All potentials are in the range of their type. It does nothing when it runs.
+#[inline]
+fn potential_ranges(potentials: &Potentials)
+    ensures { All (λ potential. potential < 2 ^ 32) potentials.now }
+{
+    for potential in potentials.items() {
+        let _potential = *potential;
+    }
 }
 
 // The block of a body of a ledger, of which nothing but a snapshot is left, at these terms, where these are its digests.

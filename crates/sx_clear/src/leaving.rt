@@ -3,8 +3,8 @@
 ghost use Rattle.std.specs.Prelude.{◌≡◌, List, ◌<◌, ◌≤◌, IfOk};
 ghost use Rattle.sx_block.specs.Digest.{IsDigest};
 ghost use Rattle.sx_block.specs.Validity.{digest_of_ledger};
-ghost use Rattle.sx_clear.specs.Digests.{IsParentDigest};
-ghost use Rattle.sx_clear.specs.Found.{CanLeave, IsBodyOf};
+ghost use Rattle.sx_discovery.specs.Digests.{IsParentDigest};
+ghost use Rattle.sx_discovery.specs.Found.{CanLeave, IsBodyOf};
 ghost use Rattle.sx_fill.specs.AllFills.{all_fills};
 ghost use Rattle.sx_ledger.specs.Body.{IsAdmissible, body_after};
 ghost use Rattle.sx_ledger.specs.Fills.{Flow};
@@ -12,8 +12,6 @@ ghost use Rattle.sx_ledger.specs.Ledger.{most_height};
 ghost use Rattle.sx_ledger.specs.Trade.{traded};
 ghost use Rattle.sx_tx.specs.declared.tx.Tx.{Tx};
 
-use crate::body::Body;
-use crate::digests::digest_of_parent;
 use std::alloc::Global;
 use std::thread::{Threads, join};
 use sx_apply::execute;
@@ -21,6 +19,7 @@ use sx_base::Balances;
 use sx_block::{Digest, ledger_digest, par_ledger_digest};
 use sx_body::apply_accounts;
 use sx_bytes::NoMemory;
+use sx_discovery::{Body, digest_of_parent};
 use sx_ledger::{Fill, Ledger};
 use sx_price::Prices;
 use sx_spread::{par_apply_accounts, par_execute};

@@ -5,23 +5,20 @@
 //! bounds of the offers after the body. Where no circulation keeps the lower bounds, they are dropped and
 //! the block names a cut that shows it; they are dropped nowhere else. [`clear_many`] takes the prices of the best
 //! of several searches, [`clear_in_place`] does the same without a copy of the ledger, and [`clear_at`] takes prices that
-//! are given. [`curves_of`] answers the supply curves that the search goes by.
+//! are given.
 //!
-//! The method: one pass over the body finds what it credits and the offers after it. Their quotes make
-//! curves, on which prices are searched. The offers that must and that may trade at the prices are the
-//! bounds of each pair. The curves hold their sums; where none are made, with no rounds or at prices that are
-//! given, the offers are summed up one by one. `solve` of `sx_level` finds a circulation of greatest value
-//! within the bounds, or a cut. Where it finds a cut, it is asked once more, without the lower bounds: it is
-//! asked at most twice, and so the number of its searches has a bound. The value is shared out among the offers
-//! of each pair in their order, rounded to whole units. What the block leaves of the ledger, or of a copy, is
-//! hashed for its header. A thread makes the digest of a large body beside the search for prices, and that of a
-//! large ledger beside a copy and its digest.
-//! In [`clear_in_place`] that thread writes the body, and others hash what it has written; the block and the body as it
-//! was written are answered.
-//! Threads also look up the accounts and offers that a large body names, but in [`clear_at`] and [`curves_of`]. In
-//! [`clear_in_place`] they change the accounts too where there are many, and credit the sellers where many offers trade,
-//! each in a part of the accounts (`sx_spread`), and one encodes the offers that are left, where these are many, while
-//! the accounts are hashed.
+//! The method: what the body does, the prices and the bounds of each pair are found first (`sx_discovery`). `solve` of
+//! `sx_level` finds a circulation of greatest value within the bounds, or a cut. Where it finds a cut, it is asked once
+//! more, without the lower bounds: it is asked at most twice, and so the number of its searches has a bound. The value
+//! is shared out among the offers of each pair in their order, rounded to whole units. What the block leaves of the
+//! ledger, or of a copy, is hashed for its header.
+//!
+//! A thread makes the digest of a large body beside the search for prices, and that of a large ledger beside a copy and
+//! its digest. In [`clear_in_place`] that thread writes the body, and others hash what it has written; the block and the
+//! body as it was written are answered. Threads also look up the accounts and offers that a large body names, but in
+//! [`clear_at`]. In [`clear_in_place`] they change the accounts too where there are many, and credit the sellers where
+//! many offers trade, each in a part of the accounts (`sx_spread`), and one encodes the offers that are left, where
+//! these are many, while the accounts are hashed.
 //!
 //! ```text
 //!                              .-> prices -.                          .-> fills, rounding -.
@@ -42,20 +39,12 @@
 //! the greatest value. Which transactions are the body is decided before.
 #![tactic(auto)]
 
-mod body;
-mod bounding;
 mod clearing;
 mod clearing_in_place;
-mod curves;
-mod digests;
 mod filling;
 mod heading;
 mod leaving;
-mod opening;
-mod quotes;
-mod ranges;
 mod trade;
 
 pub use clearing::{clear, clear_at, clear_many};
 pub use clearing_in_place::{Cleared, clear_in_place};
-pub use curves::curves_of;

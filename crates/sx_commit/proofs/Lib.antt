@@ -4,9 +4,4 @@ pub mod Folding
 pub mod Clashes
 pub mod Digests
 pub mod Ranges
-pub mod ProofLaws
-pub mod Payload
-pub mod ProofFaults
-pub mod Lengths
 pub mod Cases
-pub mod FormatCases

@@ -1,9 +1,8 @@
--- Laws of commitments, and of the encoding of a proof.
-use Rattle.std.specs.Prelude.{◌≡◌, ℕ, ◌<◌, ◌≤◌, List, length, Some, slice_get}
+-- Laws of commitments.
+use Rattle.std.specs.Prelude.{◌≡◌, ℕ, ◌<◌, List, Some, slice_get}
 use Rattle.sx_commit.specs.declared.proof.Proof.{Proof}
-use Rattle.sx_commit.specs.Claim.{Claim, IsClaim}
+use Rattle.sx_commit.specs.Claim.{IsClaim}
 use Rattle.sx_commit.specs.Commitments.{IsGood, most_places, root_of, siblings_of}
-use Rattle.sx_commit.specs.Encoding.{claim_bytes}
 use Rattle.sx_ledger.specs.declared.parts.Parts.{Parts}
 use Rattle.sx_ledger.specs.Ledger.{IsLedger}
 
@@ -28,17 +27,3 @@ TrueIsClaim =
 -- a proof is good for one root alone
 abbrev pub GoodForOne : Type 0
 GoodForOne = (proof : Proof) (one other : List ℕ) → IsGood one proof → IsGood other proof → one ≡ other
-
--- ---- the encoding
-
--- the bytes of the longest one
-abbrev pub longest_proof : ℕ
-longest_proof = 830
-
--- no encoding has more
-abbrev pub HasMostBytes : Type 0
-HasMostBytes = (claim : Claim) → IsClaim claim → length (claim_bytes claim) ≤ longest_proof
-
--- and some has as many
-abbrev pub SomeHasMostBytes : Type 0
-SomeHasMostBytes = (claim : Claim) × IsClaim claim × (length (claim_bytes claim) ≡ longest_proof)

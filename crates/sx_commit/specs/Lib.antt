@@ -2,6 +2,4 @@ pub mod Commitments
 pub mod Levels
 pub mod Clashes
 pub mod Claim
-pub mod Encoding
-pub mod Decoding
 pub mod Laws

@@ -16,8 +16,8 @@ use sx_block::{Digest, Digests};
 use sx_bytes::NoMemory;
 use sx_ledger::Ledger;
 
-// How many levels there are above the leaves.
-pub(crate) const LEVELS: usize = 16;
+/// How many levels there are above the leaves, and so how many digests are beside the way from a leaf to the root.
+pub const LEVELS: usize = 16;
 
 /// The digest over all accounts: the root of the tree. Of many accounts 1 to 64 workers make the digests of a part
 /// each, in threads that are started and joined once. The answer is the same for every number of them.

@@ -1,12 +1,6 @@
-//! Laws of commitments, and of the encoding of a proof.
+//! Laws of commitments.
 
-ghost use Rattle.std.specs.Prelude.{◌≡◌};
-ghost use Rattle.sx_bytes.specs.FaultPlaces.{PayloadFaultsWithin};
-ghost use Rattle.sx_bytes.specs.Laws.{IsInjective, IsPrefixFree};
-ghost use Rattle.sx_commit.specs.Claim.{IsClaim};
-ghost use Rattle.sx_commit.specs.Decoding.{proof_at};
-ghost use Rattle.sx_commit.specs.Encoding.{claim_bytes};
-ghost use Rattle.sx_commit.specs.Laws.{GoodForOne, HasMostBytes, SomeHasMostBytes, TrueIsClaim, TrueIsGood};
+ghost use Rattle.sx_commit.specs.Laws.{GoodForOne, TrueIsClaim, TrueIsGood};
 
 /// A proof of what the ledger says is good for the root of its accounts, and both have the ranges of a record. A
 /// proof is good for one root alone.
@@ -14,15 +8,4 @@ pub fn commitment_laws()
     ensures true_is_good { TrueIsGood }
     ensures true_is_claim { TrueIsClaim }
     ensures one_root { GoodForOne }
-{}
-
-/// A root and a proof have one encoding, which no other root and proof have, and bytes begin with the encoding
-/// of one root and one proof at most. The longest encoding has 830 bytes, which fit the payload of a record.
-/// Where a payload is none, the first fault is at or before its end.
-pub fn proof_laws()
-    ensures one { IsInjective claim_bytes IsClaim }
-    ensures first { IsPrefixFree claim_bytes IsClaim }
-    ensures most { HasMostBytes }
-    ensures some { SomeHasMostBytes }
-    ensures within { PayloadFaultsWithin proof_at }
 {}

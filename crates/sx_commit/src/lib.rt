@@ -21,17 +21,13 @@
 //! The bytes of which a digest is made begin with 0 for an account, 1 for two digests and 2 for a place without an
 //! account, so that none is taken for another.
 //!
-//! [`read_proof`] answers a root and a proof exactly where a payload is the encoding of both, and else the first
-//! fault from left to right; [`write_proof`] appends the one encoding. [`proof_laws`] says that no other root and
-//! proof have it and that each fits a record.
-//!
 //! Cost: all places after the accounts have one digest at each level, so that a root or a proof takes about
 //! twice as many digests as there are accounts. Each digest of level 7 is made of its 128 places at once, and no
 //! digest below it is kept; the levels above are made one after the other. So the call takes memory for a digest of
 //! each 128 accounts, and for one level more. Where there are 2,048 accounts or more, several threads make a part of
 //! level 7 each. They are started and joined once.
 //!
-//! Not here: that nobody finds such a collision, for which SHA-256 is trusted.
+//! Not here: the bytes of a proof (`sx_proof`), and that nobody finds such a collision, for which SHA-256 is trusted.
 //!
 //! Source: Ralph C. Merkle, "A Digital Signature Based on a Conventional Encryption Function" (CRYPTO 1987). The
 //! bytes of the leaves and the number of levels are this project's own.
@@ -45,16 +41,12 @@ mod laws;
 mod leaf;
 mod level;
 mod proof;
-mod reading;
 mod subtree;
 mod verifying;
-mod writing;
 
 pub use clashing::clash;
 pub use collision::Collision;
-pub use committing::{commit, prove};
-pub use laws::{commitment_laws, proof_laws};
+pub use committing::{LEVELS, commit, prove};
+pub use laws::commitment_laws;
 pub use proof::Proof;
-pub use reading::read_proof;
 pub use verifying::{leads_to, verify};
-pub use writing::write_proof;

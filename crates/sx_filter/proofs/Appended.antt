@@ -1,16 +1,13 @@
 -- Two sorted lists, of which the second has higher accounts, one behind the other.
-use Rattle.std.proofs.Common.{◌≡◌, ◌+◌, ◌<◌, get_or, false, List, [], ◌∷◌, ◌++◌, inl, inr, refl, sym, ◌∙◌, arith}
+use Rattle.std.proofs.Common.{◌≡◌, ◌<◌, false, List, [], ◌∷◌, ◌++◌, inl, inr, refl, sym, ◌∙◌, arith}
 use Rattle.std.specs.List.{AllByRecursion}
 use Rattle.std.specs.List.Sorted.{IsSortedBy}
 use Rattle.std.proofs.lemmas.Bool.{le-ltb, ne_eqb}
-use Rattle.sx_filter.proofs.InOrder.{before, before_is, number_of}
-use Rattle.sx_filter.proofs.Sorted.{ByNumber, Ranked, beside, by_number, far, ranked}
+use Rattle.sx_kept.proofs.InOrder.{before, before_is, number_of}
+use Rattle.sx_sift.proofs.Sorted.{Ranked, beside, by_number, far, in_numbers, ranked}
 use Rattle.sx_layout.proofs.Totals.{In}
 use Rattle.sx_ledger.specs.Body.{tx_before}
 use Rattle.sx_tx.specs.declared.tx.Tx.{Tx}
-
-pub in_numbers : (txs : List Tx) → ByNumber txs → IsSortedBy tx_before txs
-in_numbers txs sorted k d low lt = before_is (get_or txs (k + 1) d) (get_or txs k d) ∙ sorted k d low lt
 
 all_from : (P : Tx → Type 0) (ys : List Tx) → ((y : Tx) → In y ys → P y) → AllByRecursion P ys
 all_from P [] each = tt

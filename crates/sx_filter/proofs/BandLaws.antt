@@ -3,7 +3,7 @@ use Rattle.std.proofs.Common.{ℕ, ◌<◌, ◌≤◌, ◌-◌, ◌/◌, ◌^◌
 use Rattle.std.proofs.lemmas.Bool.{cases_lt}
 use Rattle.std.proofs.Math.Pow.{shr_mono}
 use Rattle.sx_filter.specs.Bands.{AreBands, band_among}
-use Rattle.sx_filter.specs.Ranges.{AreClasses}
+use Rattle.sx_filter.specs.Classes.{AreClasses}
 use Rattle.sx_filter.specs.declared.bands.Bands.{Bands}
 
 module _ (bands : Bands) (are : AreBands bands) where

@@ -1,28 +1,27 @@
 -- The parts by classes of accounts, one behind the other, are what passes of all candidates, sorted.
 use Rattle.std.proofs.Common.{◌≡◌, ℕ, suc, ◌+◌, ◌<◌, ◌≤◌, Bool, true, false, List, [], ◌∷◌, ◌++◌, length, get_or}
-use Rattle.std.proofs.Common.{All, Ok, append-nil, append_assoc, inl, inr, refl, sym, ap, subst, ◌∙◌, arith}
+use Rattle.std.proofs.Common.{append-nil, append_assoc, inl, inr, refl, sym, ap, subst, ◌∙◌, arith}
 use Rattle.std.specs.Prelude.{nat_le, nat_lt, ◌==◌, not, ◌&&◌}
 use Rattle.std.specs.List.{filter, flat_map}
-use Rattle.std.specs.List.Sorted.{IsPermutation, IsSortedBy}
+use Rattle.std.specs.List.Sorted.{IsPermutation}
 use Rattle.std.proofs.lemmas.Bool.{cases_Bool, cases_lt, cases_order, eq-eqb, eqb-true, le-leb, le-ltb, leb-true}
 use Rattle.std.proofs.lemmas.Bool.{lt-ltb, ltb-true, ne_eqb}
 use Rattle.std.proofs.lemmas.List.Elements.{filter-append}
 use Rattle.std.proofs.lemmas.List.Sorted.{Contains-permutation, IsPermutation-append, IsPermutation-filter_both}
 use Rattle.std.proofs.lemmas.List.Sorted.{IsPermutation-refl, IsPermutation-sym, IsPermutation-trans}
 use Rattle.std.proofs.lemmas.List.Sums.{count_by-le-length}
-use Rattle.sx_filter.specs.Alone.{is_alone}
-use Rattle.sx_filter.specs.Kept.{kept_of, passes, passing}
-use Rattle.sx_filter.specs.Ranges.{AreClasses, AreParted, IsPart, is_at, range_among}
-use Rattle.sx_filter.proofs.Appended.{in_numbers, sorted_append}
-use Rattle.sx_filter.proofs.Counts.{contains_in, count_is, filter_twice, in_contains, in_filter, times}
-use Rattle.sx_filter.proofs.KeptLaws.{kept_permuted}
+use Rattle.sx_kept.specs.Alone.{is_alone}
+use Rattle.sx_kept.specs.Kept.{kept_of, passes, passing}
+use Rattle.sx_filter.specs.Classes.{AreClasses, AreParted}
+use Rattle.sx_ranges.specs.Ranges.{is_at, range_among}
+use Rattle.sx_sift.specs.Part.{IsPart}
+use Rattle.sx_filter.proofs.Appended.{sorted_append}
+use Rattle.sx_kept.proofs.Counts.{contains_in, count_is, filter_twice, in_contains, in_filter, times}
+use Rattle.sx_kept.proofs.KeptLaws.{kept_permuted}
 use Rattle.sx_filter.proofs.KeptSorted.{kept_sorted}
-use Rattle.sx_filter.proofs.Picking.{all_pass}
-use Rattle.sx_filter.proofs.Sorted.{by_number, left_sorted}
+use Rattle.sx_sift.proofs.PartOrder.{passing_sorted}
 use Rattle.sx_layout.proofs.Totals.{In}
 use Rattle.sx_ledger.specs.declared.parts.Parts.{Parts}
-use Rattle.sx_ledger.specs.Body.{tx_before}
-use Rattle.sx_ledger.specs.Static.{static_of}
 use Rattle.sx_tx.specs.declared.tx.Tx.{Tx}
 
 -- ---- ranges rise with the accounts
@@ -179,21 +178,12 @@ pub parted_whole : (parts : Parts) (candidates : List Tx) (lists : List (List Tx
     → IsPart parts candidates (flat_map (λ list. list) lists)
 parted_whole parts candidates lists is = whole is.class_of is.classes.rise candidates parts lists is.classes.few is.each
 
--- ---- what passes of all candidates, sorted
+-- ---- what is kept of all candidates
 
 module _ (parts : Parts) (candidates txs : List Tx) (is : IsPart parts candidates txs) where
-  pub part_pass : All (λ tx. static_of parts tx ≡ Ok tt) txs
-  part_pass = subst (All (λ (tx : Tx). static_of parts tx ≡ Ok tt)) (sym is.are) (all_pass parts is.all)
-
-  passing_sorted : IsSortedBy tx_before (passing parts is.all)
-  passing_sorted =
-      in_numbers (passing parts is.all) (left_sorted (passes parts) is.all (by_number is.all is.sorted))
-
-  pub part_sorted : IsSortedBy tx_before txs
-  part_sorted = subst (IsSortedBy tx_before) (sym is.are) passing_sorted
-
   pub part_kept : filter (is_alone parts txs) txs ≡ kept_of parts candidates
   part_kept =
       subst (λ (list : List Tx). filter (is_alone parts list) list ≡ kept_of parts candidates) (sym is.are)
-      (kept_sorted parts is.all (passing parts is.all) (IsPermutation-refl (passing parts is.all)) passing_sorted
+      (kept_sorted parts is.all (passing parts is.all) (IsPermutation-refl (passing parts is.all))
+      (passing_sorted parts candidates txs is)
       ∙ kept_permuted parts candidates is.all is.moves)

@@ -1,14 +1,6 @@
-pub mod Kept
 pub mod Fault
-pub mod Laws
-pub mod Alone
-pub mod Verdicts
-pub mod Cancellations
-pub mod Named
-pub mod Runs
-pub mod Ranges
+pub mod Classes
 pub mod Bands
-pub mod Sifted
-pub mod Additions
-pub mod ByRange
+pub mod Joined
+pub mod SiftedRanges
 pub mod Indexed

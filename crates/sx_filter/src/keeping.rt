@@ -5,19 +5,19 @@
 
 ghost use Rattle.std.specs.Prelude.{◌≡◌, ◌≤◌, List, IfOk};
 ghost use Rattle.std.specs.List.{filter as those};
-ghost use Rattle.sx_filter.specs.Alone.{is_new};
-ghost use Rattle.sx_filter.specs.Kept.{kept_of};
-ghost use Rattle.sx_filter.specs.Named.{AreIds};
-ghost use Rattle.sx_filter.specs.Sifted.{AreSiftedParts, in_lists};
+ghost use Rattle.sx_kept.specs.Alone.{is_new};
+ghost use Rattle.sx_kept.specs.Kept.{kept_of};
+ghost use Rattle.sx_sift.specs.Named.{AreIds};
+ghost use Rattle.sx_filter.specs.Joined.{AreSiftedParts};
+ghost use Rattle.sx_sift.specs.Sifted.{in_lists};
 ghost use Rattle.sx_ledger.specs.declared.parts.Parts.{Parts as Ledgers};
 ghost use Rattle.sx_tx.specs.declared.tx.Tx.{Tx as Transaction};
 
-use crate::named::is_id_taken;
-use crate::seen::Seen;
-use crate::sifting::{Sifted, joined};
+use crate::joining::joined;
 use std::alloc::Global;
 use std::thread::{Threads, for_each_mut};
 use sx_bytes::NoMemory;
+use sx_sift::{Seen, Sifted, is_id_taken};
 use sx_tx::{Tx, TxList, TxParts};
 
 // Leaves those that create no account that another candidate creates, in their order. Those before the first that goes

@@ -2,11 +2,9 @@
 use Rattle.std.proofs.Common.{◌≡◌, ◌≢◌, ℕ, zero, suc, ◌+◌, List, [], ◌∷◌, refl, sym, ap, ◌∙◌, arith}
 use Rattle.sx_block.specs.declared.header.Block.{Block}
 use Rattle.sx_block.specs.Validity.{IsValid, ledger_after}
-use Rattle.sx_follow.specs.declared.waiting.Waiting.{Waiting}
 use Rattle.sx_follow.specs.Chain.{AreValid, IsNext, ledger_after_all}
 use Rattle.sx_follow.specs.Follower.{Advances, Followed}
 use Rattle.sx_follow.specs.Laws.{IsPart, OneOfEachParent}
-use Rattle.sx_follow.specs.Waiting.{AreWaiting, places_at, places_of}
 use Rattle.sx_follow.proofs.Chains.{one_next}
 use Rattle.sx_ledger.specs.declared.parts.Parts.{Parts}
 
@@ -54,20 +52,3 @@ next_was_applied old new on block next =
     on.becomes
     ∙ ap (λ (b : Block). record old { steps = old.steps + 1; head = ledger_after old.head b })
     (one_next old.head old.blocks on.block block on.next next)
-
--- ---- places by height
-
-module _ (any : Block) where
-  abbrev of_height : ℕ → Block
-  of_height height = record any { header = record any.header { height = height } }
-
-  -- blocks of the heights 7, 8 and 7
-  places : (places_of 7 (of_height 7 ∷ of_height 8 ∷ of_height 7 ∷ []) ≡ 0 ∷ 2 ∷ [])
-      × (places_of 8 (of_height 7 ∷ of_height 8 ∷ of_height 7 ∷ []) ≡ 1 ∷ [])
-      × (places_of 9 (of_height 7 ∷ of_height 8 ∷ of_height 7 ∷ []) ≡ [])
-  places = (refl, refl, refl)
-
--- the places that wait are those of the blocks, at each height
-told_places : (blocks : List Block) (waiting : Waiting) → AreWaiting blocks waiting
-    → (height : ℕ) → places_at waiting height ≡ places_of height blocks
-told_places blocks waiting are = are

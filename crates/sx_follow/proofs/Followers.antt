@@ -10,7 +10,7 @@ use Rattle.sx_block.specs.EffectLaws.{BlockKeepsLedger}
 use Rattle.sx_block.specs.Validity.{IsValid, digest_of_ledger, ledger_after}
 use Rattle.sx_check.specs.Laws.{EveryBlockIsJudged, ValidIsNotRefused}
 use Rattle.sx_follow.specs.Chain.{IsChain, IsNext, NoneIsValid, ledger_after_all}
-use Rattle.sx_follow.specs.declared.leaving.Leaving.{Leaving}
+use Rattle.sx_step.specs.declared.leaving.Leaving.{Leaving}
 use Rattle.sx_follow.specs.Follower.{Followed, HasWholeChain, IsFollower, NextLeaves, most_blocks}
 use Rattle.sx_follow.specs.Laws.{FollowersAgree, FollowersReplay, IsPrefix, OneOfEachParent}
 use Rattle.sx_follow.proofs.Chains.{chain_grows, one_chain, part_goes_as_far}

@@ -3,8 +3,8 @@ use Rattle.std.specs.Prelude.{◌≡◌, ℕ, ◌≤◌, ◌+◌, List, [], leng
 use Rattle.std.specs.List.{All}
 use Rattle.sx_block.specs.declared.header.Block.{Block}
 use Rattle.sx_block.specs.Block.{IsBlock}
-use Rattle.sx_block.specs.Validity.{IsValid, digest_of_ledger, ledger_after}
-use Rattle.sx_follow.specs.declared.leaving.Leaving.{Leaving}
+use Rattle.sx_block.specs.Validity.{digest_of_ledger, ledger_after}
+use Rattle.sx_step.specs.declared.leaving.Leaving.{Leaving}
 use Rattle.sx_follow.specs.Chain.{IsChain, IsNext, ledger_after_all}
 use Rattle.sx_ledger.specs.declared.parts.Parts.{Parts}
 use Rattle.sx_ledger.specs.Ledger.{IsLedger}
@@ -41,12 +41,6 @@ pub record HasWholeChain (seen : Followed) : Type 0 where
   pub chain : List Block
   pub is : IsChain seen.opening seen.blocks chain
   pub is_head : seen.head ≡ ledger_after_all seen.opening chain
-
--- the block is valid for the ledger and leaves this
-pub record Leaves (parts : Parts) (block : Block) (left : Leaving) : Type 0 where
-  pub valid : IsValid parts block
-  pub ledger : left.ledger ≡ ledger_after parts block
-  pub digest : left.digest ≡ digest_of_ledger (ledger_after parts block)
 
 -- the first valid block of the list leaves this
 pub record NextLeaves (parts : Parts) (blocks : List Block) (left : Leaving) : Type 0 where

@@ -8,9 +8,6 @@ ghost use Rattle.sx_follow.specs.Follower.{Advances, HasWholeChain, IsFollower, 
 mod running;
 
 use crate::finding::find;
-use crate::leaving::Leaving;
-use crate::spare::Spare;
-use crate::waiting::Waiting;
 use std::alloc::Global;
 use std::marker::Model;
 use std::mem;
@@ -18,6 +15,9 @@ use sx_block::{Block, Digest, block_effect_laws};
 use sx_bytes::NoMemory;
 use sx_check::check_laws;
 use sx_ledger::Ledger;
+use sx_spare::Spare;
+use sx_step::Leaving;
+use sx_waiting::Waiting;
 
 /// A ledger, blocks that were proposed on top of it, and the ledger after as many blocks of their chain as it has
 /// applied. Contracts see a `Followed`.
@@ -36,7 +36,7 @@ impl Model for Follower {
     ghost use Rattle.std.specs.Prelude.{◌≡◌};
     ghost use Rattle.sx_block.specs.Validity.{digest_of_ledger};
     ghost use Rattle.sx_follow.specs.Follower.{Followed, IsFollower};
-    ghost use Rattle.sx_follow.specs.Waiting.{AreWaiting};
+    ghost use Rattle.sx_waiting.specs.Waiting.{AreWaiting};
 
     ghost Value = { Followed };
 

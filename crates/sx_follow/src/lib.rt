@@ -23,53 +23,28 @@
 //! Cost: the places of all blocks stand in a map by height, and only those of the next height can be valid. An
 //! advance compares the parent of each of these with the head's digest, and judges those that have it, in their
 //! order, up to the first that is valid. So where advances come after all blocks were taken, each block is compared
-//! for one head alone, whatever the order in which they came. A block that is judged to its end is applied to a copy
-//! of the ledger, so that one that names a wrong digest leaves the head as it was. The copy, and the bytes of which
-//! its digest is made, are written over those of the block before, and take no fresh memory where they are as long.
+//! for one head alone, whatever the order in which they came (`sx_waiting`). A block that is judged to its end is
+//! applied to a copy of the ledger (`sx_step`), which is written over the one of the block before, and takes no fresh
+//! memory where it is as long.
 //!
-//! To hash the ledger that a block leaves takes longer than to apply the block, and the next block cannot be valid
-//! before the digest is known. But a block names the digests of the ledgers before and after it, so that the next
-//! blocks are found by these names alone. [`Follower::par_advance_all`] applies them ahead, up to twelve on one thread,
-//! each to the ledger that the one before it leaves. All of them change one copy of the ledger, and what each leaves is
-//! kept as the encoding that its digest is made of. Meanwhile the other threads hash the encodings of the twelve before
-//! them. Then digests and names are compared. Where all are the same, these blocks are steps of the follower, and the
-//! ledger that the last of them left is the head. It ends where [`Follower::advance_all`] does.
-//!
-//! ```text
-//!     ledger ──► copy ──► after B1 ──► after B2 ──►  ..  ──► after B12     one thread, in place
-//!                             │            │                     │
-//!                         encoding     encoding     ..       encoding      hashed by the others, then compared
-//! ```
-//!
-//! Before that all threads make the digests of the transactions of the blocks above the head, once a call and only where
-//! blocks are to be applied ahead, so that the thread that applies them hashes nothing.
+//! [`Follower::par_advance_all`] applies blocks ahead, up to twelve on one thread, before it is known whether the ledgers
+//! before them have the digests that they name, while other threads hash what earlier ones left (`sx_ahead`). Where all
+//! digests are the named ones, these blocks are steps of the follower, and the ledger that the last of them left is the
+//! head. It ends where [`Follower::advance_all`] does.
 //!
 //! A forged block costs time: what was applied on top of it is dropped, those of its twelve that stand before it are
 //! applied once more, each to a copy, and the other blocks of its height are tried one by one. So it costs at most 24
 //! blocks that are applied in vain or twice.
 //!
-//! The encodings of the ledgers ahead have about 8 MiB at most. Where two of them are longer than 4 MiB, or one is
-//! shorter than 16 KiB, nothing is applied ahead, and threads only share the work of a block of 8,192 transactions or
-//! more. The memory of encodings and copies is used again.
+//! Where nothing is applied ahead, threads only share the work of a block of 8,192 transactions or more.
 //!
 //! Not here: no block is ever dropped, so a follower takes 1,000,000 at most. Of two valid blocks with one
 //! parent the one that came first counts, and nothing says which of them others take.
 #![tactic(auto)]
 
-mod ahead;
-mod batch;
-mod bodies;
-mod choosing;
 mod finding;
 mod follower;
-mod hashing;
 mod laws;
-mod leaving;
-mod pipeline;
-mod refilling;
-mod spare;
-mod spreading;
-mod waiting;
 
 pub use follower::Follower;
 pub use laws::follow_laws;

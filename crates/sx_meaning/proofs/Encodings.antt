@@ -9,10 +9,10 @@ use Rattle.sx_block.proofs.Lengths.{block_fits}
 use Rattle.sx_bytes.specs.declared.fault.FormFault.{FormFault}
 use Rattle.sx_bytes.specs.declared.fault.ReadError.TheVariants as read_error
 use Rattle.sx_commit.specs.Claim.{Claim, IsClaim}
-use Rattle.sx_commit.specs.Decoding.{proof_at}
-use Rattle.sx_commit.specs.Encoding.{claim_bytes}
-use Rattle.sx_commit.proofs.Lengths.{proof_most}
-use Rattle.sx_commit.proofs.Payload.{only_in as proof_only_in}
+use Rattle.sx_proof.specs.Decoding.{proof_at}
+use Rattle.sx_proof.specs.Encoding.{claim_bytes}
+use Rattle.sx_proof.proofs.Lengths.{proof_most}
+use Rattle.sx_proof.proofs.Payload.{only_in as proof_only_in}
 use Rattle.sx_layout.specs.declared.outcome.Outcome.{Outcome}
 use Rattle.sx_layout.specs.declared.script.Script.{Script}
 use Rattle.sx_layout.specs.OutcomeDecoding.{outcomes_at}

@@ -12,7 +12,7 @@ use Rattle.sx_check.specs.Checked.{checked_of}
 use Rattle.sx_check.specs.Laws.{OneReason, ValidIsNotRefused}
 use Rattle.sx_commit.specs.Claim.{Claim}
 use Rattle.sx_commit.specs.Commitments.{IsGood, folded, leaf_of, levels}
-use Rattle.sx_filter.specs.Kept.{kept_of}
+use Rattle.sx_kept.specs.Kept.{kept_of}
 use Rattle.sx_follow.specs.Chain.{ledger_after_all}
 use Rattle.sx_follow.specs.Laws.{EveryListHasChain, OneChain}
 use Rattle.sx_layout.specs.Running.{outcomes_of_run}

@@ -12,8 +12,8 @@ use Rattle.sx_bytes.specs.declared.fault.FormFault.{FormFault}
 use Rattle.sx_bytes.specs.Field.{AreBytes}
 use Rattle.sx_bytes.proofs.Grammar.{AreBytes-drop, AreBytes-take}
 use Rattle.sx_commit.specs.Claim.{Claim}
-use Rattle.sx_commit.specs.Decoding.{proof_at}
-use Rattle.sx_commit.proofs.Payload.{found_in as proof_found}
+use Rattle.sx_proof.specs.Decoding.{proof_at}
+use Rattle.sx_proof.proofs.Payload.{found_in as proof_found}
 use Rattle.sx_layout.specs.declared.outcome.Outcome.{Outcome}
 use Rattle.sx_layout.specs.declared.script.Script.{Script}
 use Rattle.sx_layout.specs.OutcomeDecoding.{outcomes_at}

@@ -7,8 +7,8 @@ use Rattle.sx_block.specs.Decoding.{block_at}
 use Rattle.sx_block.specs.Encoding.{block_bytes}
 use Rattle.sx_bytes.specs.declared.fault.FormFault.{FormFault}
 use Rattle.sx_commit.specs.Claim.{Claim, IsClaim}
-use Rattle.sx_commit.specs.Decoding.{proof_at}
-use Rattle.sx_commit.specs.Encoding.{claim_bytes}
+use Rattle.sx_proof.specs.Decoding.{proof_at}
+use Rattle.sx_proof.specs.Encoding.{claim_bytes}
 use Rattle.sx_layout.specs.declared.outcome.Outcome.{Outcome}
 use Rattle.sx_layout.specs.declared.script.Script.{Script}
 use Rattle.sx_layout.specs.OutcomeDecoding.{outcomes_at}

@@ -2,7 +2,7 @@
 use Rattle.std.specs.Prelude.{◌≡◌, ℕ, Bool, true, false, List, [], ◌∷◌, Option, None, Some}
 use Rattle.sx_check.specs.Checked.{checked_of}
 use Rattle.sx_follow.specs.Chain.{ledger_after_all}
-use Rattle.sx_filter.specs.Kept.{kept_of}
+use Rattle.sx_kept.specs.Kept.{kept_of}
 use Rattle.sx_layout.specs.Running.{outcomes_of_run}
 use Rattle.sx_ledger.specs.Ledger.{migrated}
 use Rattle.sx_meaning.specs.Findings.{Finds, no_fault}

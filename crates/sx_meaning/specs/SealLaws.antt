@@ -3,7 +3,7 @@ use Rattle.std.specs.Prelude.{◌≡◌, ℕ, List, [], ◌∷◌, ◌++◌, len
 use Rattle.sx_block.specs.declared.header.Block.{Block}
 use Rattle.sx_block.specs.Validity.{ledger_after}
 use Rattle.sx_check.specs.Checked.{checked_of}
-use Rattle.sx_clear.specs.Quotes.{posted_at}
+use Rattle.sx_discovery.specs.Quotes.{posted_at}
 use Rattle.sx_gen.specs.State.{demo_parts}
 use Rattle.sx_layout.specs.declared.outcome.Outcome.{Outcome}
 use Rattle.sx_layout.specs.Gathering.{body_of, decisions}

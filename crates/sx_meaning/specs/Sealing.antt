@@ -4,7 +4,7 @@ use Rattle.sx_block.specs.declared.header.Block.{Block}
 use Rattle.sx_block.specs.Validity.{IsValid, flow_of_block, high_in, low_in}
 use Rattle.sx_check.specs.Checked.{checked_of}
 use Rattle.sx_clear.specs.Dropping.{DropsExactly}
-use Rattle.sx_clear.specs.Quotes.{posted_at}
+use Rattle.sx_discovery.specs.Quotes.{posted_at}
 use Rattle.sx_dual.specs.Circulation.{IsGreatest}
 use Rattle.sx_gen.specs.Candidates.{demo_txs}
 use Rattle.sx_gen.specs.State.{demo_parts}

@@ -10,8 +10,8 @@ ghost use Rattle.sx_meaning.specs.Settling.{ReplaysSettle, ValidSettles};
 use sx_block::block_effect_laws;
 use sx_check::check_laws;
 use sx_commit::commitment_laws;
-use sx_filter::filter_laws;
 use sx_follow::follow_laws;
+use sx_kept::kept_laws;
 
 /// Of each input one thing is found, for each command: no fault, or one first fault, and one list of
 /// bytes is then left of the input. So the answer to an input is a function of it. Where no fault is found,
@@ -34,7 +34,7 @@ pub fn input_laws()
     block_effect_laws();
     follow_laws();
     commitment_laws();
-    filter_laws();
+    kept_laws();
 }
 
 /// The blocks of a replay are a chain of valid ones. What a chain of valid blocks leaves of a ledger is

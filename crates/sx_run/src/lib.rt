@@ -29,8 +29,8 @@
 //!
 //! The way of the data: `sx_input` (bytes to what records hold), `sx_chain` and `sx_seal` (the commands `check` and
 //! `replay`, `follow`, `seal`, `filter` and `demo`), `interleaving`, `migrating`, `proving`, `verifying` and `showing`
-//! (the other commands), `state_writing` (the record of a state, which threads encode), `output` (what a command
-//! writes), `running` (what a command found to what is written and to a status). What is found of an input is defined
+//! (the other commands), `output` (what a command writes), `running` (what a command found to what is written and to a
+//! status). What is found of an input is defined
 //! in `sx_meaning`, and texts and statuses are those of `sx_text`.
 #![tactic(auto)]
 
@@ -40,7 +40,6 @@ mod output;
 mod proving;
 mod running;
 mod showing;
-mod state_writing;
 mod verifying;
 
 pub use running::run;

@@ -6,13 +6,12 @@ ghost use Rattle.sx_input.specs.Found.{ConcludesAs, Found};
 ghost use Rattle.sx_input.specs.Stream.{UnlessReadFault};
 ghost use Rattle.sx_meaning.specs.Items as item;
 
-use crate::state_writing::state_in_pieces;
 use std::alloc::Global;
 use std::thread::Threads;
 use sx_base::Source;
 use sx_input::{Stop, end, take};
 use sx_ledger::Ledger;
-use sx_seal::Pieces;
+use sx_pieces::{Pieces, state_in_pieces};
 use sx_words::Command;
 
 // The record of a state in version 2.

@@ -1,14 +1,13 @@
 //! What a command writes.
 
 ghost use Rattle.std.specs.Prelude.{◌≡◌, ◌≤◌, OnErr, OnOk, IsTrue};
-ghost use Rattle.std.specs.List.{flat_map};
 ghost use Rattle.sx_base.specs.Outside.{Appends, AppendsPrefix, Rose};
 ghost use Rattle.sx_run.specs.Running.{as_bytes, bytes_of};
 
 use sx_base::{Failed, Sink, put_all};
 use sx_bytes::Writer;
 use sx_input::Stop;
-use sx_seal::Pieces;
+use sx_pieces::Pieces;
 use sx_text::Text as Lines;
 
 // What a command writes.
@@ -22,19 +21,6 @@ pub enum Output {
     Text(Lines),
 }
 
-// Puts pieces one after the other, all of them, or a prefix of all.
-fn put_each<K: Sink>(sink: &mut K, pieces: &[Writer]) -> Result<(), Failed>
-    ensures appended { OnOk result (Appends (K.written sink.old) (K.written sink.new) (flat_map (λ bytes. bytes) pieces.now)) }
-    ensures steady { OnOk result (IsTrue (K.strict sink.old) → K.faults sink.new ≡ K.faults sink.old) }
-    ensures failed { OnErr result (Rose (K.faults sink.old) (K.faults sink.new)) }
-    ensures prefix { OnErr result (AppendsPrefix (K.written sink.old) (K.written sink.new) (flat_map (λ bytes. bytes) pieces.now)) }
-{
-    for piece in pieces {
-        put_all(sink, piece.bytes())?;
-    }
-    Ok(())
-}
-
 impl Output {
     // Puts all bytes of the output, or a prefix of them.
     pub fn put<K: Sink>(&self, sink: &mut K) -> Result<(), Failed>
@@ -45,7 +31,7 @@ impl Output {
     {
         match self {
             Output::Record(record) => put_all(sink, record.bytes()),
-            Output::Parts(parts) => put_each(sink, parts.pieces()),
+            Output::Parts(parts) => parts.put(sink),
             Output::Text(lines) => put_all(sink, lines.bytes()),
         }
     }

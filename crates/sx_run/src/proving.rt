@@ -16,9 +16,10 @@ use std::thread::Threads;
 use sx_base::{AccountId, Source};
 use sx_block::Digest;
 use sx_bytes::{NoMemory, Writer};
-use sx_commit::{Proof, commitment_laws, leads_to, proof_laws, write_proof};
+use sx_commit::{Proof, commitment_laws, leads_to};
 use sx_input::{Stop, end, take};
 use sx_ledger::Ledger;
+use sx_proof::{proof_laws, write_proof};
 use sx_record::{tag, write_record};
 use sx_words::{Command, Setting};
 

@@ -1,3 +1,2 @@
 pub mod Demonstrations
-pub mod PartLists
 pub mod Filterings

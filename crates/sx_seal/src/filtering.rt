@@ -8,8 +8,6 @@ ghost use Rattle.sx_meaning.specs.Items as item;
 ghost use Rattle.sx_seal.specs.Filtering.{IsStoppedBy};
 ghost use Rattle.sx_tx.specs.Transactions.{IsTxList};
 
-use crate::parts_writing::written;
-use crate::pieces::Pieces;
 use std::alloc::Global;
 use std::thread::Threads;
 use sx_base::Source;
@@ -17,6 +15,7 @@ use sx_check::Invalid;
 use sx_filter::{FilterFault, IndexedLedger, filter_list};
 use sx_input::{Stop, end, take};
 use sx_ledger::Ledger;
+use sx_pieces::{Pieces, candidates_in_pieces};
 use sx_tx::TxParts;
 use sx_words::Command;
 
@@ -52,7 +51,7 @@ fn kept<R: Threads + Sync>(
     ensures calm { IsErrOf result Stop.ReadFault → ⊥ }
 {
     match filter_list(rt, alloc, ledger, candidates, workers) {
-        Ok(kept) => Ok(written(rt, alloc, &kept, workers)?),
+        Ok(kept) => Ok(candidates_in_pieces(rt, alloc, &kept, workers)?),
         Err(fault) => Err(stop_of(fault)),
     }
 }

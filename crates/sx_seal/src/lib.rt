@@ -12,7 +12,7 @@
 //!
 //! [`filter`] reads what a seal does, and answers the record of those candidates that no other one stands in the way of.
 //!
-//! Both answer [`Pieces`], which are put one after the other. So what is longest is written where it stays: the
+//! Both answer [`Pieces`](sx_pieces::Pieces), which are put one after the other. So what is longest is written where it stays: the
 //! transactions of a block over the bytes of the candidates, once these are decoded, and those that a filter keeps by a
 //! thread for each part.
 //!
@@ -25,12 +25,9 @@
 mod demonstrating;
 mod filtering;
 mod making;
-mod parts_writing;
-mod pieces;
 mod sealing;
 
 pub use demonstrating::demonstrate;
 pub use filtering::filter;
 pub use making::Numbers;
-pub use pieces::Pieces;
 pub use sealing::seal;

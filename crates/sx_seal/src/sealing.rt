@@ -20,7 +20,6 @@ ghost use Rattle.sx_seal.specs.Making.{AreNumbers, IsStoppedBy, seal_of};
 ghost use Rattle.sx_tx.specs.Transactions.{IsTxList, list_bytes};
 
 use crate::making::{MadeInPlace, Numbers, make_in_place};
-use crate::pieces::Pieces;
 use std::alloc::Global;
 use std::sync::ledger;
 use std::thread::Threads;
@@ -33,6 +32,7 @@ use sx_gather::GatherFault;
 use sx_input::{Head, Stop, end, take_head, take_with_spare};
 use sx_layout::{PackedOutcomes, outcome_list_laws, write_packed};
 use sx_net::Steps;
+use sx_pieces::Pieces;
 use sx_record::tag;
 use sx_tx::TxList;
 use sx_workers::Gate;

@@ -8,6 +8,7 @@ use std::thread::Threads;
 use sx_bytes::Writer;
 use sx_commit::*;
 use sx_ledger::Ledger;
+use sx_proof::*;
 use sx_record::{tag, write_record};
 use sx_state::read_state;
 

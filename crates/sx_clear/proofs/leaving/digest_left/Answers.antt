@@ -1,6 +1,6 @@
 use Rattle.std.proofs.Common.{◌≡◌, ◌<◌, IfOk, List, sym, subst}
 use Rattle.sx_block.specs.Validity.{digest_of_ledger}
-use Rattle.sx_clear.specs.Found.{CanLeave, IsBodyOf}
+use Rattle.sx_discovery.specs.Found.{CanLeave, IsBodyOf}
 use Rattle.sx_clear.proofs.leaving.digest_left.Goals as goal
 use Rattle.sx_fill.specs.AllFills.{all_fills}
 use Rattle.sx_ledger.specs.declared.parts.Parts.{Parts}

@@ -1,8 +1,8 @@
 use Rattle.std.proofs.Common.{subst}
 use Rattle.std.proofs.lemmas.Result.{IfOk-weaker}
-use Rattle.sx_filter.specs.ByRange.{AreSiftedRanges}
-use Rattle.sx_filter.specs.Sifted.{AreSiftedParts}
-use Rattle.sx_filter.proofs.ByRanges.{ranges_sifted}
+use Rattle.sx_filter.specs.SiftedRanges.{AreSiftedRanges}
+use Rattle.sx_filter.specs.Joined.{AreSiftedParts}
+use Rattle.sx_filter.proofs.RangesSifted.{ranges_sifted}
 use Rattle.sx_filter.proofs.filtering.sifted.Goals as goal
 
 pub returns : goal.returns

@@ -34,4 +34,4 @@ returns-clause-proved c =
     proved_is_good c.commitment_laws.ensures.true_is_good c.commitment_laws.ensures.true_is_claim
 
 pub returns-clause-filtered : goal.returns-clause-filtered
-returns-clause-filtered c = filters_bodies c.filter_laws.ensures.admissible c.filter_laws.ensures.accepted
+returns-clause-filtered c = filters_bodies c.kept_laws.ensures.admissible c.kept_laws.ensures.accepted

@@ -6,5 +6,5 @@ use Rattle.sx_run.proofs.migrating.newest.Goals as goal
 pub returns-clause-concludes : goal.returns-clause-concludes
 returns-clause-concludes g c = (
   record { parts = c.args.ledger; are = refl; finds = refl },
-  c.in_ok-state_in_pieces.ensures ∙ ap (λ (p : Parts). state_record p) c.migrate-migrated.ensures,
+  c.in_ok-state_in_pieces.ensures.record ∙ ap (λ (p : Parts). state_record p) c.migrate-migrated.ensures,
 )

@@ -1,7 +1,7 @@
 use Rattle.std.proofs.Common.{ℕ, List, ◌++◌, length, ap, ◌∙◌, arith}
 use Rattle.sx_commit.specs.declared.proof.Proof.{Proof}
 use Rattle.sx_commit.specs.Commitments.{root_of}
-use Rattle.sx_commit.specs.Encoding.{proof_bytes}
+use Rattle.sx_proof.specs.Encoding.{proof_bytes}
 use Rattle.sx_record.specs.Frame.{record_bytes}
 use Rattle.sx_record.specs.Tags.{proof_tag}
 use Rattle.sx_run.proofs.ProvedAccounts.{claim_is, proof_is}

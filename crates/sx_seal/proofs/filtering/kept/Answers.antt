@@ -5,8 +5,8 @@ use Rattle.sx_seal.proofs.Filterings.{has_room, stopped}
 use Rattle.sx_seal.proofs.filtering.kept.Goals as goal
 use Rattle.sx_tx.specs.declared.tx.Tx.{Tx}
 
-pub returns-in_ok-written-in-Ok-clause-concludes : goal.returns-in_ok-written-in-Ok-clause-concludes
-returns-in_ok-written-in-Ok-clause-concludes g c =
+pub returns-in_ok-candidates_in_pieces-in-Ok-clause-concludes : goal.returns-in_ok-candidates_in_pieces-in-Ok-clause-concludes
+returns-in_ok-candidates_in_pieces-in-Ok-clause-concludes g c =
     let parts = c.args.ledger in (
       record {
         parts = parts;
@@ -14,7 +14,7 @@ returns-in_ok-written-in-Ok-clause-concludes g c =
         are = refl;
         finds = has_room (room_for parts c.args.candidates) c.in-Ok.kept c.in-Ok.ensures.no_room;
       },
-      c.in_ok-written-in-Ok.ensures
+      c.in_ok-candidates_in_pieces-in-Ok.ensures.record
           ∙ ap (λ (txs : List Tx). item_record (candidates txs)) c.in-Ok.ensures.kept,
     )
 

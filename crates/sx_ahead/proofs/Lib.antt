@@ -1,0 +1,3 @@
+pub mod AheadSteps
+pub mod BodyDigests
+pub mod RightOnes

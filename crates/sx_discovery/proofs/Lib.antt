@@ -1,0 +1,4 @@
+pub mod OfferLaws
+pub mod CurveBounds
+pub mod PriceLaws
+pub mod QuoteCases

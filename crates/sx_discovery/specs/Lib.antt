@@ -1,0 +1,4 @@
+pub mod Quotes
+pub mod Bounding
+pub mod Digests
+pub mod Found

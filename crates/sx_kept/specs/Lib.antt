@@ -1,0 +1,3 @@
+pub mod Kept
+pub mod Alone
+pub mod Laws

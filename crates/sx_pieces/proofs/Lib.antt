@@ -1,0 +1,3 @@
+pub mod PartLists
+pub mod PuttingPieces
+pub mod StateParts

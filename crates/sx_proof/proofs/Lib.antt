@@ -1,0 +1,5 @@
+pub mod ProofLaws
+pub mod Payload
+pub mod ProofFaults
+pub mod Lengths
+pub mod FormatCases

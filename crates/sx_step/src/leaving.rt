@@ -1,0 +1,92 @@
+//! One block on the head.
+
+ghost use Rattle.std.specs.Prelude.{◌≡◌, IfNone, IfOk, IfSome};
+ghost use Rattle.sx_apply.specs.Effects.{AreEffects};
+ghost use Rattle.sx_block.specs.Block.{IsBlock};
+ghost use Rattle.sx_block.specs.Validity.{IsSound, IsValid, digest_of_ledger, ledger_after};
+ghost use Rattle.sx_step.specs.Leaves.{Leaves};
+
+use std::alloc::Global;
+use sx_apply::{Effects, apply};
+use sx_block::{Block, Digest, body_digest, validity_laws};
+use sx_bytes::NoMemory;
+use sx_check::{CheckFault, check_laws, close, judge};
+use sx_ledger::Ledger;
+use sx_spare::Spare;
+
+/// What a block leaves: the ledger, and its digest.
+#[derive(Debug, Drop)]
+pub struct Leaving {
+    pub ledger: Ledger,
+    pub digest: Digest,
+}
+
+// What a sound block leaves, where this is the ledger after it: something where the block names the digest of that.
+// Otherwise the ledger is spare.
+pub(crate) fn closed(
+    alloc: Global,
+    head: &Ledger,
+    block: &Block,
+    ledger: Ledger,
+    spare: &mut Spare,
+) -> Result<Option<Leaving>, NoMemory>
+    requires sound { IsSound head.now block.now }
+    requires after { ledger ≡ ledger_after head.now block.now }
+    ensures valid { IfOk result (λ found. IfSome found (Leaves head.now block.now)) }
+    ensures refused { IfOk result (λ found. IfNone found (¬ IsValid head.now block.now)) }
+{
+    validity_laws();
+    check_laws();
+    let digest = spare.digest(alloc, &ledger)?;
+    match close(&block.header, &digest) {
+        Ok(()) => Ok(Some(Leaving { ledger, digest })),
+        Err(_) => {
+            spare.keep(ledger);
+            Ok(None)
+        }
+    }
+}
+
+// Applies a sound block to a copy of the head.
+fn leave(
+    alloc: Global,
+    head: &Ledger,
+    block: &Block,
+    effects: Effects,
+    spare: &mut Spare,
+) -> Result<Option<Leaving>, NoMemory>
+    requires sound { IsSound head.now block.now }
+    requires effects { AreEffects head.now block.now effects }
+    ensures valid { IfOk result (λ found. IfSome found (Leaves head.now block.now)) }
+    ensures refused { IfOk result (λ found. IfNone found (¬ IsValid head.now block.now)) }
+{
+    validity_laws();
+    let copy = spare.copy(alloc, head)?;
+    let ledger = apply(alloc, copy, block, effects)?;
+    closed(alloc, head, block, ledger, spare)
+}
+
+/// What a block leaves of the head, if it is valid for it.
+pub fn step(
+    alloc: Global,
+    head: &Ledger,
+    digest: &Digest,
+    block: &Block,
+    spare: &mut Spare,
+) -> Result<Option<Leaving>, NoMemory>
+    requires digest { digest.now ≡ digest_of_ledger head.now }
+    requires form { IsBlock block.now }
+    ensures valid { IfOk result (λ found. IfSome found (Leaves head.now block.now)) }
+    ensures refused { IfOk result (λ found. IfNone found (¬ IsValid head.now block.now)) }
+{
+    check_laws();
+    if block.header.parent != *digest {
+        return Ok(None);
+    }
+    let body = body_digest(alloc, block.txs.items())?;
+    match judge(alloc, head, block, digest, &body) {
+        Ok(judged) => leave(alloc, head, block, judged.effects, spare),
+        Err(CheckFault::Invalid(_)) => Ok(None),
+        Err(CheckFault::NoMemory) => Err(NoMemory),
+    }
+}

@@ -1,0 +1,5 @@
+pub mod Places
+pub mod HeightPlaces
+pub mod Entering
+pub mod Chosen
+mod Cases
