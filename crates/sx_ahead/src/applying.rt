@@ -25,12 +25,12 @@ use sx_spare::Spare;
 use sx_state::state_length;
 use sx_waiting::{Waiting, choose};
 
-// How many blocks are applied ahead at most, each of which leaves a state to be hashed. Up to four threads share so many
-// evenly.
-const MOST_BLOCKS: u32 = 12;
+// How many blocks are applied ahead at most, each of which leaves a state to be hashed. Threads are started once for all of
+// them.
+const MOST_BLOCKS: u32 = 32;
 
 // How many bytes these states have about, at most.
-const MOST_BYTES: u32 = 1 << 22;
+const MOST_BYTES: u32 = 1 << 23;
 
 // From how many bytes on a state record is worth a thread of its own. Hashing takes some 50 microseconds there, and to
 // start a thread about as long.
@@ -42,7 +42,7 @@ const FRAME_BYTES: u32 = 5;
 // How many blocks are applied ahead of a ledger: none where hashing it is not worth a thread, and none where states
 // as long would take much memory.
 fn most_ahead(ledger: &Ledger) -> u32
-    ensures { result ≤ 12 }
+    ensures { result ≤ 32 }
 {
     let length = FRAME_BYTES + state_length(ledger);
     let most = MOST_BYTES / length;

@@ -2,13 +2,13 @@
 //!
 //! To hash the ledger that a block leaves takes longer than to apply the block, and the next block cannot be valid before
 //! the digest is known. But a block names the digests of the ledgers before and after it, so that the next blocks are
-//! found by these names alone. [`ahead`] applies up to twelve of them on one thread, each to the ledger that the one
+//! found by these names alone. [`ahead`] applies up to 32 of them on one thread, each to the ledger that the one
 //! before it leaves. All of them change one copy of the ledger, and what each leaves is kept as the encoding that its
 //! digest is made of. That is a [`Batch`]. [`hash_and_apply`] has other threads hash the encodings of a batch, while the
 //! batch on top of it is applied. Then digests and names are compared:
 //!
 //! ```text
-//!     ledger ──► copy ──► after B1 ──► after B2 ──►  ..  ──► after B12     one thread, in place
+//!     ledger ──► copy ──► after B1 ──► after B2 ──►  ..  ──► after B32     one thread, in place
 //!                             │            │                     │
 //!                         encoding     encoding     ..       encoding      hashed by the others, then compared
 //! ```
@@ -19,7 +19,7 @@
 //! Which blocks these are, `sx_waiting` finds. [`Bodies`] has the digests of the transactions of the blocks above a height,
 //! which all threads make before blocks are applied ahead, so that the thread that applies them hashes nothing.
 //!
-//! The encodings of the ledgers ahead have about 8 MiB at most. Where two of them are longer than 4 MiB, or one is shorter
+//! The encodings of the ledgers ahead have about 16 MiB at most. Where two of them are longer than 8 MiB, or one is shorter
 //! than 16 KiB, nothing is applied ahead. The memory of encodings and copies is used again (`sx_spare`).
 //!
 //! Cost: a block is compared with the digest once for each batch that begins below it, judged and applied once, and its

@@ -6,3 +6,4 @@ pub mod Steps
 pub mod Followers
 pub mod Taking
 mod Cases
+mod InTurn

@@ -1,3 +1,4 @@
 pub mod Chain
 pub mod Follower
 pub mod Laws
+pub mod InTurn

@@ -1,13 +1,17 @@
 //! A follower.
 
-ghost use Rattle.std.specs.Prelude.{◌≡◌, ◌+◌, ◌++◌, ◌∷◌, [], ◌<◌, ◌≤◌, true, false, length, IfOk, OnErr, OnOk};
+ghost use Rattle.std.specs.Prelude.{◌≡◌, ◌+◌, ◌++◌, ◌∷◌, [], ◌<◌, ◌≤◌, true, false, length, IfOk, IfNone, IfSome, OnErr, OnOk};
 ghost use Rattle.sx_block.specs.Block.{IsBlock};
+ghost use Rattle.sx_block.specs.Validity.{digest_of_ledger};
 ghost use Rattle.sx_follow.specs.Chain.{NoneIsValid};
 ghost use Rattle.sx_follow.specs.Follower.{Advances, HasWholeChain, IsFollower, NextLeaves, begun, most_blocks};
+ghost use Rattle.sx_follow.specs.InTurn.{LeadsTo};
+ghost use Rattle.sx_waiting.specs.Chosen.{AreChosen};
 
 mod running;
 
 use crate::finding::find;
+use crate::in_turn::apply_in_turn;
 use std::alloc::Global;
 use std::marker::Model;
 use std::mem;
@@ -17,7 +21,10 @@ use sx_check::check_laws;
 use sx_ledger::Ledger;
 use sx_spare::Spare;
 use sx_step::Leaving;
-use sx_waiting::Waiting;
+use sx_waiting::{Waiting, choose};
+
+// How many blocks change one copy of the head at most.
+const MOST_IN_TURN: u32 = 32;
 
 /// A ledger, blocks that were proposed on top of it, and the ledger after as many blocks of their chain as it has
 /// applied. Contracts see a `Followed`.
@@ -110,10 +117,11 @@ impl Follower {
         ensures follows { IsFollower self.new }
     {
         let alloc = *self.blocks.allocator();
-        let places = self.waiting.at(self.head.height() + 1);
+        let head = &self.head;
+        let places = self.waiting.at(head.height() + 1);
         match find(
             alloc,
-            &self.head,
+            head,
             &self.digest,
             &self.blocks,
             places,
@@ -130,14 +138,100 @@ impl Follower {
     // Makes what the next block leaves the head.
     fn take(&mut self, left: Leaving)
         requires next { NextLeaves self.old.head self.old.blocks left }
+        requires follows { IsFollower self.old }
         ensures advances { Advances self.old self.new }
         ensures left { self.new ≡ record self.old { steps = self.old.steps + 1; head = left.ledger } }
         ensures follows { IsFollower self.new }
     {
-        self.steps += 1;
+        self.take_in_turn(1, left);
+    }
+
+    // Makes what so many next blocks leave the head.
+    fn take_in_turn(&mut self, count: usize, left: Leaving)
+        requires leads { LeadsTo self.old.head self.old.blocks count left }
+        requires follows { IsFollower self.old }
+        ensures opening { self.new.opening ≡ self.old.opening }
+        ensures blocks { self.new.blocks ≡ self.old.blocks }
+        ensures steps { self.new.steps ≡ self.old.steps + count }
+        ensures head { self.new.head ≡ left.ledger }
+        ensures follows { IsFollower self.new }
+    {
+        self.steps += count as u32;
         let earlier = mem::replace(&mut self.head, left.ledger);
         self.spare.keep(earlier);
         self.digest = left.digest;
+    }
+
+    // Applies the blocks at these places in turn. Where one of them is refused, it applies none, and answers how many
+    // stand before it.
+    fn try_in_turn(&mut self, places: &[u32]) -> Result<Option<usize>, NoMemory>
+        requires chosen { AreChosen (self.old.head.height + 1) (digest_of_ledger self.old.head) self.old.blocks places.now }
+        ensures opening { self.new.opening ≡ self.old.opening }
+        ensures blocks { self.new.blocks ≡ self.old.blocks }
+        ensures steps { self.old.steps ≤ self.new.steps }
+        ensures applied { IfOk result (λ found. IfNone found (self.new.steps ≡ self.old.steps + length places.now)) }
+        ensures refused { IfOk result (λ found. IfSome found (λ count.
+            (count < length places.now) × (self.new ≡ self.old))) }
+        ensures follows { IsFollower self.new }
+    {
+        let alloc = *self.blocks.allocator();
+        match apply_in_turn(
+            alloc,
+            &self.head,
+            &self.digest,
+            &self.blocks,
+            places,
+            &mut self.spare,
+        )? {
+            Ok(left) => {
+                self.take_in_turn(places.len(), left);
+                Ok(None)
+            }
+            Err(count) => Ok(Some(count)),
+        }
+    }
+
+    // Applies blocks that go on from the head by the digests that they name, at most so many, up to the first that is
+    // refused. It answers whether it applied some. It tries none where fewer than two are found.
+    fn advance_in_turn(&mut self) -> Result<bool, NoMemory>
+        ensures opening { self.new.opening ≡ self.old.opening }
+        ensures blocks { self.new.blocks ≡ self.old.blocks }
+        ensures steps { self.old.steps ≤ self.new.steps }
+        ensures advances { result ≡ Ok true → self.old.steps < self.new.steps }
+        ensures follows { IsFollower self.new }
+    {
+        let alloc = *self.blocks.allocator();
+        let height = self.head.height() + 1;
+        let places = choose(
+            alloc,
+            &self.blocks,
+            &self.waiting,
+            height,
+            &self.digest,
+            MOST_IN_TURN,
+        )?;
+        if places.len() < 2 {
+            return Ok(false);
+        }
+        match self.try_in_turn(&places)? {
+            None => Ok(true),
+            Some(0) => Ok(false),
+            Some(count) => Ok(self.try_in_turn(&places[..count])?.is_none()),
+        }
+    }
+
+    // Applies some blocks in turn, or one. It answers whether there was one.
+    fn go_on_alone(&mut self) -> Result<bool, NoMemory>
+        ensures opening { self.new.opening ≡ self.old.opening }
+        ensures blocks { self.new.blocks ≡ self.old.blocks }
+        ensures advances { result ≡ Ok true → self.old.steps < self.new.steps }
+        ensures stays { result ≡ Ok false → NoneIsValid self.new.head self.new.blocks }
+        ensures follows { IsFollower self.new }
+    {
+        if self.advance_in_turn()? {
+            return Ok(true);
+        }
+        self.advance()
     }
 
     /// Applies blocks until none is valid for the head. Where memory runs out, those stay applied that were by then.
@@ -147,7 +241,7 @@ impl Follower {
         ensures ended { OnOk result (NoneIsValid self.new.head self.new.blocks) }
         ensures whole { OnOk result (HasWholeChain self.new) }
     {
-        while self.advance()? {}
+        while self.go_on_alone()? {}
         Ok(())
     }
 

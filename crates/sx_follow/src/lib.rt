@@ -27,14 +27,17 @@
 //! applied to a copy of the ledger (`sx_step`), which is written over the one of the block before, and takes no fresh
 //! memory where it is as long.
 //!
-//! [`Follower::par_advance_all`] applies blocks ahead, up to twelve on one thread, before it is known whether the ledgers
+//! [`Follower::advance_all`] applies up to 32 blocks that go on from the head by the digests that they name to one copy of
+//! it, one after the other. Where one of them is refused, those before it are applied once more, to another copy.
+//!
+//! [`Follower::par_advance_all`] applies blocks ahead, up to 32 on one thread, before it is known whether the ledgers
 //! before them have the digests that they name, while other threads hash what earlier ones left (`sx_ahead`). Where all
 //! digests are the named ones, these blocks are steps of the follower, and the ledger that the last of them left is the
 //! head. It ends where [`Follower::advance_all`] does.
 //!
-//! A forged block costs time: what was applied on top of it is dropped, those of its twelve that stand before it are
-//! applied once more, each to a copy, and the other blocks of its height are tried one by one. So it costs at most 24
-//! blocks that are applied in vain or twice.
+//! A forged block costs time: what was applied on top of it is dropped, those of its 32 that stand before it are
+//! applied once more, and the other blocks of its height are tried one by one. So it costs at most 64 blocks that are
+//! applied in vain or twice.
 //!
 //! Where nothing is applied ahead, threads only share the work of a block of 8,192 transactions or more.
 //!
@@ -44,6 +47,7 @@
 
 mod finding;
 mod follower;
+mod in_turn;
 mod laws;
 
 pub use follower::Follower;

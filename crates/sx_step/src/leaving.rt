@@ -4,6 +4,7 @@ ghost use Rattle.std.specs.Prelude.{◌≡◌, IfNone, IfOk, IfSome};
 ghost use Rattle.sx_apply.specs.Effects.{AreEffects};
 ghost use Rattle.sx_block.specs.Block.{IsBlock};
 ghost use Rattle.sx_block.specs.Validity.{IsSound, IsValid, digest_of_ledger, ledger_after};
+ghost use Rattle.sx_ledger.specs.declared.parts.Parts.{Parts as Ledgers};
 ghost use Rattle.sx_step.specs.Leaves.{Leaves};
 
 use std::alloc::Global;
@@ -21,19 +22,18 @@ pub struct Leaving {
     pub digest: Digest,
 }
 
-// What a sound block leaves, where this is the ledger after it: something where the block names the digest of that.
-// Otherwise the ledger is spare.
+// What a block leaves, where this is the ledger after it: something where the block names the digest of that. Otherwise
+// the ledger is spare.
 pub(crate) fn closed(
     alloc: Global,
-    head: &Ledger,
     block: &Block,
     ledger: Ledger,
     spare: &mut Spare,
 ) -> Result<Option<Leaving>, NoMemory>
-    requires sound { IsSound head.now block.now }
-    requires after { ledger ≡ ledger_after head.now block.now }
-    ensures valid { IfOk result (λ found. IfSome found (Leaves head.now block.now)) }
-    ensures refused { IfOk result (λ found. IfNone found (¬ IsValid head.now block.now)) }
+    ensures valid { IfOk result (λ found. IfSome found (λ left.
+        (head : Ledgers) → IsSound head block.now → ledger ≡ ledger_after head block.now → Leaves head block.now left)) }
+    ensures refused { IfOk result (λ found. IfNone found
+        ((head : Ledgers) → IsSound head block.now → ledger ≡ ledger_after head block.now → ¬ IsValid head block.now)) }
 {
     validity_laws();
     check_laws();
@@ -60,10 +60,9 @@ fn leave(
     ensures valid { IfOk result (λ found. IfSome found (Leaves head.now block.now)) }
     ensures refused { IfOk result (λ found. IfNone found (¬ IsValid head.now block.now)) }
 {
-    validity_laws();
     let copy = spare.copy(alloc, head)?;
     let ledger = apply(alloc, copy, block, effects)?;
-    closed(alloc, head, block, ledger, spare)
+    closed(alloc, block, ledger, spare)
 }
 
 /// What a block leaves of the head, if it is valid for it.
@@ -87,6 +86,39 @@ pub fn step(
     match judge(alloc, head, block, digest, &body) {
         Ok(judged) => leave(alloc, head, block, judged.effects, spare),
         Err(CheckFault::Invalid(_)) => Ok(None),
+        Err(CheckFault::NoMemory) => Err(NoMemory),
+    }
+}
+
+/// The same as [`step`], on a ledger that is not needed any more. It is changed in place, and no copy is made. Where the
+/// block is not valid for it, it is spare.
+pub fn step_in_place(
+    alloc: Global,
+    head: Ledger,
+    digest: &Digest,
+    block: &Block,
+    spare: &mut Spare,
+) -> Result<Option<Leaving>, NoMemory>
+    requires digest { digest.now ≡ digest_of_ledger head }
+    requires form { IsBlock block.now }
+    ensures valid { IfOk result (λ found. IfSome found (Leaves head block.now)) }
+    ensures refused { IfOk result (λ found. IfNone found (¬ IsValid head block.now)) }
+{
+    check_laws();
+    if block.header.parent != *digest {
+        spare.keep(head);
+        return Ok(None);
+    }
+    let body = body_digest(alloc, block.txs.items())?;
+    match judge(alloc, &head, block, digest, &body) {
+        Ok(judged) => {
+            let ledger = apply(alloc, head, block, judged.effects)?;
+            closed(alloc, block, ledger, spare)
+        }
+        Err(CheckFault::Invalid(_)) => {
+            spare.keep(head);
+            Ok(None)
+        }
         Err(CheckFault::NoMemory) => Err(NoMemory),
     }
 }

@@ -18,5 +18,5 @@
 mod leaving;
 mod spreading;
 
-pub use leaving::{Leaving, step};
+pub use leaving::{Leaving, step, step_in_place};
 pub use spreading::{is_long, par_step};

@@ -46,10 +46,9 @@ fn par_leave<R: Threads + Sync>(
     ensures valid { IfOk result (λ found. IfSome found (Leaves head.now block.now)) }
     ensures refused { IfOk result (λ found. IfNone found (¬ IsValid head.now block.now)) }
 {
-    validity_laws();
     let copy = spare.copy(alloc, head)?;
     let ledger = apply_spread(rt, alloc, copy, block, effects, workers)?;
-    closed(alloc, head, block, ledger, spare)
+    closed(alloc, block, ledger, spare)
 }
 
 /// What a block leaves of the head, if it is valid for it, by so many workers. The block names the head as its parent.

@@ -216,7 +216,7 @@ impl Follower {
     }
 
     /// The same as [`Follower::advance_all`], by several threads. Blocks that follow one another by the digests that
-    /// they name are applied by one thread, at most twelve at a time, while others hash the ledgers that earlier ones
+    /// they name are applied by one thread, at most 32 at a time, while others hash the ledgers that earlier ones
     /// left. Before, all of them make the digests of the transactions of the blocks above the head. Blocks count as
     /// applied once the ledgers before and after them have the digests that they name. Where one has not, what was
     /// applied on top of it is dropped, and those that were applied with it and stand before it are applied once more.

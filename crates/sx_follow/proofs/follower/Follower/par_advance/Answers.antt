@@ -5,8 +5,8 @@ use Rattle.sx_step.specs.Leaves.{Leaves}
 use Rattle.sx_follow.proofs.ChosenNext.{chosen_leaves}
 use Rattle.sx_follow.proofs.follower.Follower.par_advance.Goals as goal
 
-pub take-requires : goal.take-requires
-take-requires g c =
+pub take-requires-clause-next : goal.take-requires-clause-next
+take-requires-clause-next g c =
     let f = c.self.inside in
     let left = c.in-Some-2.left in
     let place = c.in-Some.place in
@@ -17,4 +17,4 @@ take-requires g c =
     at c.first_named.ensures in
     let leaves : Leaves f.head block left = rw c.in-Some-2.is at c.in_ok-left.ensures.valid in
     let there : block ≡ get_or blocks place block = search rules in
-    record { next = chosen_leaves f.head blocks place block left chosen there leaves }
+    chosen_leaves f.head blocks place block left chosen there leaves
