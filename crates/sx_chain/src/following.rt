@@ -11,7 +11,7 @@ ghost use Rattle.sx_record.specs.Tags.{block_tag, outcomes_tag};
 
 use crate::replaying::tags;
 use std::alloc::Global;
-use std::thread::Threads;
+use std::thread::{Threads, available_parallelism};
 use sx_base::Source;
 use sx_block::Block;
 use sx_bytes::{Form, FormFault, NoMemory, Writer};
@@ -95,8 +95,20 @@ fn step<R: Threads + Sync>(
     }
 }
 
-// The record of the ledger after the chain that the blocks make. As many workers apply them as a replay has where its
-// words name none.
+// How many threads follow: as many as there are processors, and at most as many as a replay has workers where its words
+// name none.
+fn threads<R: Threads>(rt: &R) -> u32
+    ensures some { 1 ≤ result }
+    ensures few { result ≤ 64 }
+{
+    let most = Setting::Workers.default();
+    match available_parallelism(rt) {
+        Ok(processors) => processors.get().min(most as usize) as u32,
+        Err(_) => most,
+    }
+}
+
+// The record of the ledger after the chain that the blocks make.
 fn followed<R: Threads + Sync>(
     rt: &R,
     alloc: Global,
@@ -104,7 +116,7 @@ fn followed<R: Threads + Sync>(
 ) -> Result<Writer, NoMemory>
     ensures { IfOk result (λ text. IsFollowed follower.opening follower.blocks text) }
 {
-    follower.par_advance_all(rt, Setting::Workers.default())?;
+    follower.par_advance_all(rt, threads(rt))?;
     written(alloc, follower.head(), None)
 }
 
