@@ -5,6 +5,7 @@ pub mod Repeated
 pub mod UsedNumbers
 pub mod Refusals
 pub mod InPlace
+pub mod Places
 pub mod Merging
 pub mod OffersAfter
 pub mod Cancelled

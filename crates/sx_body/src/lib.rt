@@ -23,9 +23,10 @@
 //! Each payee and each cancelled offer is searched for once, and an account once where its transactions
 //! stand together. Only accounts that are debited or credited have sums of their own, and only their
 //! balances are read and changed, in place. A sum takes 8 bytes as long as all amounts together are below
-//! 2^64, and 16 bytes from then on. Accounts are sorted only where one is created. Of the offers only
-//! those that are made are sorted, and one pass puts them among those that are kept. Where none is made or
-//! cancelled, [`OfferChange`] says so, and the offers stay where they are.
+//! 2^64, and 16 bytes from then on. Of the accounts only those that are created are sorted, and one pass puts
+//! them among the others, in the memory of these. Of the offers only those that are made are sorted, and one
+//! pass puts them among those that are kept. Where none is made or cancelled, [`OfferChange`] says so, and the
+//! offers stay where they are.
 //!
 //! Not here: whether transactions stand in order, and what trades afterwards.
 #![tactic(auto)]
