@@ -11,7 +11,7 @@ ghost use Rattle.sx_bytes.specs.Grammar.{MayDecodeOrStray};
 ghost use Rattle.sx_state.specs.Decoding.{account_list_at};
 ghost use Rattle.sx_state.specs.SoundAccounts.{AreAccountsAt, IsBelow};
 
-use crate::account_reading::{account_list, accounts};
+use crate::account_reading::{account_list, accounts, with_spare};
 use crate::offer_decoding::move_to;
 use crate::reading::refusal;
 use crate::sizes::account_width;
@@ -120,8 +120,9 @@ fn accounts_ahead<R: Threads + Sync>(
     let count = from.field_u32(0, Ledger::MOST_ACCOUNTS, Form::TooMany)? as usize;
     let place = from.place();
     from.raw(count * account_width(version, assets))?;
+    let room = with_spare(count);
     accounts_by(
-        rt, threads, alloc, payload, place, version, assets, count, count,
+        rt, threads, alloc, payload, place, version, assets, count, room,
     )
 }
 

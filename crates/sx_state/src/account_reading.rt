@@ -95,7 +95,17 @@ fn next_account(
     Ok(account)
 }
 
-// So many accounts. Memory is taken for `room` of them at first, or for as many as the bytes left can hold, if fewer.
+// One in so many: by how much more memory is taken than the accounts need, so that created ones move none of them.
+const SPARE_PART: usize = 8;
+
+// How many accounts memory is taken for, where there are so many: an eighth more, but never more than a ledger has.
+pub fn with_spare(count: usize) -> usize {
+    let most = Ledger::MOST_ACCOUNTS as usize;
+    count.saturating_add(count / SPARE_PART).min(most)
+}
+
+// So many accounts. Memory is taken for `room` of them at first, or for as many as the bytes left can hold and a few
+// more, if fewer.
 pub fn accounts(
     alloc: Global,
     from: &mut Reader,
@@ -109,7 +119,7 @@ pub fn accounts(
     ensures onward { from.old.place ≤ from.new.place }
 {
     let most = from.left() / ACCOUNT_BYTES as usize;
-    let mut accounts = Vec::with_capacity(alloc, room.min(most))?;
+    let mut accounts = Vec::with_capacity(alloc, room.min(with_spare(most)))?;
     let mut before = None;
     for _ in 0..count {
         let account = next_account(alloc, from, version, assets, before)?;
@@ -132,5 +142,5 @@ pub fn account_list(
     ensures onward { from.old.place ≤ from.new.place }
 {
     let count = from.field_u32(0, Ledger::MOST_ACCOUNTS, Form::TooMany)? as usize;
-    accounts(alloc, from, version, assets, count, count)
+    accounts(alloc, from, version, assets, count, with_spare(count))
 }
