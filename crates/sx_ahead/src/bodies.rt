@@ -7,9 +7,10 @@ ghost use Rattle.sx_block.specs.Block.{IsBlock};
 ghost use Rattle.sx_ahead.specs.Bodies.{AreBodies, IsBodyAt, body_above};
 
 use std::alloc::Global;
-use std::thread::{Threads, join};
+use std::thread::Threads;
 use sx_block::{Block, Digest, body_digest};
 use sx_bytes::NoMemory;
+use sx_fork::fork;
 
 // The digest of the transactions of a block, where it is above this height.
 fn digest_above(alloc: Global, block: &Block, height: u64) -> Result<Option<Digest>, NoMemory>
@@ -53,18 +54,19 @@ fn digests_by<R: Threads + Sync>(
     if threads < 2 {
         return digests_in_turn(alloc, blocks, height);
     }
-    let few = threads / 2;
-    let (front, back) = blocks.split_at(blocks.len() / threads * few);
-    let (one, other) = join(
+    let others = threads - 1;
+    let (front, back) = blocks.split_at(blocks.len() / threads);
+    let (one, other) = fork(
         rt,
+        others < 2,
         || -> Result<Vec<Option<Digest>>, NoMemory>
-            requires { IsSync R.row × (1 ≤ few) × All IsBlock front.now }
+            requires { All IsBlock front.now }
             ensures { IfOk result (λ digests. digests.items ≡ map (body_above height) front.entry.now) }
-        { digests_by(rt, alloc, front, height, few) },
+        { digests_in_turn(alloc, front, height) },
         || -> Result<Vec<Option<Digest>>, NoMemory>
-            requires { IsSync R.row × (1 ≤ few) × (few * 2 ≤ threads) × All IsBlock back.now }
+            requires { IsSync R.row × (1 ≤ others) × All IsBlock back.now }
             ensures { IfOk result (λ digests. digests.items ≡ map (body_above height) back.entry.now) }
-        { digests_by(rt, alloc, back, height, threads - few) },
+        { digests_by(rt, alloc, back, height, others) },
     );
     let mut digests = one?;
     digests.extend_from_slice(&other?)?;

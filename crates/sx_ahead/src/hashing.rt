@@ -6,8 +6,9 @@ ghost use Rattle.std.specs.Thread.{IsSync};
 ghost use Rattle.sx_ahead.specs.Ahead.{IsRight};
 
 use crate::batch::Claim;
-use std::thread::{Threads, join};
+use std::thread::Threads;
 use sx_block::record_digest;
+use sx_fork::fork;
 use sx_record::tag;
 use sx_state::LONGEST_STATE;
 
@@ -43,20 +44,20 @@ pub(crate) fn right_of<R: Threads + Sync>(rt: &R, claims: &[Claim], threads: usi
     if threads < 2 {
         return right_in_turn(claims);
     }
-    let few = threads / 2;
-    let (front, back) = claims.split_at(claims.len() / threads * few);
-    let (one, other) = join(
+    let others = threads - 1;
+    let (front, back) = claims.split_at(claims.len() / threads);
+    let (one, other) = fork(
         rt,
+        others < 2,
         || -> usize
-            requires { IsSync R.row × (1 ≤ few) }
             ensures within { result ≤ length front.entry.now }
             ensures right { All IsRight (take result front.entry.now) }
-        { right_of(rt, front, few) },
+        { right_in_turn(front) },
         || -> usize
-            requires { IsSync R.row × (1 ≤ few) × (few * 2 ≤ threads) }
+            requires { IsSync R.row × (1 ≤ others) }
             ensures within { result ≤ length back.entry.now }
             ensures right { All IsRight (take result back.entry.now) }
-        { right_of(rt, back, threads - few) },
+        { right_of(rt, back, others) },
     );
     if one < front.len() {
         return one;

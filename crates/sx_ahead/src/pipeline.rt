@@ -19,9 +19,10 @@ use crate::batch::Batch;
 use crate::bodies::Bodies;
 use crate::hashing::right_of;
 use std::alloc::Global;
-use std::thread::{Threads, join};
+use std::thread::Threads;
 use sx_block::Block;
 use sx_bytes::NoMemory;
+use sx_fork::fork;
 use sx_spare::Spare;
 use sx_waiting::Waiting;
 
@@ -51,8 +52,9 @@ pub fn hash_and_apply<R: Threads + Sync>(
     ensures right { IfOk result (λ hashed. All IsRight (take hashed.right batch.now.claims.items)) }
     ensures next { IfOk result (λ hashed. IfSome hashed.next (IsBatch batch.now.ledger batch.now.digest blocks.now)) }
 {
-    let (right, next) = join(
+    let (right, next) = fork(
         rt,
+        true,
         || -> usize
             requires { IsSync R.row × (1 ≤ threads) }
             ensures { All IsRight (take result batch.entry.now.claims.items) }

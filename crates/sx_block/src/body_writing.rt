@@ -13,8 +13,9 @@ use crate::pieces::{Encoder, TxEncoder};
 use sha2::{Digest as Hasher, Sha256};
 use std::alloc::Global;
 use std::mem::swap;
-use std::thread::{Threads, join_mut};
+use std::thread::Threads;
 use sx_bytes::{NoMemory, Writer};
+use sx_fork::fork_mut;
 use sx_tx::Tx;
 
 // How many transactions are written while those before them are hashed: some two megabytes, which take several
@@ -52,8 +53,9 @@ fn write_beside<R: Threads>(
     ensures list { OnOk result (list.new ≡ list.old ++ flat_map tx_bytes txs.now) }
     ensures piece { OnOk result (piece.new ≡ flat_map tx_bytes txs.now) }
 {
-    let (_hashed, written) = join_mut(
+    let (_hashed, written) = fork_mut(
         rt,
+        true,
         &mut || hasher.update(before.bytes()),
         &mut || write_piece(list, piece, txs),
     );

@@ -11,8 +11,9 @@ use crate::digest::Digest;
 use crate::hashing::{hash_before_offers, ledger_digest};
 use sha2::{Digest as Hasher, Sha256};
 use std::alloc::Global;
-use std::thread::{Threads, join};
+use std::thread::Threads;
 use sx_bytes::{NoMemory, Writer};
+use sx_fork::fork;
 use sx_ledger::Ledger;
 use sx_state::write_offers;
 
@@ -47,8 +48,9 @@ pub fn par_ledger_digest<R: Threads>(
     if ledger.offers() < MANY_OFFERS {
         return ledger_digest(alloc, ledger);
     }
-    let (offers, hasher) = join(
+    let (offers, hasher) = fork(
         rt,
+        true,
         || -> Result<Writer, NoMemory>
             ensures { IfOk result (λ written. written ≡ flat_map offer_bytes ledger.entry.now.offers) }
         { written_offers(alloc, ledger) },

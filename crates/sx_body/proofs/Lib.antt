@@ -14,3 +14,4 @@ pub mod PendingUnits
 pub mod Entered
 pub mod Overdrafts
 pub mod KnownAccounts
+pub mod KnownParts

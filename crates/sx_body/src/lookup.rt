@@ -1,10 +1,12 @@
 //! The places of transactions, looked up by one thread or by several before they are entered.
 
 ghost use Rattle.std.specs.Prelude.{◌≡◌, ◌+◌, ◌≤◌, IfSome, length};
+ghost use Rattle.std.specs.Thread.{IsSync};
 ghost use Rattle.sx_body.specs.Known.{AreKnown, HasPlaces};
 ghost use Rattle.sx_ledger.specs.Ledger.{ids};
 
-use std::thread::{Threads, for_each_chunk_mut};
+use std::thread::Threads;
+use sx_fork::fork_mut;
 use sx_ledger::{Ledger, LedgerIndex, Places};
 use sx_tx::Tx;
 
@@ -44,6 +46,47 @@ pub(crate) fn look_up_part(
     }
 }
 
+// The same by so many threads, of which each looks up what a part of the transactions names.
+fn look_up_by<R: Threads + Sync>(
+    rt: &R,
+    threads: usize,
+    ledger: &Ledger,
+    index: &LedgerIndex,
+    txs: &[Tx],
+    from: usize,
+    known: &mut [Option<Places>],
+)
+    requires some { 1 ≤ threads }
+    requires index { index.now ≡ ids ledger.now.accounts }
+    requires within { from + length known.old ≤ length txs.now }
+    ensures one_each { length known.new ≡ length known.old }
+    ensures known { AreKnown ledger.now txs.now from known.new }
+{
+    if threads < 2 {
+        return look_up_part(ledger, index, txs, from, known);
+    }
+    let others = threads - 1;
+    let share = known.len() / threads;
+    let middle = from + share;
+    let (front, back) = known.split_at_mut(share);
+    fork_mut(
+        rt,
+        others < 2,
+        &mut ||
+            requires { (index.now ≡ ids ledger.now.accounts) × (from + length front.now ≤ length txs.now) }
+            ensures one_each { length front.exit.now ≡ length front.entry.now }
+            ensures known { AreKnown ledger.entry.now txs.entry.now from front.exit.now }
+        { look_up_part(ledger, index, txs, from, front) },
+        &mut ||
+            requires ready { IsSync R.row × (1 ≤ others) }
+            requires index { index.now ≡ ids ledger.now.accounts }
+            requires within { middle + length back.now ≤ length txs.now }
+            ensures one_each { length back.exit.now ≡ length back.entry.now }
+            ensures known { AreKnown ledger.entry.now txs.entry.now middle back.exit.now }
+        { look_up_by(rt, others, ledger, index, txs, middle, back) },
+    );
+}
+
 // Looks up the places of transactions from an index on, in at most so many threads.
 pub(crate) fn look_up<R: Threads + Sync>(
     rt: &R,
@@ -56,23 +99,10 @@ pub(crate) fn look_up<R: Threads + Sync>(
 )
     requires index { index.now ≡ ids ledger.now.accounts }
     requires some_worker { 1 ≤ workers }
-    requires some { 1 ≤ length known.old }
     requires within { from + length known.old ≤ length txs.now }
     ensures one_each { length known.new ≡ length known.old }
     ensures known { AreKnown ledger.now txs.now from known.new }
 {
     let threads = (known.len() / WORTH_A_THREAD).clamp(1, workers as usize);
-    let size = known.len().div_ceil(threads);
-    for_each_chunk_mut(
-        rt,
-        known,
-        size,
-        &|start: usize, part: &mut [Option<Places>]|
-            requires { (from + start + length part.now ≤ length txs.now) × (index.now ≡ ids ledger.now.accounts) }
-            ensures one_each { length part.exit.now ≡ length part.entry.now }
-            ensures known { AreKnown ledger.entry.now txs.entry.now (from + start) part.exit.now }
-        {
-            look_up_part(ledger, index, txs, from + start, part);
-        },
-    );
+    look_up_by(rt, threads, ledger, index, txs, from, known);
 }

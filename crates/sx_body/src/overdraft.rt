@@ -11,8 +11,9 @@ ghost use Rattle.sx_tx.specs.declared.tx.Tx.{Tx as Transaction};
 
 use crate::postings::Postings;
 use crate::tally::Tally;
-use std::thread::{Threads, join};
+use std::thread::Threads;
 use sx_base::{AccountId, AssetId};
+use sx_fork::fork;
 use sx_ledger::{Account, Ledger};
 
 // How many accounts are worth a thread of their own. To look at them takes a millisecond, and to start a thread a small
@@ -156,20 +157,21 @@ fn first_overdraft_by<R: Threads + Sync>(
     if threads < 2 {
         return tally.first_overdraft_in(ledger, version, from, end);
     }
-    let few = threads / 2;
-    let middle = from + (end - from) / 2;
-    let (one, other) = join(
+    let others = threads - 1;
+    let middle = from + (end - from) / threads;
+    let (one, other) = fork(
         rt,
+        others < 2,
         || -> Option<Overdraft>
-            requires { IsSync R.row × (from ≤ middle) × (middle ≤ length ledger.now.accounts) × IsTallyFor ledger.now tally.now }
+            requires { (from ≤ middle) × (middle ≤ length ledger.now.accounts) × IsTallyFor ledger.now tally.now }
             ensures first { IfSome result (IsFirstFrom version ledger.entry.now tally.entry.now.postings from) }
             ensures none { IfNone result (AreCovered version ledger.entry.now tally.entry.now.postings from middle) }
-        { first_overdraft_by(rt, tally, ledger, version, from, middle, few) },
+        { tally.first_overdraft_in(ledger, version, from, middle) },
         || -> Option<Overdraft>
-            requires { IsSync R.row × (middle ≤ end) × (end ≤ length ledger.now.accounts) × IsTallyFor ledger.now tally.now × (few * 2 ≤ threads) × (1 ≤ few) }
+            requires { IsSync R.row × (middle ≤ end) × (end ≤ length ledger.now.accounts) × IsTallyFor ledger.now tally.now × (1 ≤ others) }
             ensures first { IfSome result (IsFirstFrom version ledger.entry.now tally.entry.now.postings middle) }
             ensures none { IfNone result (AreCovered version ledger.entry.now tally.entry.now.postings middle end) }
-        { first_overdraft_by(rt, tally, ledger, version, middle, end, threads - few) },
+        { first_overdraft_by(rt, tally, ledger, version, middle, end, others) },
     );
     one.or(other)
 }

@@ -15,8 +15,9 @@ use crate::pending::Pending;
 use crate::tally::Tally;
 use std::alloc::Global;
 use std::mem;
-use std::thread::{Threads, join_mut};
+use std::thread::Threads;
 use sx_bytes::NoMemory;
+use sx_fork::fork_mut;
 use sx_ledger::{Ledger, LedgerIndex, Places, Static};
 use sx_tx::Tx;
 use thiserror::Error;
@@ -242,8 +243,9 @@ fn enter_piece<R: Threads + Sync>(
     }
     let next = from + known.len();
     let others = workers - 1;
-    let (_, entered) = join_mut(
+    let (_, entered) = fork_mut(
         rt,
+        true,
         &mut ||
             requires index { index.now ≡ ids ledger.now.accounts }
             requires some_worker { 1 ≤ others }

@@ -6,9 +6,10 @@ ghost use Rattle.sx_block.specs.Validity.{digest_of_ledger};
 ghost use Rattle.sx_meaning.specs.Items.{state_record};
 
 use std::alloc::Global;
-use std::thread::{Threads, join};
+use std::thread::Threads;
 use sx_block::{Digest, digest_of, ledger_digest};
 use sx_bytes::{NoMemory, Writer};
+use sx_fork::fork;
 use sx_input::written;
 use sx_ledger::Ledger;
 use sx_state::state_length;
@@ -49,8 +50,9 @@ fn side_by_side<R: Threads>(
     ensures hash { IfOk result (λ left. left.digest ≡ digest_of_ledger ledger.now) }
     ensures digest { IfOk result (λ left. IsDigest left.digest) }
 {
-    let (digest, state) = join(
+    let (digest, state) = fork(
         rt,
+        true,
         || -> Result<Digest, NoMemory>
             ensures hash { IfOk result (λ digest. digest ≡ digest_of_ledger ledger.entry.now) }
             ensures digest { IfOk result IsDigest }

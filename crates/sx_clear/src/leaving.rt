@@ -13,13 +13,14 @@ ghost use Rattle.sx_ledger.specs.Trade.{traded};
 ghost use Rattle.sx_tx.specs.declared.tx.Tx.{Tx};
 
 use std::alloc::Global;
-use std::thread::{Threads, join};
+use std::thread::Threads;
 use sx_apply::execute;
 use sx_base::Balances;
 use sx_block::{Digest, ledger_digest, par_ledger_digest};
 use sx_body::apply_accounts;
 use sx_bytes::NoMemory;
 use sx_discovery::{Body, digest_of_parent};
+use sx_fork::fork;
 use sx_ledger::{Fill, Ledger};
 use sx_price::Prices;
 use sx_spread::{par_apply_accounts, par_execute};
@@ -115,8 +116,9 @@ pub fn digests_around<R: Threads>(
             digest_left(alloc, ledger, body, prices, rounding, fills),
         );
     }
-    join(
+    fork(
         rt,
+        true,
         || -> Result<Digest, NoMemory>
             ensures { IfOk result (IsParentDigest ledger.entry.now) }
         { digest_of_parent(alloc, ledger) },

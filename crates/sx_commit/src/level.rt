@@ -7,9 +7,10 @@ ghost use Rattle.sx_commit.specs.Levels.{AreLowest, AreNodes, IsAbove, IsLevel, 
 use crate::hashing::{empty_digest, node_digest};
 use crate::subtree::digest_over;
 use std::alloc::Global;
-use std::thread::{Threads, for_each_mut};
+use std::thread::Threads;
 use sx_block::Digest;
 use sx_bytes::NoMemory;
+use sx_fork::for_each_mut;
 use sx_ledger::{Ledger, Parts};
 
 // The lowest level that is kept. Each of its digests is made of 128 accounts.

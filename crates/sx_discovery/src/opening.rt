@@ -19,11 +19,12 @@ use crate::curves::offer_curves;
 use crate::digests::{digest_of_body, written_body};
 use crate::ranges::price_ranges;
 use std::alloc::Global;
-use std::thread::{Threads, join};
+use std::thread::Threads;
 use sx_apply::bounds_of;
 use sx_block::{Digest, WrittenBody};
 use sx_bytes::{NoMemory, Writer};
 use sx_dual::Bounds;
+use sx_fork::fork;
 use sx_ledger::{Ledger, Offer};
 use sx_multi::{posted_laws, search_many};
 use sx_price::{Mu, Prices};
@@ -168,8 +169,9 @@ pub fn digest_and_prices<R: Threads + Sync>(
         let digest = digest_of_body(alloc, txs);
         return (digest, open(rt, alloc, ledger, txs, by));
     }
-    join(
+    fork(
         rt,
+        true,
         || -> Result<Digest, NoMemory>
             requires { length txs.now ≤ most_transactions }
             ensures { IfOk result (IsBodyDigest txs.entry.now) }
@@ -206,8 +208,9 @@ pub fn written_and_opened<R: Threads + Sync>(
         let written = written_body(rt, alloc, txs, spare)?;
         return Ok((written, open(rt, alloc, ledger, txs, by)?));
     }
-    let (written, opened) = join(
+    let (written, opened) = fork(
         rt,
+        true,
         move || -> Result<WrittenBody, NoMemory>
             requires { length txs.now ≤ most_transactions }
             ensures { IfOk result (IsWrittenBody txs.entry.now) }

@@ -15,8 +15,9 @@ ghost use Rattle.sx_tx.specs.declared.tx.Tx.{Tx as Transaction};
 
 use crate::joining::joined;
 use std::alloc::Global;
-use std::thread::{Threads, for_each_mut};
+use std::thread::Threads;
 use sx_bytes::NoMemory;
+use sx_fork::for_each_mut;
 use sx_sift::{Seen, Sifted, is_id_taken};
 use sx_tx::{Tx, TxList, TxParts};
 

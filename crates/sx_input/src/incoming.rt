@@ -20,11 +20,12 @@ use crate::payloads::decoded;
 use crate::stop::Stop;
 use crate::stream::{Taken, end_of, required};
 use std::alloc::Global;
-use std::thread::{Threads, join};
+use std::thread::Threads;
 use sx_base::Source;
 use sx_block::{Block, Digest, digest_of, header_length};
 use sx_body::PrecheckFault;
 use sx_check::{Survey, par_survey_of};
+use sx_fork::fork;
 use sx_ledger::Ledger;
 use sx_record::{Record, tag};
 
@@ -139,8 +140,9 @@ fn digest_and_block<R: Threads + Sync>(
             with_survey(rt, alloc, ledger, found, workers),
         );
     }
-    join(
+    fork(
         rt,
+        true,
         || -> Digest
             ensures { result ≡ sha256 transactions.entry.now }
         { digest_of(transactions) },

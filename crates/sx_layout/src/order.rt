@@ -9,7 +9,8 @@ ghost use Rattle.std.specs.Thread.{IsSync};
 ghost use Rattle.sx_ledger.specs.Body.{tx_before};
 
 use std::cmp::Ordering;
-use std::thread::{Threads, join_mut};
+use std::thread::Threads;
+use sx_fork::fork_mut;
 use sx_tx::Tx;
 
 // Whether a transaction stands before another in a body.
@@ -106,8 +107,9 @@ fn sort_by_halves<R: Threads + Sync>(rt: &R, threads: usize, txs: &mut [Tx])
     let middle = near_middle(txs);
     let end = part(txs, &middle);
     let (front, rest) = txs.split_at_mut(end);
-    join_mut(
+    fork_mut(
         rt,
+        true,
         &mut ||
             requires { IsSync R.row }
             ensures { IsPermutation front.entry.now front.exit.now × IsSortedBy tx_before front.exit.now }

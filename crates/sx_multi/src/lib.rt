@@ -14,7 +14,7 @@
 //! ```
 //!
 //! So the prices are the same whatever the threads do, and with one search they are those of
-//! `sx_search::search`. The calling thread works too, so that n searches start n - 1 threads. Where no
+//! `sx_search::search`. For several searches as many threads are started, while the calling one waits. Where no
 //! thread can be started for some of them, those run one after the other. All threads have ended when
 //! the call returns.
 //!

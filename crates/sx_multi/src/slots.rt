@@ -5,9 +5,10 @@ ghost use Rattle.sx_multi.specs.Slots.{AreFound, IsFound};
 
 use crate::number::first_exponent;
 use std::alloc::Global;
-use std::thread::{Threads, for_each_mut};
+use std::thread::Threads;
 use sx_bytes::NoMemory;
 use sx_curve::Curves;
+use sx_fork::for_each_mut;
 use sx_price::{Mu, Prices};
 use sx_search::{Found, search_from};
 

@@ -10,8 +10,9 @@ ghost use Rattle.sx_tx.specs.Transactions.{list_bytes, most_transactions, tx_byt
 
 use crate::pieces::Pieces;
 use std::alloc::Global;
-use std::thread::{Threads, join};
+use std::thread::Threads;
 use sx_bytes::{NoMemory, Writer};
+use sx_fork::fork;
 use sx_record::tag;
 use sx_tx::{Tx, TxList, TxParts, write_tx};
 
@@ -61,6 +62,17 @@ fn encoded(alloc: Global, parts: &[TxList]) -> Result<Writer, NoMemory>
     Ok(told)
 }
 
+// The same as a list of one.
+fn encoded_alone(alloc: Global, parts: &[TxList]) -> Result<Vec<Writer>, NoMemory>
+    requires { length (flat_map (λ part. part) parts.now) ≤ most_transactions }
+    ensures { IfOk result (λ told. flat_map (λ bytes. bytes) told.items
+        ≡ flat_map tx_bytes (flat_map (λ part. part) parts.now)) }
+{
+    let mut told = Vec::with_capacity(alloc, 1)?;
+    told.push(encoded(alloc, parts)?)?;
+    Ok(told)
+}
+
 // The same by so many threads, each of which encodes some of the parts.
 fn encoded_by<R: Threads + Sync>(
     rt: &R,
@@ -73,28 +85,26 @@ fn encoded_by<R: Threads + Sync>(
         ≡ flat_map tx_bytes (flat_map (λ part. part) parts.now)) }
 {
     if threads < 2 {
-        let mut told = Vec::with_capacity(alloc, 1)?;
-        told.push(encoded(alloc, parts)?)?;
-        return Ok(told);
+        return encoded_alone(alloc, parts);
     }
-    let less = threads / 2;
-    let (front, back) = parts.split_at(parts.len() / 2);
-    let (some, others) = join(
+    let others = threads - 1;
+    let (front, back) = parts.split_at(parts.len() / threads);
+    let (some, more) = fork(
         rt,
+        others < 2,
         || -> Result<Vec<Writer>, NoMemory>
-            requires { IsSync R.row × (length (flat_map (λ part. part) front.now) ≤ most_transactions) }
+            requires { length (flat_map (λ part. part) front.now) ≤ most_transactions }
             ensures { IfOk result (λ told. flat_map (λ bytes. bytes) told.items
                 ≡ flat_map tx_bytes (flat_map (λ part. part) front.entry.now)) }
-        { encoded_by(rt, alloc, less, front) },
+        { encoded_alone(alloc, front) },
         || -> Result<Vec<Writer>, NoMemory>
-            requires { IsSync R.row × (1 ≤ less) × (less * 2 ≤ threads)
-                × (length (flat_map (λ part. part) back.now) ≤ most_transactions) }
+            requires { IsSync R.row × (length (flat_map (λ part. part) back.now) ≤ most_transactions) }
             ensures { IfOk result (λ told. flat_map (λ bytes. bytes) told.items
                 ≡ flat_map tx_bytes (flat_map (λ part. part) back.entry.now)) }
-        { encoded_by(rt, alloc, threads - less, back) },
+        { encoded_by(rt, alloc, others, back) },
     );
     let mut told = some?;
-    told.append(&mut others?)?;
+    told.append(&mut more?)?;
     Ok(told)
 }
 

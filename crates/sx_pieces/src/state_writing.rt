@@ -12,8 +12,9 @@ ghost use Rattle.sx_pieces.specs.StateParts.{IsPart, part_at};
 
 use crate::pieces::Pieces;
 use std::alloc::Global;
-use std::thread::{Threads, map_indices};
+use std::thread::Threads;
 use sx_bytes::{NoMemory, Writer, all_of};
+use sx_fork::map_indices;
 use sx_ledger::{Account, Ledger, Offer};
 use sx_record::{tag, write_frame};
 use sx_state::{state_length, write_accounts, write_offers, write_opening, write_state};

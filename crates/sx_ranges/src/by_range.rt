@@ -14,8 +14,9 @@ use crate::lists::{empty_lists, put};
 use crate::ranges::range_of;
 use std::alloc::Global;
 use std::slice::from_ref;
-use std::thread::{Threads, for_each_mut};
+use std::thread::Threads;
 use sx_bytes::{NoMemory, all_of};
+use sx_fork::for_each_mut;
 use sx_layout::{Additions, additions_of};
 use sx_tx::{Tx, TxList};
 

@@ -12,9 +12,10 @@ ghost use Rattle.sx_tx.specs.declared.tx.Tx.{Tx as Transaction};
 
 use crate::sharing::sharers;
 use std::alloc::Global;
-use std::thread::{Threads, for_each_mut};
+use std::thread::Threads;
 use sx_body::{OfferChange, Tally, apply_to_account, complete_accounts};
 use sx_bytes::NoMemory;
+use sx_fork::for_each_mut;
 use sx_ledger::{Account, Accounts, Ledger, Parts};
 
 // Makes each account what it is after the body, in at most so many threads.

@@ -6,13 +6,14 @@ ghost use Rattle.sx_apply.specs.FillSums.{paid_by};
 ghost use Rattle.sx_apply.specs.Paying.{CanPay};
 
 use std::alloc::Global;
-use std::thread::{Threads, join_mut};
+use std::thread::Threads;
 use sx_apply::pay_sellers;
 use sx_bytes::NoMemory;
+use sx_fork::fork_mut;
 use sx_ledger::{Account, Fill, Offer};
 
-// Credits the sellers among the accounts with what the fills of their offers get. The accounts are halved, and
-// each half is credited by half of the threads.
+// Credits the sellers among the accounts with what the fills of their offers get. So many threads credit each a part of
+// the accounts.
 pub fn pay_parts<R: Threads + Sync>(
     rt: &R,
     alloc: Global,
@@ -28,18 +29,19 @@ pub fn pay_parts<R: Threads + Sync>(
     if threads < 2 {
         return pay_sellers(alloc, offers, fills, accounts);
     }
-    let few = threads / 2;
-    let (front, back) = accounts.split_at_mut(accounts.len() / 2);
-    let (one, other) = join_mut(
+    let others = threads - 1;
+    let (front, back) = accounts.split_at_mut(accounts.len() / threads);
+    let (one, other) = fork_mut(
         rt,
+        others < 2,
         &mut || -> Result<(), NoMemory>
-            requires { IsSync R.row × (1 ≤ few) × CanPay offers.now fills.now front.now }
+            requires { CanPay offers.now fills.now front.now }
             ensures { OnOk result (front.exit.now ≡ map (paid_by offers.entry.now fills.entry.now) front.entry.now) }
-        { pay_parts(rt, alloc, offers, fills, few, front) },
+        { pay_sellers(alloc, offers, fills, front) },
         &mut || -> Result<(), NoMemory>
-            requires { IsSync R.row × (1 ≤ few) × (few * 2 ≤ threads) × CanPay offers.now fills.now back.now }
+            requires { IsSync R.row × (1 ≤ others) × CanPay offers.now fills.now back.now }
             ensures { OnOk result (back.exit.now ≡ map (paid_by offers.entry.now fills.entry.now) back.entry.now) }
-        { pay_parts(rt, alloc, offers, fills, threads - few, back) },
+        { pay_parts(rt, alloc, offers, fills, others, back) },
     );
     one?;
     other

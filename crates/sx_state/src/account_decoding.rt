@@ -1,9 +1,9 @@
 //! Decoding the accounts of a long state by several threads.
 //!
-//! Each account takes as many bytes as the other ones, so a list of accounts is cut in the middle, and each half is
-//! decoded by threads of its own. Where the front half ends where the back one was begun, and the first account behind
-//! may stand after the last one in front, both side by side are what the bytes say. Where anything is amiss, one thread
-//! reads the accounts, and so finds the first fault.
+//! Each account takes as many bytes as the other ones, so a list of accounts is cut into parts, each of which a thread
+//! decodes. Where one part ends where the next one was begun, and the first account of that may stand after the last one of
+//! the part before, all side by side are what the bytes say. Where anything is amiss, one thread reads the accounts, and so
+//! finds the first fault.
 
 ghost use Rattle.std.specs.Prelude.{◌≡◌, ◌*◌, ◌≤◌, true, IfOk, IfSome, Ok};
 ghost use Rattle.std.specs.Thread.{IsSync};
@@ -16,8 +16,9 @@ use crate::offer_decoding::move_to;
 use crate::reading::refusal;
 use crate::sizes::account_width;
 use std::alloc::Global;
-use std::thread::{Threads, join_mut};
+use std::thread::Threads;
 use sx_bytes::{Form, ReadError, Reader};
+use sx_fork::fork_mut;
 use sx_ledger::{Account, Ledger};
 
 // Whether accounts may stand after others.
@@ -66,30 +67,22 @@ fn accounts_by<R: Threads + Sync>(
     if threads < 2 {
         return accounts_from(alloc, payload, place, version, assets, count, room);
     }
-    let less = threads / 2;
-    let half = (count / threads).saturating_mul(less).min(count);
-    let others = count - half;
-    let middle = place.saturating_add(half.saturating_mul(account_width(version, assets)));
-    let (front, back) = join_mut(
+    let others = threads - 1;
+    let share = count / threads;
+    let rest = count - share;
+    let middle = place.saturating_add(share.saturating_mul(account_width(version, assets)));
+    let (front, back) = fork_mut(
         rt,
+        others < 2,
         &mut || -> Result<(Vec<Account>, usize), ReadError>
-            requires { IsSync R.row × (1 ≤ less) }
-            ensures { IfOk result (λ read. AreAccountsAt payload.entry.now version assets place half read.0.items read.1) }
-        { accounts_by(rt, less, alloc, payload, place, version, assets, half, room) },
+            ensures { IfOk result (λ read. AreAccountsAt payload.entry.now version assets place share read.0.items read.1) }
+        { accounts_from(alloc, payload, place, version, assets, share, room) },
         &mut || -> Result<(Vec<Account>, usize), ReadError>
-            requires { IsSync R.row × (1 ≤ less) × (less * 2 ≤ threads) }
-            ensures { IfOk result (λ read. AreAccountsAt payload.entry.now version assets middle others read.0.items read.1) }
+            requires { IsSync R.row × (1 ≤ others) }
+            ensures { IfOk result (λ read. AreAccountsAt payload.entry.now version assets middle rest read.0.items read.1) }
         {
             accounts_by(
-                rt,
-                threads - less,
-                alloc,
-                payload,
-                middle,
-                version,
-                assets,
-                others,
-                others,
+                rt, others, alloc, payload, middle, version, assets, rest, rest,
             )
         },
     );

@@ -6,7 +6,8 @@ ghost use Rattle.sx_base.specs.Ranges.{most_amount, most_assets};
 ghost use Rattle.sx_ledger.specs.Ledger.{balance_at, most_accounts};
 
 use crate::offer_sums::{MOST_ASSETS, add_sums};
-use std::thread::{Threads, join_mut};
+use std::thread::Threads;
+use sx_fork::fork_mut;
 use sx_ledger::Account;
 
 // Adds the balances of one account, or what rounding keeps.
@@ -65,24 +66,25 @@ pub fn held_by<R: Threads + Sync>(
     if threads < 2 {
         return held_of(accounts);
     }
-    let less = threads / 2;
-    let (front, back) = accounts.split_at(accounts.len() / 2);
-    let (mut sums, more) = join_mut(
+    let others = threads - 1;
+    let (front, back) = accounts.split_at(accounts.len() / threads);
+    let (mut sums, more) = fork_mut(
         rt,
+        others < 2,
         &mut || -> [u128; MOST_ASSETS]
-            requires ready { IsSync R.row × (1 ≤ less) × (length front.now ≤ most_accounts) }
+            requires few { length front.now ≤ most_accounts }
             requires few_assets { All (λ account. length account.balances ≤ most_assets) front.now }
             requires in_range { All (λ account. All (λ balance. balance ≤ most_amount) account.balances) front.now }
             ensures sums { (asset : ℕ) → asset < most_assets → slice_index result asset ≡ sum_by (balance_at asset) front.entry.now }
             ensures small { All (λ sum. sum ≤ length front.entry.now * 2 ^ 62) result }
-        { held_by(rt, less, front) },
+        { held_of(front) },
         &mut || -> [u128; MOST_ASSETS]
-            requires ready { IsSync R.row × (1 ≤ less) × (less * 2 ≤ threads) × (length back.now ≤ most_accounts) }
+            requires ready { IsSync R.row × (1 ≤ others) × (length back.now ≤ most_accounts) }
             requires few_assets { All (λ account. length account.balances ≤ most_assets) back.now }
             requires in_range { All (λ account. All (λ balance. balance ≤ most_amount) account.balances) back.now }
             ensures sums { (asset : ℕ) → asset < most_assets → slice_index result asset ≡ sum_by (balance_at asset) back.entry.now }
             ensures small { All (λ sum. sum ≤ length back.entry.now * 2 ^ 62) result }
-        { held_by(rt, threads - less, back) },
+        { held_by(rt, others, back) },
     );
     add_sums(&mut sums, &more);
     sums

@@ -7,7 +7,8 @@ ghost use Rattle.sx_ledger.specs.Ledger.{balance_at, most_accounts, most_offers,
 
 use crate::account_sums::{held_by, held_of};
 use crate::offer_sums::{MOST_ASSETS, sums_by, sums_of};
-use std::thread::{Threads, join_mut};
+use std::thread::Threads;
+use sx_fork::fork_mut;
 use sx_ledger::{Account, Offer};
 
 // What all accounts hold and what is on offer, of each asset.
@@ -53,8 +54,9 @@ pub fn entry_sums_by<R: Threads + Sync>(
     ensures on_offer { (asset : ℕ) → asset < most_assets → slice_index result.on_offer asset ≡ sum_by (offered asset) offers.now }
     ensures on_offer_small { All (λ sum. sum ≤ length offers.now * 2 ^ 62) result.on_offer }
 {
-    let (held, on_offer) = join_mut(
+    let (held, on_offer) = fork_mut(
         rt,
+        offer_threads == 1,
         &mut || -> [u128; MOST_ASSETS]
             requires ready { IsSync R.row × (1 ≤ account_threads) × (length accounts.now ≤ most_accounts) }
             requires few_assets { All (λ account. length account.balances ≤ most_assets) accounts.now }

@@ -17,8 +17,9 @@ use crate::account_decoding::account_list_by;
 use crate::offer_reading::offer;
 use crate::sizes::{OFFER_BYTES, account_width};
 use std::alloc::Global;
-use std::thread::{Threads, join_mut};
+use std::thread::Threads;
 use sx_bytes::{Form, FormFault, ReadError, Reader, Short};
+use sx_fork::fork_mut;
 use sx_ledger::{Account, Ledger, Offer, Offers};
 
 // Offers that are decoded before it is known whether they stand in order and have owners, and where they end.
@@ -58,21 +59,21 @@ fn fill_by<R: Threads + Sync>(
     if threads < 2 {
         return fill(payload, place, assets, offers);
     }
-    let less = threads / 2;
-    let share = (offers.len() / threads).saturating_mul(less);
-    let half = share.min(offers.len());
-    let middle = place.saturating_add(half.saturating_mul(OFFER_BYTES as usize));
-    let (front, back) = offers.split_at_mut(half);
-    let (one, other) = join_mut(
+    let others = threads - 1;
+    let share = offers.len() / threads;
+    let middle = place.saturating_add(share.saturating_mul(OFFER_BYTES as usize));
+    let (front, back) = offers.split_at_mut(share);
+    let (one, other) = fork_mut(
         rt,
+        others < 2,
         &mut || -> Result<usize, FormFault>
-            requires { IsSync R.row × (1 ≤ less) × (1 ≤ assets) × (assets ≤ most_assets) }
+            requires { (1 ≤ assets) × (assets ≤ most_assets) }
             ensures { IfOk result (λ end. AreOffersAt payload.entry.now assets place (length front.entry.now) front.exit.now end) }
-        { fill_by(rt, less, payload, place, assets, front) },
+        { fill(payload, place, assets, front) },
         &mut || -> Result<usize, FormFault>
-            requires { IsSync R.row × (1 ≤ less) × (less * 2 ≤ threads) × (1 ≤ assets) × (assets ≤ most_assets) }
+            requires { IsSync R.row × (1 ≤ others) × (1 ≤ assets) × (assets ≤ most_assets) }
             ensures { IfOk result (λ end. AreOffersAt payload.entry.now assets middle (length back.entry.now) back.exit.now end) }
-        { fill_by(rt, threads - less, payload, middle, assets, back) },
+        { fill_by(rt, others, payload, middle, assets, back) },
     );
     if one? != middle {
         let at = middle as u64;
@@ -172,8 +173,9 @@ pub fn accounts_and_ahead<R: Threads + Sync>(
     ensures ahead { IfOk result (λ read. IfSome read.1 (λ ahead. AreAhead assets from.new ahead.offers ahead.end)) }
 {
     let payload = from.bytes();
-    let (ahead, accounts) = join_mut(
+    let (ahead, accounts) = fork_mut(
         rt,
+        account_threads == 1,
         &mut || -> Result<Ahead, ReadError>
             requires { IsSync R.row × (1 ≤ threads) × (1 ≤ assets) × (assets ≤ most_assets) }
             ensures { IfOk result (λ ahead. AreAhead assets (record { bytes = payload.entry.now; place = begin }) ahead.offers ahead.end) }

@@ -7,7 +7,8 @@ ghost use Rattle.sx_state.specs.SoundOffers.{AreTold, IsTold, all_stand, key_ahe
 
 use crate::offer_reading::follows;
 use crate::owners::has_owner;
-use std::thread::{Threads, for_each_mut};
+use std::thread::Threads;
+use sx_fork::for_each_mut;
 use sx_ledger::{Account, AccountIndex, Key, Offer};
 
 // The key of the offer before a place.

@@ -5,8 +5,9 @@ ghost use Rattle.std.specs.Thread.{IsSync};
 ghost use Rattle.sx_base.specs.Ranges.{most_assets};
 ghost use Rattle.sx_ledger.specs.Ledger.{most_offers, offered};
 
-use std::thread::{Threads, join_mut};
+use std::thread::Threads;
 use sx_base::AssetId;
+use sx_fork::fork_mut;
 use sx_ledger::Offer;
 
 // The most assets that there are.
@@ -59,20 +60,21 @@ pub fn sums_by<R: Threads + Sync>(rt: &R, threads: usize, offers: &[Offer]) -> [
     if threads < 2 {
         return sums_of(offers);
     }
-    let less = threads / 2;
-    let (front, back) = offers.split_at(offers.len() / 2);
-    let (mut sums, more) = join_mut(
+    let others = threads - 1;
+    let (front, back) = offers.split_at(offers.len() / threads);
+    let (mut sums, more) = fork_mut(
         rt,
+        others < 2,
         &mut || -> [u128; MOST_ASSETS]
-            requires { IsSync R.row × (1 ≤ less) × (length front.now ≤ most_offers) }
+            requires { length front.now ≤ most_offers }
             ensures sums { (asset : ℕ) → asset < most_assets → slice_index result asset ≡ sum_by (offered asset) front.entry.now }
             ensures small { All (λ sum. sum ≤ length front.entry.now * 2 ^ 62) result }
-        { sums_by(rt, less, front) },
+        { sums_of(front) },
         &mut || -> [u128; MOST_ASSETS]
-            requires { IsSync R.row × (1 ≤ less) × (less * 2 ≤ threads) × (length back.now ≤ most_offers) }
+            requires { IsSync R.row × (1 ≤ others) × (length back.now ≤ most_offers) }
             ensures sums { (asset : ℕ) → asset < most_assets → slice_index result asset ≡ sum_by (offered asset) back.entry.now }
             ensures small { All (λ sum. sum ≤ length back.entry.now * 2 ^ 62) result }
-        { sums_by(rt, threads - less, back) },
+        { sums_by(rt, others, back) },
     );
     add_sums(&mut sums, &more);
     sums

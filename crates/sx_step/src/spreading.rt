@@ -11,12 +11,13 @@ ghost use Rattle.sx_tx.specs.Transactions.{list_bytes, most_transactions};
 
 use crate::leaving::{Leaving, closed};
 use std::alloc::Global;
-use std::thread::{Threads, join};
+use std::thread::Threads;
 use sx_apply::Effects;
 use sx_block::{Block, Digest, body_digest, validity_laws};
 use sx_body::PrecheckFault;
 use sx_bytes::NoMemory;
 use sx_check::{CheckFault, Survey, check_laws, judge_applicable, par_survey_of};
+use sx_fork::fork;
 use sx_ledger::Ledger;
 use sx_spare::Spare;
 use sx_spread::apply_spread;
@@ -70,8 +71,9 @@ pub fn par_step<R: Threads + Sync>(
     validity_laws();
     check_laws();
     let txs = block.txs.items();
-    let (body, found) = join(
+    let (body, found) = fork(
         rt,
+        true,
         || -> Result<Digest, NoMemory>
             requires { length txs.now ≤ most_transactions }
             ensures { IfOk result (λ body. body ≡ sha256 (list_bytes txs.entry.now)) }

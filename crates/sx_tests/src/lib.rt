@@ -1,6 +1,6 @@
 //! Tests of library calls on what was worked out by hand, over several crates: order books, fills, tallies of
 //! great amounts, blocks that are checked, applied and made again from the transactions of valid ones, the
-//! demonstration, and words.
+//! demonstration, work that is split among threads, and words.
 #![tactic(auto)]
 
 #[cfg(test)]
@@ -13,6 +13,8 @@ mod demonstration;
 mod dropped;
 #[cfg(test)]
 mod fills;
+#[cfg(test)]
+mod forks;
 #[cfg(test)]
 mod tallies;
 #[cfg(test)]

@@ -1,15 +1,16 @@
 //! The lines of many entries, written by several threads.
 //!
-//! The entries are halved until each thread has a part of them. One thread appends the lines of the front half to the
-//! text, while another writes those of the back half to a text of its own, which is appended then.
+//! Each thread has a part of the entries. The first one appends the lines of its part to the text, while each of the other
+//! ones writes those of its part to a text of its own, which is appended then.
 
 ghost use Rattle.std.specs.Prelude.{◌≡◌, ◌*◌, ◌≤◌, ◌++◌, OnOk, string_bytes};
 ghost use Rattle.std.specs.List.{flat_map};
 ghost use Rattle.std.specs.Thread.{IsSync};
 
 use crate::entries::{Line, put_each, room};
-use std::thread::{Threads, join_mut};
+use std::thread::Threads;
 use sx_bytes::NoMemory;
+use sx_fork::fork_mut;
 
 // How many entries are worth a thread of their own. To write their lines takes half a millisecond or more, and to start
 // a thread a part of that.
@@ -29,22 +30,23 @@ fn put_by<R: Threads + Sync, T: Sync, L: Line<T> + Sync>(
     if threads < 2 {
         return put_each(shape, to, entries);
     }
-    let few = threads / 2;
-    let (front, back) = entries.split_at(entries.len() / 2);
+    let others = threads - 1;
+    let (front, back) = entries.split_at(entries.len() / threads);
     let alloc = *to.allocator();
     let mut later = String::with_capacity(alloc, room(alloc, shape, back)?)?;
-    let (one, other) = join_mut(
+    let (one, other) = fork_mut(
         rt,
+        others < 2,
         &mut || -> Result<(), NoMemory>
-            requires { IsSync R.row × IsSync T.row × IsSync L.row × (1 ≤ few) }
+            requires { IsSync T.row × IsSync L.row }
             ensures { OnOk result
                 (string_bytes to.exit.now ≡ string_bytes to.entry.now ++ flat_map (L.line shape.entry.now) front.entry.now) }
-        { put_by(rt, few, shape, to, front) },
+        { put_each(shape, to, front) },
         &mut || -> Result<(), NoMemory>
-            requires { IsSync R.row × IsSync T.row × IsSync L.row × (1 ≤ few) × (few * 2 ≤ threads) }
+            requires { IsSync R.row × IsSync T.row × IsSync L.row × (1 ≤ others) }
             ensures { OnOk result
                 (string_bytes later.exit ≡ string_bytes later.entry ++ flat_map (L.line shape.entry.now) back.entry.now) }
-        { put_by(rt, threads - few, shape, &mut later, back) },
+        { put_by(rt, others, shape, &mut later, back) },
     );
     one?;
     other?;

@@ -1,6 +1,6 @@
 //! Decoding a long list of candidates by several threads, each of which has a vector of its own for its part.
 //!
-//! The list is halved as in `reading_in_parts`. But there one thread fills the vector first that all threads share, and so
+//! The list is cut as in `reading_in_parts`. But there one thread fills the vector first that all threads share, and so
 //! is the first to touch its memory. Here each thread touches that of its own part.
 
 ghost use Rattle.std.specs.Prelude.{◌≡◌, ◌*◌, ◌-◌, ◌≤◌, List, IfOk, Ok};
@@ -16,8 +16,9 @@ use crate::reading::{read_candidates, tx};
 use crate::tx::Tx;
 use crate::tx_list::{MOST_TRANSACTIONS, TxList, TxParts};
 use std::alloc::Global;
-use std::thread::{Threads, join_mut};
+use std::thread::Threads;
 use sx_bytes::{Form, NoMemory, ReadError, Reader};
+use sx_fork::fork_mut;
 
 // A list of one part.
 fn one_part(alloc: Global, txs: TxList) -> Result<Vec<TxList>, NoMemory>
@@ -47,6 +48,19 @@ fn part(
     Ok((TxList::of(txs), from.place()))
 }
 
+// The same as a list of one part.
+fn first_part(
+    alloc: Global,
+    payload: &[u8],
+    place: usize,
+    count: usize,
+) -> Result<(Vec<TxList>, usize), ReadError>
+    ensures { IfOk result (λ read. AreDecoded payload.now place count (flat_map (λ list. list) read.0.items) read.1) }
+{
+    let (txs, end) = part(alloc, payload, place, count)?;
+    Ok((one_part(alloc, txs)?, end))
+}
+
 // The same by so many threads, of which each decodes a part.
 fn parts_by<R: Threads + Sync>(
     rt: &R,
@@ -61,32 +75,22 @@ fn parts_by<R: Threads + Sync>(
     ensures { IfOk result (λ read. AreDecoded payload.now place count (flat_map (λ list. list) read.0.items) read.1) }
 {
     if threads < 2 {
-        let (txs, end) = part(alloc, payload, place, count)?;
-        return Ok((one_part(alloc, txs)?, end));
+        return first_part(alloc, payload, place, count);
     }
-    let few = threads / 2;
-    let half = count / 2;
-    let middle = end_of(payload, place, half, each)?;
-    let (one, other) = join_mut(
+    let others = threads - 1;
+    let share = count / threads;
+    let rest = count - share;
+    let middle = end_of(payload, place, share, each)?;
+    let (one, other) = fork_mut(
         rt,
+        others < 2,
         &mut || -> Result<(Vec<TxList>, usize), ReadError>
-            requires { IsSync R.row × (1 ≤ few) }
-            ensures { IfOk result (λ read. AreDecoded payload.entry.now place half (flat_map (λ list. list) read.0.items) read.1) }
-        { parts_by(rt, alloc, payload, place, half, few, each) },
+            ensures { IfOk result (λ read. AreDecoded payload.entry.now place share (flat_map (λ list. list) read.0.items) read.1) }
+        { first_part(alloc, payload, place, share) },
         &mut || -> Result<(Vec<TxList>, usize), ReadError>
-            requires { IsSync R.row × (1 ≤ few) × (few * 2 ≤ threads) × (half ≤ count) }
-            ensures { IfOk result (λ read. AreDecoded payload.entry.now middle (count - half) (flat_map (λ list. list) read.0.items) read.1) }
-        {
-            parts_by(
-                rt,
-                alloc,
-                payload,
-                middle,
-                count - half,
-                threads - few,
-                each,
-            )
-        },
+            requires { IsSync R.row × (1 ≤ others) }
+            ensures { IfOk result (λ read. AreDecoded payload.entry.now middle rest (flat_map (λ list. list) read.0.items) read.1) }
+        { parts_by(rt, alloc, payload, middle, rest, others, each) },
     );
     let (mut parts, front_end) = one?;
     let (mut others, end) = other?;

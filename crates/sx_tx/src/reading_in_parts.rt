@@ -1,9 +1,9 @@
 //! Decoding a long list of transactions by several threads.
 //!
-//! Half of the threads decode the front half of the transactions and half of them the back half, each half in the same
-//! way, into its part of one vector. Where the back half seems to begin is a guess. Where the front half is decoded whole
-//! and ends at that place, both halves side by side are what the payload says. Where anything is amiss, one thread decodes
-//! the payload from its first byte, and so finds the first fault.
+//! A thread decodes a first part of the transactions into its part of one vector, and so many more threads the rest, in the
+//! same way. Where the rest seems to begin is a guess. Where the first part is decoded whole and ends at that place, both
+//! side by side are what the payload says. Where anything is amiss, one thread decodes the payload from its first byte, and
+//! so finds the first fault.
 
 ghost use Rattle.std.specs.Prelude.{◌≡◌, ◌*◌, ◌≤◌, List, length, IfOk, Ok};
 ghost use Rattle.std.specs.Thread.{IsSync};
@@ -17,8 +17,9 @@ use crate::reading::{read_candidates, tx};
 use crate::tx::Tx;
 use crate::tx_list::{MOST_TRANSACTIONS, TxList};
 use std::alloc::Global;
-use std::thread::{Threads, join_mut};
+use std::thread::Threads;
 use sx_bytes::{Form, FormFault, ReadError, Reader};
+use sx_fork::fork_mut;
 
 // Decodes the transactions from a place on, one into each slot, and answers where they end.
 fn fill(payload: &[u8], place: usize, txs: &mut [Tx]) -> Result<usize, FormFault>
@@ -48,20 +49,20 @@ fn fill_by<R: Threads + Sync>(
     if threads < 2 {
         return fill(payload, place, txs);
     }
-    let few = threads / 2;
-    let half = txs.len() / 2;
-    let middle = end_of(payload, place, half, each)?;
-    let (front, back) = txs.split_at_mut(half);
-    let (one, other) = join_mut(
+    let others = threads - 1;
+    let share = txs.len() / threads;
+    let middle = end_of(payload, place, share, each)?;
+    let (front, back) = txs.split_at_mut(share);
+    let (one, other) = fork_mut(
         rt,
+        others < 2,
         &mut || -> Result<usize, FormFault>
-            requires { IsSync R.row × (1 ≤ few) }
             ensures { IfOk result (λ end. AreDecoded payload.entry.now place (length front.entry.now) front.exit.now end) }
-        { fill_by(rt, payload, place, few, each, front) },
+        { fill(payload, place, front) },
         &mut || -> Result<usize, FormFault>
-            requires { IsSync R.row × (1 ≤ few) × (few * 2 ≤ threads) }
+            requires { IsSync R.row × (1 ≤ others) }
             ensures { IfOk result (λ end. AreDecoded payload.entry.now middle (length back.entry.now) back.exit.now end) }
-        { fill_by(rt, payload, middle, threads - few, each, back) },
+        { fill_by(rt, payload, middle, others, each, back) },
     );
     if one? != middle {
         return Err(fault_at(middle, Form::Short));

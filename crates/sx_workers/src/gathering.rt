@@ -90,8 +90,8 @@ fn of_none(alloc: Global, ledger: &Ledger, candidates: TxList) -> Result<Sealed,
 /// those of a gathering for every number of workers and whatever their threads do.
 ///
 /// With w the lesser of the number of workers and of candidates, and at least 1, worker k has the candidates
-/// from `count * k / w`, rounded down, up to where those of the next worker begin. The calling thread is one of
-/// the workers. Where there are several, threads sort the body too. The call returns where its threads return.
+/// from `count * k / w`, rounded down, up to where those of the next worker begin. Where there are several, each is
+/// a thread, and threads sort the body too. The call returns where its threads return.
 ///
 /// `Ended` comes exactly at the greatest height, `2^63 - 1`, else `Crowded` for the accounts exactly where those
 /// that the candidates create would pass 65,536, else for the offers exactly where those that they make would

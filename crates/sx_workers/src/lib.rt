@@ -18,9 +18,9 @@
 //!
 //! A worker submits its candidates one after the other. A submit takes no memory, has no lock and waits for
 //! nobody, so a worker that stops keeps no other from going on. Each worker has its pass on its own stack
-//! meanwhile: passes that stand side by side in memory share cache lines. The calling thread is a worker too,
-//! so that for w workers w - 1 threads are started. Where there are several workers, the body is sorted by
-//! up to four threads, unless it comes in order. Where no thread can be started for a part of this, it is done
+//! meanwhile: passes that stand side by side in memory share cache lines. For several workers as many threads
+//! are started, while the calling one waits, and one worker is the calling thread. Where there are several, the
+//! body is sorted by up to four threads, unless it comes in order. Where no thread can be started for a part of this, it is done
 //! in a thread that is there: the answer is as good, and there is none that speaks of threads. All threads have
 //! ended when the call returns.
 //!

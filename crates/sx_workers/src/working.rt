@@ -4,7 +4,8 @@ ghost use Rattle.std.specs.Prelude.{◌≡◌, ◌+◌, ◌-◌, ◌<◌, ◌≤
 ghost use Rattle.sx_workers.specs.Passing.{AreHeld, CanDecide, DecidesHeld, DecidesRest, IsDone, IsHeld, IsWaiting};
 
 use crate::gate::Gate;
-use std::thread::{Threads, for_each_mut};
+use std::thread::Threads;
+use sx_fork::for_each_mut;
 use sx_gather::{Gather, Pass};
 
 // Decides all that a pass has left.
@@ -28,7 +29,7 @@ fn work<G: Gate>(gather: &Gather, gate: &G, worker: u32, slot: &mut Option<Pass>
     *slot = Some(pass);
 }
 
-// All workers work, each in a thread of its own where one can be started. The last slot is this thread's.
+// All workers work, each in a thread of its own where one can be started. One worker alone works in this one.
 pub fn work_all<R: Threads + Sync, G: Gate + Sync>(
     rt: &R,
     gather: &Gather,

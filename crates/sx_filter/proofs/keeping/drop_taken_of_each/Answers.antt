@@ -7,7 +7,7 @@ use Rattle.sx_filter.proofs.keeping.drop_taken_of_each.Goals as goal
 
 pub returns : goal.returns
 returns g c = λ passed are.
-    new_of_each passed c.args.lists.now c.for_each_mut.new.s c.for_each_mut.auto.s (λ k d lt.
+    new_of_each passed c.args.lists.now c.for_each_mut.new.list c.for_each_mut.auto.list (λ k d lt.
     let change = (c.for_each_mut.ensures k d lt).1 in
     let made : change.after_call.now.items ≡ filter (is_new passed) change.argument.now.items =
     change.call passed are in

@@ -13,9 +13,9 @@ pub returns : goal.returns
 returns g c =
     let parts = c.args.parts.now in
     let cuts = c.args.cuts.now in
-    let results = c.for_each_mut.new.s in
+    let results = c.for_each_mut.new.list in
     let IsOf : ℕ → ByRange → Type 0 = λ i one. (d : List Tx) → IsByRange cuts (get_or parts i d) one in
-    let kept : length results ≡ length c.deref_mut.result.now = c.for_each_mut.auto.s in
+    let kept : length results ≡ length c.deref_mut.result.now = c.for_each_mut.auto.list in
     let long : length results ≡ length parts =
     omega (arith, kept, ap length c.deref_mut.ensures.value, c.in_ok-results.ensures) in
     let same = with_items_is c.in_ok-results.results results (omega (arith, kept, c.deref_mut.ensures.len)) in

@@ -24,7 +24,7 @@ for_each_mut-requires-clause-accepts g c = λ κs out place account lt is.
 pub returns : goal.returns
 returns g c = λ parts txs keeps same are body tally.
     let old = c.args.accounts.now in
-    let new = c.for_each_mut.new.s in
+    let new = c.for_each_mut.new.list in
     let f = account_after parts txs in
     let as_many : length new ≡ length old = search rules in
     same_lists new (map f old) (as_many ∙ sym (length-map old f)) (λ k d lt.
