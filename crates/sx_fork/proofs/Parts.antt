@@ -14,7 +14,9 @@ use Rattle.sx_fork.specs.Each.{ChangesFrom}
 
 module _ {F T : Type 0} (g : Shared F (ℕ × (MutBor T × Unit {0})) ((Unit {0}) × (MutBor T × Unit {0}))) (f : F) where
   at_place : (i j : ℕ) (x x' y y' : T) → i ≡ j → x ≡ x' → y ≡ y' → ChangesAt g f i x y → ChangesAt g f j x' y'
-  at_place i j x x' y y' a b c h = subst (λ k. ChangesAt g f k x' y') a (subst (λ u. ChangesAt g f i u y') b (subst (ChangesAt g f i x) c h))
+  at_place i j x x' y y' a b c h =
+      subst (λ k. ChangesAt g f k x' y') a
+      (subst (λ u. ChangesAt g f i u y') b (subst (ChangesAt g f i x) c h))
 
   pub changes_both : (base up : ℕ) (all xs ys after xs' ys' : List T)
       → all ≡ xs ++ ys → after ≡ xs' ++ ys' → up ≡ base + length xs
@@ -22,7 +24,8 @@ module _ {F T : Type 0} (g : Shared F (ℕ × (MutBor T × Unit {0})) ((Unit {0}
   changes_both base up all xs ys after xs' ys' parts parts' at front back =
       let n = length xs in
       record {
-        len = omega (arith, ap length parts, ap length parts', length-append xs ys, length-append xs' ys', front.len, back.len);
+        len = omega
+            (arith, ap length parts, ap length parts', length-append xs ys, length-append xs' ys', front.len, back.len);
         each = λ k d h. ⊎_elim
             (λ low. at_place (base + k) (base + k) _ _ _ _ (omega arith)
             (sym (ap (λ l. get_or l k d) parts ∙ get_or_append_left xs ys d k low))

@@ -5,8 +5,9 @@ ghost use Rattle.std.specs.Thread.{IsSend};
 
 use std::thread::{Threads, join, join_mut};
 
-/// Calls `f` in a thread of its own and, at the same time, `g`: in another one where it is to be `apart`, and else in this
-/// one. Then it waits for both. A caller whose `g` starts more threads before it waits has `g` called in this one.
+/// Calls `f` in a thread of its own and, at the same time, `g`, and then waits for both. Where `apart` is true, `g` has
+/// a thread of its own as well, and this thread only waits. Where it is false, this thread calls `g` itself: that is for
+/// a `g` which does nothing but start more threads and wait for them.
 pub fn fork<R: Threads, F: FnOnce() -> A + Send, G: FnOnce() -> B + Send, A: Send, B: Send>(
     rt: &R,
     apart: bool,
@@ -31,7 +32,8 @@ pub fn fork<R: Threads, F: FnOnce() -> A + Send, G: FnOnce() -> B + Send, A: Sen
     (first, second)
 }
 
-/// As [`fork`], with closures that are lent, so that contracts say what each call leaves in what it captures.
+/// As [`fork`], with the same `apart`, and with closures that are lent, so that contracts say what each call leaves in
+/// what it captures.
 pub fn fork_mut<R: Threads, F: FnMut() -> A + Send, G: FnMut() -> B + Send, A: Send, B: Send>(
     rt: &R,
     apart: bool,

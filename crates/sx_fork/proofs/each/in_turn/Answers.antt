@@ -14,13 +14,17 @@ loop-k-preserved g c =
     let xs = c.loop-k.part in
     let x = c.call_at.new.element in
     let here : k < length xs = omega (arith, c.loop-k.invariant.0) in
-    let left : ChangesAt g.F.Fn c.args.f.now (c.args.base + k) (get_or xs k c.index-part-k.result) x = c.call_at.ensures in
-    let changed : (j : ℕ) → g.row.T.Denot → g.row.T.Denot → Type 0 = λ j. ChangesAt g.F.Fn c.args.f.now (c.args.base + j) in
-    let was_there : (d : g.row.T.Denot) → get_or xs k c.index-part-k.result ≡ get_or was k d = λ d. get_or_default xs k _ d here ∙ c.loop-k.invariant.1 k d (omega arith) in (
+    let left : ChangesAt g.F.Fn c.args.f.now (c.args.base + k) (get_or xs k c.index-part-k.result) x =
+    c.call_at.ensures in
+    let changed : (j : ℕ) → g.row.T.Denot → g.row.T.Denot → Type 0 =
+    λ j. ChangesAt g.F.Fn c.args.f.now (c.args.base + j) in
+    let was_there : (d : g.row.T.Denot) → get_or xs k c.index-part-k.result ≡ get_or was k d =
+    λ d. get_or_default xs k _ d here ∙ c.loop-k.invariant.1 k d (omega arith) in (
       length-set xs k x ∙ c.loop-k.invariant.0,
       λ j d above. get_or-set_other xs k j x d (λ e. omega arith) ∙ c.loop-k.invariant.1 j d (omega arith),
       λ j d below. below_more (λ i. changed i (get_or was i d) (get_or (set xs k x) i d)) k
-          (λ i less. subst (changed i (get_or was i d)) (sym (get_or-set_other xs k i x d (λ e. omega arith))) (c.loop-k.invariant.2 i d less))
+          (λ i less. subst (changed i (get_or was i d)) (sym (get_or-set_other xs k i x d (λ e. omega arith)))
+          (c.loop-k.invariant.2 i d less))
           (subst (changed k (get_or was k d)) (sym (get_or-set_same xs k x d here))
           (subst (λ u. changed k u x) (was_there d) left))
           j below,

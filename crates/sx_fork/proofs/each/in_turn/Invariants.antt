@@ -8,4 +8,5 @@ abbrev pub invariant-loop-k : goal.invariant-loop-k
 invariant-loop-k g l =
     (length l.part ≡ length l.initial.part)
     × ((j : ℕ) (d : g.row.T.Denot) → l.k ≤ j → get_or l.part j d ≡ get_or l.initial.part j d)
-    × ((j : ℕ) (d : g.row.T.Denot) → j < l.k → ChangesAt g.F.Fn l.f (l.base + j) (get_or l.initial.part j d) (get_or l.part j d))
+    × ((j : ℕ) (d : g.row.T.Denot) → j < l.k
+    → ChangesAt g.F.Fn l.f (l.base + j) (get_or l.initial.part j d) (get_or l.part j d))
