@@ -15,8 +15,9 @@ use Rattle.sx_bytes.proofs.Grammar.{bind_ok}
 use Rattle.sx_bytes.proofs.Ordered.{and_parts}
 use Rattle.sx_bytes.proofs.Parts.{made_is}
 use Rattle.sx_ledger.specs.Body.{tx_before}
+use Rattle.sx_parts.specs.Decoded.{IsListAt}
 use Rattle.sx_tx.specs.declared.tx.Tx.{Tx}
-use Rattle.sx_tx.specs.TransactionDecoding.{IsListAt, list_at, tx_at}
+use Rattle.sx_tx.specs.TransactionDecoding.{list_at, tx_at}
 
 -- n entries that are in order
 ordered_is : {X : Type 0} (entry : Cursor → Result (X × Cursor) FormFault) (precedes : X → X → Bool) (fault : Form)

@@ -16,7 +16,8 @@ use crate::trade_reading::fault_at;
 use std::alloc::Global;
 use std::thread::Threads;
 use sx_bytes::{Form, ReadError, Reader};
-use sx_tx::{Tx, par_read_list};
+use sx_parts::par_read_list;
+use sx_tx::Tx;
 
 // From how many bytes on several threads decode the transactions. To decode them takes a millisecond there, and to start
 // threads a small part of one.

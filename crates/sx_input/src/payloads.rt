@@ -18,10 +18,11 @@ use sx_bytes::{FormFault, ReadError};
 use sx_commit::Proof;
 use sx_layout::{Outcomes, Script, outcome_list_laws, read_outcomes, read_script, script_laws};
 use sx_ledger::Ledger;
+use sx_parts::{par_read_candidates, par_read_candidates_in_parts};
 use sx_proof::{proof_laws, read_proof};
 use sx_record::{Record, tag};
 use sx_state::{par_read_state, state_laws};
-use sx_tx::{TxList, TxParts, list_laws, par_read_candidates, par_read_candidates_in_parts};
+use sx_tx::{TxList, TxParts, list_laws};
 
 // How many threads share the reading of a long payload. They wait for memory more than they calculate, so more of them
 // win little.

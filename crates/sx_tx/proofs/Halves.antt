@@ -1,16 +1,11 @@
--- The transactions of two halves, side by side.
+-- The entries of two halves, side by side.
 use Rattle.std.proofs.Common.{◌≡◌, ℕ, zero, suc, ◌+◌, List, [], ◌∷◌, ◌++◌, length, Result, Ok, refl, sym, ap, subst}
-use Rattle.std.proofs.Common.{◌∙◌, arith}
-use Rattle.std.proofs.lemmas.Bool.{eq-eqb}
-use Rattle.sx_bytes.specs.declared.fault.Form.TheVariants as form
+use Rattle.std.proofs.Common.{arith}
 use Rattle.sx_bytes.specs.declared.fault.FormFault.{FormFault}
-use Rattle.sx_bytes.specs.Cursor.{Cursor, left}
-use Rattle.sx_bytes.specs.Grammar.{◌>>=◌, between, field_at, many_at}
+use Rattle.sx_bytes.specs.Cursor.{Cursor}
+use Rattle.sx_bytes.specs.Grammar.{◌>>=◌, many_at}
 use Rattle.sx_bytes.proofs.Grammar.{bind_ok}
 use Rattle.sx_bytes.proofs.Parts.{made_is}
-use Rattle.sx_tx.specs.declared.tx.Tx.{Tx}
-use Rattle.sx_tx.specs.Transactions.{most_transactions}
-use Rattle.sx_tx.specs.TransactionDecoding.{AreDecoded, IsListAt, candidates_at, list_at, tx_at}
 
 -- n entries, and m more from their end on, are n + m entries
 pub many_joined : {X : Type 0} (entry : Cursor → Result (X × Cursor) FormFault) (n m : ℕ) (c mid end : Cursor)
@@ -20,7 +15,8 @@ unfolding many_at
 many_joined {X} entry zero m c mid end front back e f =
     let sum : 0 + m ≡ m = omega arith in
     let same : ([], c) ≡ (front, mid) = cc in
-    rw sum (subst (λ (y : List X × Cursor). many_at entry m y.1 ≡ Ok (back, end) → many_at entry m c ≡ Ok (y.0 ++ back, end))
+    rw sum (subst
+    (λ (y : List X × Cursor). many_at entry m y.1 ≡ Ok (back, end) → many_at entry m c ≡ Ok (y.0 ++ back, end))
     same (λ h. h) f)
 many_joined {X} entry (suc n) m c mid end front back e f =
     let a = bind_ok (entry c) (λ first. many_at entry n first.1 >>= λ others. Ok (first.0 ∷ others.0, others.1))
@@ -46,37 +42,3 @@ many_length {X} entry (suc n) c next xs e =
     let is = made_is (a.0.0 ∷ b.0.0) xs b.0.1 next b.2 in
     let others : length b.0.0 ≡ n = many_length entry n a.0.1 b.0.1 b.0.0 b.1 in
     subst (λ (ys : List X). length ys ≡ suc n) is.0 (omega (arith, others))
-
--- ---- a whole payload
-
-abbrev at_place : List ℕ → ℕ → Cursor
-at_place bytes place = record { bytes = bytes; place = place }
-
-list_is : (from mid next : Cursor) (count : ℕ) (txs : List Tx)
-    → field_at 4 (between 0 most_transactions) form.TooMany from ≡ Ok (count, mid)
-    → many_at tx_at count mid ≡ Ok (txs, next) → list_at from ≡ Ok (txs, next)
-unfolding list_at
-list_is from mid next count txs read many = rw read many
-
--- the count, and so many transactions after it
-pub listed_is : (payload : List ℕ) (from mid : Cursor) (count n place begin end : ℕ) (txs : List Tx)
-    → from ≡ at_place payload place → field_at 4 (between 0 most_transactions) form.TooMany from ≡ Ok (count, mid)
-    → mid.bytes ≡ from.bytes → begin ≡ mid.place → n ≡ count → AreDecoded payload begin n txs end
-    → IsListAt payload place txs end
-listed_is payload from mid count n place begin end txs from_is read same begin_is n_is decoded =
-    let bytes : payload ≡ mid.bytes = sym (same ∙ ap (λ (c : Cursor). c.bytes) from_is) in
-    let begins : at_place payload begin ≡ mid =
-    ap (λ (xs : List ℕ). at_place xs begin) bytes ∙ ap (λ (p : ℕ). at_place mid.bytes p) begin_is in
-    let all : AreDecoded payload begin count txs end =
-    subst (λ (k : ℕ). AreDecoded payload begin k txs end) n_is decoded in
-    let many : many_at tx_at count mid ≡ Ok (txs, at_place payload end) =
-    subst (λ (c : Cursor). many_at tx_at count c ≡ Ok (txs, at_place payload end)) begins all in
-    subst (λ (c : Cursor). list_at c ≡ Ok (txs, at_place payload end)) from_is
-    (list_is from mid (at_place payload end) count txs read many)
-
-pub ends_whole : (payload : List ℕ) (txs : List Tx) → IsListAt payload 0 txs (length payload)
-    → candidates_at payload ≡ Ok txs
-unfolding candidates_at
-ends_whole payload txs read =
-    let ended : left (at_place payload (length payload)) ≡ 0 = omega arith in
-    rw read (rw (eq-eqb (left (at_place payload (length payload))) 0 ended) refl)

@@ -1,5 +1,5 @@
 -- Decoding a transaction, or a list of them, from left to right, with the first fault.
-use Rattle.std.specs.Prelude.{◌≡◌, ℕ, ◌-◌, ◌^◌, true, List, Result, Ok, Err, ◌==◌, if◌then◌else◌}
+use Rattle.std.specs.Prelude.{ℕ, ◌-◌, ◌^◌, true, List, Result, Ok, Err, ◌==◌, if◌then◌else◌}
 use Rattle.sx_base.specs.Ranges.{most_amount, most_assets, most_seq}
 use Rattle.sx_bytes.specs.declared.fault.Form.TheVariants as form
 use Rattle.sx_bytes.specs.declared.fault.FormFault.{FormFault}
@@ -82,18 +82,8 @@ list_at c = do
   count ← field_at 4 (between 0 most_transactions) form.TooMany c
   many_at tx_at count.0 count.1
 
--- the list from a place of the bytes on has these transactions, and ends at another place
-abbrev pub IsListAt : List ℕ → ℕ → List Tx → ℕ → Type 0
-IsListAt bytes place txs end =
-    list_at (record { bytes = bytes; place = place }) ≡ Ok (txs, record { bytes = bytes; place = end })
-
 -- a whole payload, from its first byte
 unfoldable pub candidates_at : List ℕ → Result (List Tx) FormFault
 candidates_at bytes = do
   txs ← list_at (record { bytes = bytes; place = 0 })
   if left txs.1 == 0 then Ok txs.0 else Err (record { at = txs.1.place; fault = form.Rest })
-
--- so many transactions from a place of the bytes on are these, and end at another place
-abbrev pub AreDecoded : List ℕ → ℕ → ℕ → List Tx → ℕ → Type 0
-AreDecoded bytes place count txs end =
-    many_at tx_at count (record { bytes = bytes; place = place }) ≡ Ok (txs, record { bytes = bytes; place = end })

@@ -6,9 +6,8 @@
 //! encoding, and else the first fault from left to right, with the reader back where it was.
 //! [`read_id`], [`read_seq`], [`read_asset`], [`read_amount`] and [`read_limit`] do the same for one
 //! field. [`read_candidates`] reads a whole payload of candidates: a count and that many
-//! transactions, in any order and with repeats; [`par_read_candidates`] does so by several threads,
-//! [`par_read_candidates_in_parts`] by threads each of which has a vector of its own, and [`par_read_list`] reads
-//! such a list from a place of a payload on.
+//! transactions, in any order and with repeats. [`decode_tx`] does what [`read_tx`] does in a list, where a reader
+//! that was refused is read no further.
 //! [`write_tx`] and [`write_candidates`] append the encoding, or nothing where memory runs out.
 //! [`tx_laws`] and [`list_laws`] say that decoding inverts encoding, that no two values share an
 //! encoding, and that none is a prefix of another.
@@ -18,16 +17,14 @@
 //! among these. [`Window::next`] is the window after a block, and [`window_laws`] says in the words
 //! of used numbers what it is.
 //!
-//! Not here: whether an account, an asset or an offer is there, and what a transaction does.
+//! Not here: whether an account, an asset or an offer is there, what a transaction does (`sx_ledger`), and decoding by
+//! several threads (`sx_parts`).
 #![tactic(auto)]
 
 mod fields;
-mod guess;
 mod kind;
 mod laws;
-mod parts_reading;
 mod reading;
-mod reading_in_parts;
 mod tx;
 mod tx_list;
 mod window;
@@ -36,9 +33,7 @@ mod writing;
 pub use fields::{read_amount, read_asset, read_id, read_limit, read_seq};
 pub use kind::Kind;
 pub use laws::{list_laws, tx_laws, window_laws};
-pub use parts_reading::par_read_candidates_in_parts;
-pub use reading::{read_candidates, read_tx};
-pub use reading_in_parts::{par_read_candidates, par_read_list};
+pub use reading::{decode_tx, read_candidates, read_tx};
 pub use tx::Tx;
 pub use tx_list::{MOST_TRANSACTIONS, TxList, TxParts};
 pub use window::{Window, WindowFault};

@@ -105,10 +105,10 @@ fn kind(from: &mut Reader) -> Result<Kind, FormFault>
     }
 }
 
-// A transaction. Where it refuses, the reader may stand anywhere after its old place.
+/// The transaction at the place, as [`read_tx`] answers it. A refusal may leave the reader anywhere after its old place.
 #[inline]
 #[tactic(auto, unfolding(crate::specs::TransactionDecoding::tx_at))]
-pub(crate) fn tx(from: &mut Reader) -> Result<Tx, FormFault>
+pub fn decode_tx(from: &mut Reader) -> Result<Tx, FormFault>
     ensures exact { DecodesOrStrays (λ x. x) (tx_at from.old) from.new result }
     ensures same { from.new.bytes ≡ from.old.bytes }
     ensures onward { from.old.place ≤ from.new.place }
@@ -128,7 +128,7 @@ pub fn read_tx(from: &mut Reader) -> Result<Tx, FormFault>
     ensures { Decodes (λ x. x) (tx_at from.old) from.old from.new result }
 {
     let place = from.place();
-    let read = tx(from);
+    let read = decode_tx(from);
     if read.is_err() {
         from.back(place);
     }
@@ -143,7 +143,7 @@ fn txs(alloc: Global, from: &mut Reader, count: u32) -> Result<TxList, ReadError
     let mut txs = Vec::with_capacity(alloc, room.min(count as usize))?;
     for _ in 0..count {
         // Taken apart, since the check knows how to move a kind only where one is named.
-        let Tx { account, seq, kind } = tx(from)?;
+        let Tx { account, seq, kind } = decode_tx(from)?;
         txs.push(Tx { account, seq, kind })?;
     }
     Ok(TxList::of(txs))

@@ -15,7 +15,7 @@ returns-in_err-account c =
 pub loop-preserved : goal.loop-preserved
 loop-preserved c =
     rw c.in_ok-push.ensures.items (goes_on tx_at c.loop.txs.items c.args.count c.loop.counter c.loop.from
-    c.in_ok-account.field-0 c.tx.new.from (many_at tx_at c.args.count c.args.from.now) c.loop-test.true
+    c.in_ok-account.field-0 c.decode_tx.new.from (many_at tx_at c.args.count c.args.from.now) c.loop-test.true
     c.in_ok-account.ensures.exact c.loop.invariant)
 
 pub returns : goal.returns

@@ -3,9 +3,10 @@ use Rattle.std.specs.Prelude.{IfOk}
 use Rattle.std.proofs.lemmas.List.{length-append}
 use Rattle.std.proofs.lemmas.Result.{IfOk-weaker}
 use Rattle.sx_bytes.specs.declared.fault.FormFault.{FormFault}
-use Rattle.sx_tx.specs.TransactionDecoding.{AreDecoded, tx_at}
+use Rattle.sx_parts.specs.Decoded.{AreDecoded}
+use Rattle.sx_tx.specs.TransactionDecoding.{tx_at}
 use Rattle.sx_tx.proofs.Halves.{many_joined}
-use Rattle.sx_tx.proofs.reading_in_parts.+fill_by+fn-fill_by-fork_mut+arg4.Goals as goal
+use Rattle.sx_parts.proofs.reading_in_parts.+fill_by+fn-fill_by-fork_mut+arg4.Goals as goal
 
 pub returns : goal.returns
 returns g t c =

@@ -7,18 +7,17 @@ ghost use Rattle.std.specs.Prelude.{◌≡◌, ◌*◌, ◌-◌, ◌≤◌, List
 ghost use Rattle.std.specs.List.{flat_map};
 ghost use Rattle.std.specs.Thread.{IsSync};
 ghost use Rattle.sx_bytes.specs.Grammar.{Gives};
+ghost use Rattle.sx_parts.specs.Decoded.{AreDecoded};
 ghost use Rattle.sx_tx.specs.declared.tx.Tx.{Tx as Transaction};
 ghost use Rattle.sx_tx.specs.Transactions.{list_bytes, IsTxList};
-ghost use Rattle.sx_tx.specs.TransactionDecoding.{AreDecoded, candidates_at};
+ghost use Rattle.sx_tx.specs.TransactionDecoding.{candidates_at};
 
 use crate::guess::{end_of, fault_at, length_of_each, threads_for};
-use crate::reading::{read_candidates, tx};
-use crate::tx::Tx;
-use crate::tx_list::{MOST_TRANSACTIONS, TxList, TxParts};
 use std::alloc::Global;
 use std::thread::Threads;
 use sx_bytes::{Form, NoMemory, ReadError, Reader};
 use sx_fork::fork_mut;
+use sx_tx::{MOST_TRANSACTIONS, Tx, TxList, TxParts, decode_tx, read_candidates};
 
 // A list of one part.
 fn one_part(alloc: Global, txs: TxList) -> Result<Vec<TxList>, NoMemory>
@@ -42,7 +41,7 @@ fn part(
     let mut txs = Vec::with_capacity(alloc, count)?;
     for _ in 0..count {
         // Taken apart, since the check knows how to move a kind only where one is named.
-        let Tx { account, seq, kind } = tx(&mut from)?;
+        let Tx { account, seq, kind } = decode_tx(&mut from)?;
         txs.push(Tx { account, seq, kind })?;
     }
     Ok((TxList::of(txs), from.place()))
@@ -85,11 +84,13 @@ fn parts_by<R: Threads + Sync>(
         rt,
         others < 2,
         &mut || -> Result<(Vec<TxList>, usize), ReadError>
-            ensures { IfOk result (λ read. AreDecoded payload.entry.now place share (flat_map (λ list. list) read.0.items) read.1) }
+            ensures { IfOk result (λ read.
+                AreDecoded payload.entry.now place share (flat_map (λ list. list) read.0.items) read.1) }
         { first_part(alloc, payload, place, share) },
         &mut || -> Result<(Vec<TxList>, usize), ReadError>
             requires { IsSync R.row × (1 ≤ others) }
-            ensures { IfOk result (λ read. AreDecoded payload.entry.now middle rest (flat_map (λ list. list) read.0.items) read.1) }
+            ensures { IfOk result (λ read.
+                AreDecoded payload.entry.now middle rest (flat_map (λ list. list) read.0.items) read.1) }
         { parts_by(rt, alloc, payload, middle, rest, others, each) },
     );
     let (mut parts, front_end) = one?;
@@ -118,7 +119,7 @@ fn whole<R: Threads + Sync>(
     if from.left() / Tx::LEAST_BYTES < count {
         return Err(ReadError::Form(fault_at(begin, Form::Short)));
     }
-    tx(&mut from)?;
+    decode_tx(&mut from)?;
     let each = length_of_each(payload.len() - begin, count, from.place() - begin);
     let (parts, end) = parts_by(rt, alloc, payload, begin, count, threads, each)?;
     if end != payload.len() {

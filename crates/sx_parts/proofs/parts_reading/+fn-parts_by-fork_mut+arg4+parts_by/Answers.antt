@@ -3,10 +3,11 @@ use Rattle.std.specs.Prelude.{IfOk}
 use Rattle.std.specs.List.{flat_map}
 use Rattle.std.proofs.lemmas.Grind.{flat_map-append}
 use Rattle.std.proofs.lemmas.Result.{IfOk-at_ok}
+use Rattle.sx_parts.specs.Decoded.{AreDecoded}
 use Rattle.sx_tx.specs.declared.tx.Tx.{Tx}
-use Rattle.sx_tx.specs.TransactionDecoding.{AreDecoded, tx_at}
+use Rattle.sx_tx.specs.TransactionDecoding.{tx_at}
 use Rattle.sx_tx.proofs.Halves.{many_joined}
-use Rattle.sx_tx.proofs.parts_reading.+fn-parts_by-fork_mut+arg4+parts_by.Goals as goal
+use Rattle.sx_parts.proofs.parts_reading.+fn-parts_by-fork_mut+arg4+parts_by.Goals as goal
 
 -- the transactions of parts, one part after the other
 abbrev all : List (List Tx) → List Tx

@@ -1,7 +1,7 @@
 use Rattle.std.proofs.Common.{subst}
-use Rattle.sx_tx.specs.TransactionDecoding.{IsListAt}
-use Rattle.sx_tx.proofs.Halves.{ends_whole}
-use Rattle.sx_tx.proofs.reading_in_parts.whole.Goals as goal
+use Rattle.sx_parts.specs.Decoded.{IsListAt}
+use Rattle.sx_parts.proofs.WholeLists.{ends_whole}
+use Rattle.sx_parts.proofs.reading_in_parts.whole.Goals as goal
 
 pub returns : goal.returns
 returns g c =

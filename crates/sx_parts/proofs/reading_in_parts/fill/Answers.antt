@@ -4,7 +4,7 @@ use Rattle.sx_bytes.specs.Grammar.{many_at}
 use Rattle.sx_bytes.proofs.ListReading.{goes_on, is_done}
 use Rattle.sx_tx.specs.declared.tx.Tx.{Tx}
 use Rattle.sx_tx.specs.TransactionDecoding.{tx_at}
-use Rattle.sx_tx.proofs.reading_in_parts.fill.Goals as goal
+use Rattle.sx_parts.proofs.reading_in_parts.fill.Goals as goal
 
 pub loop-slot-preserved : goal.loop-slot-preserved
 loop-slot-preserved c =
@@ -18,7 +18,7 @@ loop-slot-preserved c =
       one_each = length-set c.loop-slot.txs slot tx ∙ inv.one_each;
       same = c.in_ok-account.ensures.same ∙ inv.same;
       all = rw (take_more_set c.loop-slot.txs slot tx within) (goes_on tx_at (take slot c.loop-slot.txs) n slot
-          c.loop-slot.from tx c.tx.new.from
+          c.loop-slot.from tx c.decode_tx.new.from
           (many_at tx_at n (record { bytes = c.args.payload.now; place = c.args.place })) lt
           c.in_ok-account.ensures.exact inv.all);
     }

@@ -1,5 +1,5 @@
 use Rattle.std.proofs.Common.{◌+◌, ◌*◌}
-use Rattle.sx_tx.proofs.reading_in_parts.+fill_by+fn-fill_by-fork_mut+arg4.Given as goal
+use Rattle.sx_parts.proofs.reading_in_parts.+fill_by+fn-fill_by-fork_mut+arg4.Given as goal
 
 -- each call leaves the rest to one thread less
 abbrev pub decreases-fill_by : goal.decreases-fill_by

@@ -1,5 +1,5 @@
 use Rattle.std.proofs.Common.{◌+◌, ◌*◌}
-use Rattle.sx_tx.proofs.parts_reading.+fn-parts_by-fork_mut+arg4+parts_by.Given as goal
+use Rattle.sx_parts.proofs.parts_reading.+fn-parts_by-fork_mut+arg4+parts_by.Given as goal
 
 -- each call leaves the rest to one thread less
 abbrev pub decreases-parts_by : goal.decreases-parts_by

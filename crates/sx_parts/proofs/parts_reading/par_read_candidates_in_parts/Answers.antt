@@ -1,7 +1,7 @@
 use Rattle.std.proofs.Common.{sym, ap, ◌∙◌, arith}
 use Rattle.sx_tx.specs.TransactionDecoding.{candidates_at}
 use Rattle.sx_tx.proofs.ListLaws.{candidates_again, candidates_take, found_in, only_in}
-use Rattle.sx_tx.proofs.parts_reading.par_read_candidates_in_parts.Goals as goal
+use Rattle.sx_parts.proofs.parts_reading.par_read_candidates_in_parts.Goals as goal
 
 pub returns-in-Ok-clause-found : goal.returns-in-Ok-clause-found
 returns-in-Ok-clause-found g c =

@@ -1,25 +1,24 @@
 //! Decoding a long list of transactions by several threads.
 //!
-//! A thread decodes a first part of the transactions into its part of one vector, and so many more threads the rest, in the
-//! same way. Where the rest seems to begin is a guess. Where the first part is decoded whole and ends at that place, both
-//! side by side are what the payload says. Where anything is amiss, one thread decodes the payload from its first byte, and
-//! so finds the first fault.
+//! A thread decodes a first part of the transactions into its part of one vector, and so many more threads the rest, in
+//! the same way. Where the rest seems to begin is a guess. Where the first part is decoded whole and ends at that place,
+//! both side by side are what the payload says. Where anything is amiss, one thread decodes the payload from its first
+//! byte, and so finds the first fault.
 
 ghost use Rattle.std.specs.Prelude.{◌≡◌, ◌*◌, ◌≤◌, List, length, IfOk, Ok};
 ghost use Rattle.std.specs.Thread.{IsSync};
 ghost use Rattle.sx_bytes.specs.Grammar.{Gives};
+ghost use Rattle.sx_parts.specs.Decoded.{AreDecoded, IsListAt};
 ghost use Rattle.sx_tx.specs.declared.tx.Tx.{Tx as Transaction};
 ghost use Rattle.sx_tx.specs.Transactions.{list_bytes, IsTxList};
-ghost use Rattle.sx_tx.specs.TransactionDecoding.{AreDecoded, IsListAt, candidates_at};
+ghost use Rattle.sx_tx.specs.TransactionDecoding.{candidates_at};
 
 use crate::guess::{end_of, fault_at, length_of_each, threads_for};
-use crate::reading::{read_candidates, tx};
-use crate::tx::Tx;
-use crate::tx_list::{MOST_TRANSACTIONS, TxList};
 use std::alloc::Global;
 use std::thread::Threads;
 use sx_bytes::{Form, FormFault, ReadError, Reader};
 use sx_fork::fork_mut;
+use sx_tx::{MOST_TRANSACTIONS, Tx, TxList, decode_tx, read_candidates};
 
 // Decodes the transactions from a place on, one into each slot, and answers where they end.
 fn fill(payload: &[u8], place: usize, txs: &mut [Tx]) -> Result<usize, FormFault>
@@ -28,7 +27,7 @@ fn fill(payload: &[u8], place: usize, txs: &mut [Tx]) -> Result<usize, FormFault
     let mut from = Reader::at(payload, place)?;
     for slot in 0..txs.len() {
         // Taken apart, since the check knows how to move a kind only where one is named.
-        let Tx { account, seq, kind } = tx(&mut from)?;
+        let Tx { account, seq, kind } = decode_tx(&mut from)?;
         txs[slot] = Tx { account, seq, kind };
     }
     Ok(from.place())
@@ -57,11 +56,13 @@ fn fill_by<R: Threads + Sync>(
         rt,
         others < 2,
         &mut || -> Result<usize, FormFault>
-            ensures { IfOk result (λ end. AreDecoded payload.entry.now place (length front.entry.now) front.exit.now end) }
+            ensures { IfOk result (λ end.
+                AreDecoded payload.entry.now place (length front.entry.now) front.exit.now end) }
         { fill(payload, place, front) },
         &mut || -> Result<usize, FormFault>
             requires { IsSync R.row × (1 ≤ others) }
-            ensures { IfOk result (λ end. AreDecoded payload.entry.now middle (length back.entry.now) back.exit.now end) }
+            ensures { IfOk result (λ end.
+                AreDecoded payload.entry.now middle (length back.entry.now) back.exit.now end) }
         { fill_by(rt, payload, middle, others, each, back) },
     );
     if one? != middle {
@@ -89,7 +90,7 @@ fn listed<R: Threads + Sync>(
         return Err(ReadError::Form(fault_at(begin, Form::Short)));
     }
     // A slot has some transaction before its own is decoded: the first one serves.
-    let first = tx(&mut from)?;
+    let first = decode_tx(&mut from)?;
     let each = length_of_each(payload.len() - begin, count as usize, from.place() - begin);
     let mut txs = vec![in alloc; first; count as usize]?;
     let end = fill_by(rt, payload, begin, threads, each, &mut txs)?;

@@ -1,7 +1,7 @@
 use Rattle.std.proofs.Common.{sym, ap, ◌∙◌, arith}
 use Rattle.sx_tx.specs.TransactionDecoding.{candidates_at}
 use Rattle.sx_tx.proofs.ListLaws.{candidates_again, candidates_take}
-use Rattle.sx_tx.proofs.reading_in_parts.par_read_candidates.Goals as goal
+use Rattle.sx_parts.proofs.reading_in_parts.par_read_candidates.Goals as goal
 
 pub returns-in-Ok-clause-found : goal.returns-in-Ok-clause-found
 returns-in-Ok-clause-found g c =

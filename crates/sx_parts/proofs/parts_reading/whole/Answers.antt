@@ -1,9 +1,9 @@
 use Rattle.std.proofs.Common.{List, subst, refl}
 use Rattle.std.specs.List.{flat_map}
+use Rattle.sx_parts.specs.Decoded.{IsListAt}
+use Rattle.sx_parts.proofs.WholeLists.{ends_whole, listed_is}
 use Rattle.sx_tx.specs.declared.tx.Tx.{Tx}
-use Rattle.sx_tx.specs.TransactionDecoding.{IsListAt}
-use Rattle.sx_tx.proofs.Halves.{ends_whole, listed_is}
-use Rattle.sx_tx.proofs.parts_reading.whole.Goals as goal
+use Rattle.sx_parts.proofs.parts_reading.whole.Goals as goal
 
 pub returns : goal.returns
 returns g c =

@@ -1,8 +1,10 @@
 use Rattle.std.proofs.Common.{◌≡◌, length, ◌∙◌, arith}
 use Rattle.std.proofs.lemmas.List.{with_items_is}
-use Rattle.sx_tx.specs.TransactionDecoding.{AreDecoded, tx_at}
-use Rattle.sx_tx.proofs.Halves.{many_length, listed_is}
-use Rattle.sx_tx.proofs.reading_in_parts.listed.Goals as goal
+use Rattle.sx_parts.specs.Decoded.{AreDecoded}
+use Rattle.sx_parts.proofs.WholeLists.{listed_is}
+use Rattle.sx_tx.specs.TransactionDecoding.{tx_at}
+use Rattle.sx_tx.proofs.Halves.{many_length}
+use Rattle.sx_parts.proofs.reading_in_parts.listed.Goals as goal
 
 pub returns : goal.returns
 returns g c =
@@ -21,4 +23,5 @@ returns g c =
     let items : c.of.result ≡ txs =
     c.of.ensures ∙ with_items_is c.in_ok-txs.txs txs (omega (arith, one_each, c.deref_mut.ensures.len)) in
     rw items (listed_is payload c.in_ok-from.from c.field_u32.new.self count slots c.args.place begin end txs
-    c.in_ok-from.ensures.reader c.in_ok-count.ensures.exact c.in_ok-count.ensures.same c.place-begin.ensures.place made decoded)
+    c.in_ok-from.ensures.reader c.in_ok-count.ensures.exact c.in_ok-count.ensures.same c.place-begin.ensures.place made
+    decoded)

@@ -2,7 +2,7 @@ use Rattle.std.proofs.Common.{◌≡◌, ◌-◌}
 use Rattle.sx_bytes.specs.Grammar.{many_at}
 use Rattle.sx_bytes.proofs.ListReading.{with_front}
 use Rattle.sx_tx.specs.TransactionDecoding.{tx_at}
-use Rattle.sx_tx.proofs.parts_reading.part.Given as goal
+use Rattle.sx_parts.proofs.parts_reading.part.Given as goal
 
 -- those decoded so far and those still to be decoded are all of them
 abbrev pub invariant-loop : goal.invariant-loop
