@@ -5,7 +5,6 @@ use Rattle.std.specs.Prelude.{slice_get}
 use Rattle.std.specs.List.{AllByRecursion}
 use Rattle.std.proofs.lemmas.Bool.{cases_Bool, and_parts, eqb-true}
 use Rattle.std.proofs.lemmas.Option.{none-some, same_Some}
-use Rattle.sx_block.proofs.PairFills.{in_pair}
 use Rattle.std.proofs.lemmas.List.{length-append}
 use Rattle.std.proofs.lemmas.List.Elements.{filter-append}
 use Rattle.sx_apply.proofs.Pairs.{none_kept, of_itself, of_pair}
@@ -13,6 +12,7 @@ use Rattle.sx_fill.specs.AllFills.{fill_of}
 use Rattle.sx_fill.specs.PairFills.{pair_fill, trading}
 use Rattle.sx_fill.proofs.PairValues.{theirs}
 use Rattle.sx_fill.proofs.Trading.{trading-append, trading-same}
+use Rattle.sx_laws.proofs.PairFills.{in_pair}
 use Rattle.sx_ledger.specs.declared.fill.Fill.{Fill}
 use Rattle.sx_ledger.specs.declared.offer.Offer.{Offer}
 use Rattle.sx_ledger.specs.Bounds.{pair_of, price_of}

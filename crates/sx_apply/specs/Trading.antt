@@ -2,7 +2,7 @@
 use Rattle.std.specs.Prelude.{◌≡◌, ℕ, ◌+◌, ◌*◌, ◌<◌, ◌≤◌, List, length, None, is_some}
 use Rattle.std.specs.List.{All, Contains}
 use Rattle.sx_block.specs.declared.header.Header.{Header}
-use Rattle.sx_block.specs.EffectLaws.{IsRounded, IsTradable}
+use Rattle.sx_block.specs.Effects.{IsRounded, IsTradable}
 use Rattle.sx_dual.specs.Fit.{Fits}
 use Rattle.sx_dual.specs.Tables.{potential_of, value_of as flow_of}
 use Rattle.sx_fill.specs.AllFills.{all_fills}

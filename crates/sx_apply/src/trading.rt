@@ -3,7 +3,7 @@
 ghost use Rattle.std.specs.Prelude.{◌≡◌, ℕ, ◌+◌, ◌^◌, ◌<◌, IfOk, length, slice_index};
 ghost use Rattle.sx_apply.specs.Paying.{CanSettle, with_sellers_paid};
 ghost use Rattle.sx_apply.specs.Trading.{CanExecute, Clears, GetsItsValue, GivesItsValue, TradesInFull, TradesWithinLimits};
-ghost use Rattle.sx_block.specs.EffectLaws.{circulating};
+ghost use Rattle.sx_block.specs.Effects.{circulating};
 ghost use Rattle.sx_dual.specs.Tables.{value_of};
 ghost use Rattle.sx_fill.specs.AllFills.{all_fills};
 ghost use Rattle.sx_ledger.specs.declared.parts.Parts.{Parts as Ledgers};

@@ -7,17 +7,7 @@ pub mod BlockLaws
 pub mod Lengths
 pub mod LongestBlock
 pub mod BlockFaults
-pub mod ListSums
-pub mod PairFills
-pub mod FillLaws
-pub mod LimitLaws
-pub mod TradeTotals
-pub mod TradeKeeps
-pub mod Rules
-pub mod InPart
 pub mod InParts
-pub mod ValidBlocks
 pub mod Cases
 pub mod FaultCases
-pub mod ValidCase
 pub mod InPieces

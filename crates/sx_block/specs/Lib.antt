@@ -7,6 +7,5 @@ pub mod Block
 pub mod Laws
 pub mod Rule
 pub mod Validity
-pub mod EffectLaws
-pub mod ValidityLaws
+pub mod Effects
 pub mod Hashing

@@ -95,10 +95,10 @@ fn write_and_hash<R: Threads>(
     Ok(hasher)
 }
 
-/// The encoding of a list of transactions, their number included, and its digest. It is written over `spare`, whose bytes
-/// are lost: where that holds memory for it, none is taken. Where there are more than 65,536 transactions, threads hash
-/// what is written while this one writes on, one after the other, and the call waits for each of them. Where no thread can
-/// be started, it hashes as well.
+/// The encoding of a list of transactions, their number included, and its digest. It is written over `spare`, whose
+/// bytes are lost: where that holds memory for it, none is taken. More than 65,536 transactions are written in pieces:
+/// one thread hashes a piece while another one writes the next, and the call only waits for both. Where no thread can
+/// be started, it does the work of both itself.
 pub fn par_written_body<R: Threads>(
     rt: &R,
     alloc: Global,

@@ -33,10 +33,10 @@ fn written_offers(alloc: Global, ledger: &Ledger) -> Result<Writer, NoMemory>
     Ok(written)
 }
 
-/// The digest of a ledger, as [`ledger_digest`] answers it. Where there are 32,768 offers or more, a thread of its own
-/// encodes all of them while this one hashes the accounts, and so the call takes memory for the encoding, 34 bytes an
-/// offer. It returns only after that thread has. Where no thread can be started, the accounts are hashed and then the
-/// offers encoded. `NoMemory` is the only error.
+/// The digest of a ledger, as [`ledger_digest`] answers it. Where there are 32,768 offers or more, one thread encodes
+/// all of them while another one hashes the accounts, and so the call takes memory for the encoding, 34 bytes an offer.
+/// It only waits for both. Where no thread can be started, it does the work of both itself, one after the other.
+/// `NoMemory` is the only error.
 pub fn par_ledger_digest<R: Threads>(
     rt: &R,
     alloc: Global,

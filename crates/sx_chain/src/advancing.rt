@@ -14,11 +14,11 @@ ghost use Rattle.sx_tx.specs.Transactions.{list_bytes};
 use crate::leaving::left_of;
 use std::alloc::Global;
 use std::thread::Threads;
-use sx_block::validity_laws;
 use sx_check::{
     CheckFault, Checked, Judged, check_laws, close, first_reason, judge_applicable, named,
 };
 use sx_input::{Head, Incoming, StateDigest};
+use sx_laws::validity_laws;
 use sx_spread::apply_spread;
 
 // Where the chain stands after a block, and what is told of the block.

@@ -14,9 +14,6 @@ use Rattle.sx_block.specs.Rule as rule
 use Rattle.sx_block.specs.Validity.{CutHolds, Holds, HoldsBefore, HoldsButParent, IsApplicable, IsValid, Rounds}
 use Rattle.sx_block.specs.Validity.{digest_of_ledger, flow_of_block, high_in, ledger_after, low_in, offers_of}
 use Rattle.sx_block.specs.Validity.{undropped_low_in}
-use Rattle.sx_block.proofs.FillLaws.{rounding_never_negative}
-use Rattle.sx_block.proofs.Rules.{applicable_is_sound, body_is_admissible, one_more_but, past_parent, rules_trade}
-use Rattle.sx_block.proofs.Rules.{sound_is_valid, with_parent}
 use Rattle.sx_body.specs.Overdraft.{IsFirstOverdrawn}
 use Rattle.sx_body.specs.Refusal.{IsFirstRefused}
 use Rattle.sx_body.specs.Repeats.{IsFirstRepeat, Repeats, cancels, creates, done_at}
@@ -38,6 +35,9 @@ use Rattle.sx_dual.specs.Cuts.{sum_in, sum_out}
 use Rattle.sx_dual.specs.Circulation.{IsBalanced, IsWithin, bought, sold}
 use Rattle.sx_dual.specs.Fit.{IsTight, gain_of}
 use Rattle.sx_dual.specs.Tables.{potential_of}
+use Rattle.sx_laws.proofs.FillLaws.{rounding_never_negative}
+use Rattle.sx_laws.proofs.Rules.{applicable_is_sound, body_is_admissible, one_more_but, past_parent, rules_trade}
+use Rattle.sx_laws.proofs.Rules.{sound_is_valid, with_parent}
 use Rattle.sx_ledger.specs.declared.key.Key.{Key}
 use Rattle.sx_ledger.specs.declared.parts.Parts.{Parts}
 use Rattle.sx_ledger.specs.declared.statics.Static.{Static}

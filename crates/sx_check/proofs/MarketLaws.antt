@@ -5,8 +5,6 @@ use Rattle.sx_apply.specs.Bounds.{HasBounds}
 use Rattle.sx_block.specs.declared.header.Block.{Block}
 use Rattle.sx_block.specs.Rule as rule
 use Rattle.sx_block.specs.Validity.{CutHolds, HoldsButParent, high_in, low_in, offers_of, undropped_low_in}
-use Rattle.sx_block.specs.ValidityLaws.{BlockFits}
-use Rattle.sx_block.proofs.Rules.{one_more_but}
 use Rattle.sx_check.specs.Invalid.{reason_of}
 use Rattle.sx_check.specs.Refusals.{IsBlockMisfit, RefusesButParent}
 use Rattle.sx_dual.specs.declared.cut.Cut.{Cut}
@@ -14,6 +12,8 @@ use Rattle.sx_dual.specs.declared.misfit.Misfit.{Misfit}
 use Rattle.sx_dual.specs.declared.misfit.Misfit.TheVariants.{Outside, Unbalanced, Slack}
 use Rattle.sx_dual.specs.Cuts.{IsCut}
 use Rattle.sx_dual.specs.Tables.{BoundsTable}
+use Rattle.sx_laws.specs.ValidityLaws.{BlockFits}
+use Rattle.sx_laws.proofs.Rules.{one_more_but}
 use Rattle.sx_ledger.specs.declared.parts.Parts.{Parts}
 use Rattle.sx_ledger.specs.Bounds.{low_of as low_at}
 use Rattle.sx_ledger.specs.Ledger.{assets_of}

@@ -5,7 +5,6 @@ use Rattle.sx_block.specs.declared.header.Block.{Block}
 use Rattle.sx_block.specs.Rule.{rank}
 use Rattle.sx_block.specs.Rule as rule
 use Rattle.sx_block.specs.Validity.{CutHolds, Holds, high_in, undropped_low_in}
-use Rattle.sx_block.proofs.Rules.{up_to_parent}
 use Rattle.sx_body.proofs.Refusals.{none_refused}
 use Rattle.sx_check.specs.declared.invalid.Invalid.{Invalid}
 use Rattle.sx_check.specs.declared.invalid.Invalid.TheVariants.{Ended, WrongHeight, WrongParent, WrongBody}
@@ -17,6 +16,7 @@ use Rattle.sx_check.specs.Refusals.{Breaks, IsCrowded, Refuses, rule_of}
 use Rattle.sx_check.proofs.RepeatLaws.{cancels_refuted, creates_refuted}
 use Rattle.sx_check.proofs.SameReason.{same_rule}
 use Rattle.sx_dual.specs.declared.cut.Cut.{Cut}
+use Rattle.sx_laws.proofs.Rules.{up_to_parent}
 use Rattle.sx_ledger.specs.declared.parts.Parts.{Parts}
 use Rattle.sx_ledger.specs.Ledger.{assets_of}
 

@@ -8,8 +8,6 @@ use Rattle.sx_block.specs.declared.header.Block.{Block}
 use Rattle.sx_block.specs.Rule.{rank}
 use Rattle.sx_block.specs.Rule as rule
 use Rattle.sx_block.specs.Validity.{Holds, HoldsBefore, HoldsButParent, digest_of_ledger}
-use Rattle.sx_block.proofs.Rules.{applicable_is_sound, but_parent, none_before, one_more, one_more_but, up_to_parent}
-use Rattle.sx_block.proofs.Rules.{with_parent}
 use Rattle.sx_body.specs.Overdraft.{NoneOverdrawn}
 use Rattle.sx_body.specs.Refusal.{IsFirstRefused}
 use Rattle.sx_body.specs.Repeats.{IsFirstRepeat, cancels, creates}
@@ -25,6 +23,8 @@ use Rattle.sx_check.specs.Checked.{CanBeApplied, IsJudged, IsWrongParent}
 use Rattle.sx_check.specs.Invalid.{number_of}
 use Rattle.sx_check.specs.Refusals.{ExplainsButParent, ExplainsEarly, IsCrowded, RefusesButParent, RefusesEarly}
 use Rattle.sx_check.specs.Refusals.{rule_of}
+use Rattle.sx_laws.proofs.Rules.{applicable_is_sound, but_parent, none_before, one_more, one_more_but, up_to_parent}
+use Rattle.sx_laws.proofs.Rules.{with_parent}
 use Rattle.sx_ledger.specs.declared.parts.Parts.{Parts}
 use Rattle.sx_ledger.specs.declared.statics.Static.{Static}
 use Rattle.sx_ledger.specs.Body.{cancelled, created}

@@ -1,7 +1,7 @@
 -- The terms at which a body trades.
 use Rattle.std.specs.Prelude.{◌≡◌, List, length}
 use Rattle.std.specs.List.{All}
-use Rattle.sx_block.specs.EffectLaws.{IsRounded}
+use Rattle.sx_block.specs.Effects.{IsRounded}
 use Rattle.sx_block.specs.Validity.{digest_of_ledger}
 use Rattle.sx_clear.specs.declared.heading.Terms.{Terms}
 use Rattle.sx_clear.specs.Traded.{IsTradeAt}

@@ -1,6 +1,6 @@
 -- What a body trades at given prices.
 use Rattle.std.specs.Prelude.{◌≡◌, ℕ, ◌+◌, ◌*◌, ◌≤◌, List}
-use Rattle.sx_block.specs.EffectLaws.{IsRounded}
+use Rattle.sx_block.specs.Effects.{IsRounded}
 use Rattle.sx_discovery.specs.declared.body.Body.{Body}
 use Rattle.sx_clear.specs.declared.clearing.Trading.{Trading}
 use Rattle.sx_discovery.specs.Found.{CanLeave}

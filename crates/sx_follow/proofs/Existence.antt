@@ -6,13 +6,13 @@ use Rattle.std.specs.List.{All}
 use Rattle.std.proofs.lemmas.List.Elements.{All-append, All-cons, All-nil, All-tail}
 use Rattle.sx_block.specs.declared.header.Block.{Block}
 use Rattle.sx_block.specs.Block.{IsBlock}
-use Rattle.sx_block.specs.EffectLaws.{BlockKeepsLedger}
 use Rattle.sx_block.specs.Rule as rule
 use Rattle.sx_block.specs.Validity.{IsValid, ledger_after}
 use Rattle.sx_check.specs.Laws.{EveryBlockIsJudged, ValidIsNotRefused}
 use Rattle.sx_follow.specs.Chain.{AreValid, IsChain, IsNext, NoneIsValid}
 use Rattle.sx_follow.specs.Laws.{EveryListHasChain, SomeChain, ValidAreChain}
 use Rattle.sx_follow.proofs.Chains.{first_next, next_after, next_behind}
+use Rattle.sx_laws.specs.EffectLaws.{BlockKeepsLedger}
 use Rattle.sx_ledger.specs.declared.parts.Parts.{Parts}
 use Rattle.sx_ledger.specs.Ledger.{IsLedger, most_height}
 

@@ -6,10 +6,10 @@ use Rattle.std.proofs.lemmas.List.{append-nil, take-append-le}
 use Rattle.std.proofs.lemmas.List.Elements.{All-append, All-cons, All-nil}
 use Rattle.sx_block.specs.declared.header.Block.{Block}
 use Rattle.sx_block.specs.Block.{IsBlock}
-use Rattle.sx_block.specs.EffectLaws.{BlockKeepsLedger}
 use Rattle.sx_block.specs.Validity.{IsValid, digest_of_ledger, ledger_after}
 use Rattle.sx_check.specs.Laws.{EveryBlockIsJudged, ValidIsNotRefused}
 use Rattle.sx_follow.specs.Chain.{IsChain, IsNext, NoneIsValid, ledger_after_all}
+use Rattle.sx_laws.specs.EffectLaws.{BlockKeepsLedger}
 use Rattle.sx_step.specs.declared.leaving.Leaving.{Leaving}
 use Rattle.sx_follow.specs.Follower.{Followed, HasWholeChain, IsFollower, NextLeaves, most_blocks}
 use Rattle.sx_follow.specs.Laws.{FollowersAgree, FollowersReplay, IsPrefix, OneOfEachParent}

@@ -13,8 +13,8 @@ ghost use Rattle.sx_follow.specs.Laws.{
 };
 
 use crate::follower::Follower;
-use sx_block::block_effect_laws;
 use sx_check::check_laws;
+use sx_laws::block_effect_laws;
 
 /// Each list of blocks has one chain from a ledger on. Blocks that come behind leave it as it was up to its
 /// end. Where no two different blocks have one parent, the chain of a part of them is the beginning of the

@@ -4,15 +4,15 @@ use Rattle.std.proofs.Common.{◌≡◌, ℕ, zero, suc, ◌*◌, ◌+◌, ◌-�
 use Rattle.std.proofs.Common.{Some, Contains, refl, ap, arith}
 use Rattle.std.specs.Prelude.{slice_index}
 use Rattle.sx_block.specs.declared.header.Block.{Block}
-use Rattle.sx_block.specs.EffectLaws.{IsInPart, circulating, gets_in, gives_in, value_in}
+use Rattle.sx_block.specs.Effects.{IsInPart, circulating, gets_in, gives_in, value_in}
 use Rattle.sx_block.specs.Validity.{IsValid, flow_of_block, high_in, ledger_after, low_in, offers_of, undropped_low_in}
 use Rattle.sx_block.proofs.Cases.{offer, two_pairs}
-use Rattle.sx_block.proofs.ValidCase.{before, block}
 use Rattle.sx_dual.specs.declared.cut.Cut.{Cut}
 use Rattle.sx_dual.specs.Circulation.{IsBalanced, IsWithin}
 use Rattle.sx_dual.specs.Sums.{EachPair, sum_below}
 use Rattle.sx_dual.specs.Tables.{FlowTable}
 use Rattle.sx_follow.specs.Chain.{AreValid, ledger_after_all}
+use Rattle.sx_laws.proofs.ValidCase.{before, block}
 use Rattle.sx_ledger.specs.declared.offer.Offer.{Offer}
 use Rattle.sx_ledger.specs.declared.parts.Parts.{Parts}
 use Rattle.sx_ledger.specs.Bounds.{price_of}

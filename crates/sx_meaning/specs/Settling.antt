@@ -1,7 +1,7 @@
 -- What is promised of each block of a chain.
 use Rattle.std.specs.Prelude.{◌≡◌, ℕ, ◌+◌, ◌*◌, ◌<◌, ◌≤◌, List, [], ◌∷◌, None, Some, Contains, slice_index}
 use Rattle.sx_block.specs.declared.header.Block.{Block}
-use Rattle.sx_block.specs.EffectLaws.{IsInPart, circulating, gets_in, gives_in, value_in}
+use Rattle.sx_block.specs.Effects.{IsInPart, circulating, gets_in, gives_in, value_in}
 use Rattle.sx_block.specs.Validity.{IsValid, flow_of_block, high_in, ledger_after, low_in}
 use Rattle.sx_block.specs.Validity.{offers_of, undropped_low_in}
 use Rattle.sx_dual.specs.declared.cut.Cut.{Cut}

@@ -7,11 +7,11 @@ ghost use Rattle.sx_meaning.specs.ProofLaws.{ProvedIsGood};
 ghost use Rattle.sx_meaning.specs.SealLaws.{DemosAlike, DemosSettle, FiltersAlike, SealsAlike, SealsLeaveTheirMeaning};
 ghost use Rattle.sx_meaning.specs.Settling.{ReplaysSettle, ValidSettles};
 
-use sx_block::block_effect_laws;
 use sx_check::check_laws;
 use sx_commit::commitment_laws;
 use sx_follow::follow_laws;
 use sx_kept::kept_laws;
+use sx_laws::block_effect_laws;
 
 /// Of each input one thing is found, for each command: no fault, or one first fault, and one list of
 /// bytes is then left of the input. So the answer to an input is a function of it. Where no fault is found,

@@ -3,7 +3,7 @@
 ghost use Rattle.std.specs.Prelude.{◌≡◌, ℕ, ◌+◌, ◌<◌, ◌≤◌, IfOk, slice_index};
 ghost use Rattle.sx_apply.specs.Effects.{AreEffects};
 ghost use Rattle.sx_apply.specs.Trading.{GetsItsValue, GivesItsValue, TradesInFull, TradesWithinLimits};
-ghost use Rattle.sx_block.specs.EffectLaws.{circulating};
+ghost use Rattle.sx_block.specs.Effects.{circulating};
 ghost use Rattle.sx_block.specs.Validity.{IsApplicable, ledger_after};
 ghost use Rattle.sx_ledger.specs.Body.{body_after};
 ghost use Rattle.sx_ledger.specs.Ledger.{IsLedger, assets_of};

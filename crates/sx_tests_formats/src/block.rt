@@ -3,6 +3,7 @@
 use std::test::Fail;
 use sx_block::*;
 use sx_bytes::Writer;
+use sx_laws::{block_effect_laws, fill_laws, limit_laws, trade_laws};
 use sx_state::read_state;
 
 // Two assets at 3 to 2. Account 1 has 5 units of the first, account 2 has 8 of the second.

@@ -12,8 +12,8 @@ use crate::follower::Follower;
 use std::mem;
 use std::thread::Threads;
 use sx_ahead::{Batch, Bodies, Hashed, ahead, goes_ahead, hash_and_apply, keep_states};
-use sx_block::validity_laws;
 use sx_bytes::NoMemory;
+use sx_laws::validity_laws;
 use sx_step::{is_long, par_step};
 use sx_waiting::first_named;
 

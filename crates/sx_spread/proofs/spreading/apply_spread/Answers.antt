@@ -2,7 +2,7 @@ use Rattle.std.proofs.Common.{◌≡◌, ℕ, ◌+◌, ◌<◌, sym, ap, ◌∙�
 use Rattle.std.specs.Prelude.{slice_index}
 use Rattle.std.proofs.lemmas.Result.{IfOk-weaker}
 use Rattle.sx_apply.proofs.Trades.{gets_its_value, gives_its_value, in_full, within_limits}
-use Rattle.sx_block.specs.EffectLaws.{circulating}
+use Rattle.sx_block.specs.Effects.{circulating}
 use Rattle.sx_block.specs.Validity.{ledger_after}
 use Rattle.sx_ledger.specs.declared.parts.Parts.{Parts}
 use Rattle.sx_ledger.specs.Body.{body_after}

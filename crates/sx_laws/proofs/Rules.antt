@@ -4,12 +4,12 @@ use Rattle.std.specs.Prelude.{◌==◌}
 use Rattle.std.proofs.lemmas.Bool.{cases_Bool, cases_lt, cases_order}
 use Rattle.sx_block.specs.declared.header.Block.{Block}
 use Rattle.sx_block.specs.Block.{IsBlock}
-use Rattle.sx_block.specs.EffectLaws.{IsRounded, IsTradable}
+use Rattle.sx_block.specs.Effects.{IsRounded, IsTradable}
 use Rattle.sx_block.specs.Rule.{Rule, rank}
 use Rattle.sx_block.specs.Rule as rule
 use Rattle.sx_block.specs.Validity.{Holds, HoldsBefore, HoldsButParent, IsApplicable, flow_of_block}
-use Rattle.sx_block.specs.ValidityLaws.{ApplicableIsSound, BlockFits, FittingIsSound, SoundFits, SoundIsAdmissible}
-use Rattle.sx_block.specs.ValidityLaws.{SoundIsApplicable, SoundIsBody, SoundIsTradable, SoundIsValid, ValidIsSound}
+use Rattle.sx_laws.specs.ValidityLaws.{ApplicableIsSound, BlockFits, FittingIsSound, SoundFits, SoundIsAdmissible}
+use Rattle.sx_laws.specs.ValidityLaws.{SoundIsApplicable, SoundIsBody, SoundIsTradable, SoundIsValid, ValidIsSound}
 use Rattle.sx_ledger.specs.declared.parts.Parts.{Parts}
 use Rattle.sx_ledger.specs.Body.{IsAdmissibleIn, body_after}
 use Rattle.sx_tx.specs.declared.tx.Tx.{Tx}

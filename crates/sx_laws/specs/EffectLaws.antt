@@ -1,38 +1,21 @@
 -- Laws of what trading and whole blocks leave, for all ledgers, flows and blocks.
-use Rattle.std.specs.Prelude.{◌≡◌, ℕ, ◌+◌, ◌*◌, ◌<◌, ◌≤◌, false, None, Some, List, length, All, Contains, slice_index}
-use Rattle.std.specs.List.{sum_by}
+use Rattle.std.specs.Prelude.{◌≡◌, ℕ, ◌+◌, ◌*◌, ◌<◌, ◌≤◌, false, None, Some, List, Contains, slice_index}
 use Rattle.sha2.specs.Sha256.{sha256}
 use Rattle.sx_block.specs.declared.header.Block.{Block}
+use Rattle.sx_block.specs.Effects.{IsInPart, IsRounded, IsTradable, circulating, gets_in, gives_in, value_in}
 use Rattle.sx_block.specs.Validity.{IsValid, digest_of_ledger, flow_of_block, high_in, ledger_after, low_in}
 use Rattle.sx_block.specs.Validity.{offers_of, undropped_low_in}
 use Rattle.sx_dual.specs.declared.cut.Cut.{Cut}
-use Rattle.sx_dual.specs.Circulation.{HaveNoCirculation, IsBalanced, IsGreatest}
+use Rattle.sx_dual.specs.Circulation.{HaveNoCirculation, IsGreatest}
 use Rattle.sx_dual.specs.Sums.{EachPair}
 use Rattle.sx_ledger.specs.declared.offer.Offer.{Offer}
 use Rattle.sx_ledger.specs.declared.parts.Parts.{Parts}
-use Rattle.sx_ledger.specs.Bounds.{high_of, low_of, price_of}
-use Rattle.sx_ledger.specs.Fills.{IsRounding, given, gives, gets, got, value_of}
-use Rattle.sx_ledger.specs.Ledger.{IsLedger, assets_of, balance_at, most_height, offered, total_of}
+use Rattle.sx_ledger.specs.Bounds.{low_of, price_of}
+use Rattle.sx_ledger.specs.Fills.{given, gives, gets, got, value_of}
+use Rattle.sx_ledger.specs.Ledger.{IsLedger, assets_of, most_height, total_of}
 use Rattle.sx_ledger.specs.Trade.{traded}
-use Rattle.sx_price.specs.Limits.{IsPrice, MayTrade, MustTrade}
+use Rattle.sx_price.specs.Limits.{MayTrade, MustTrade}
 use Rattle.sx_tx.specs.Transactions.{list_bytes}
-
--- a flow that offers can trade: no pair trades more than it may, and as much is sold of each asset as is bought
-pub record IsTradable (parts : Parts) (prices : List ℕ) (flow : ℕ → ℕ → ℕ) : Type 0 where
-  pub same_assets : length prices ≡ assets_of parts
-  pub in_range : All IsPrice prices
-  pub within : EachPair (assets_of parts) (λ sell buy. flow sell buy ≤ high_of prices parts.offers sell buy)
-  pub balanced : (asset : ℕ) → asset < assets_of parts → IsBalanced (assets_of parts) flow asset
-
--- each asset keeps by rounding what was given less what was got
-pub record IsRounded (parts : Parts) (prices : List ℕ) (flow : ℕ → ℕ → ℕ) (rounding : List ℕ) : Type 0 where
-  pub one_each : length rounding ≡ assets_of parts
-  pub is : (asset : ℕ) → asset < assets_of parts
-      → IsRounding prices flow parts.offers asset (slice_index rounding asset)
-
--- what there is of an asset in balances and on offer
-abbrev pub circulating : Parts → ℕ → ℕ
-circulating parts asset = sum_by (balance_at asset) parts.accounts + sum_by (offered asset) parts.offers
 
 -- ---- fills
 
@@ -74,11 +57,6 @@ MustTradeInFull =
     EachPair (assets_of parts) (λ sell buy. low_of prices j false parts.offers sell buy ≤ flow sell buy) →
     Contains parts.offers offer → MustTrade (price_of prices offer.sell) (price_of prices offer.buy) offer.limit j →
     gives prices flow parts.offers offer ≡ offer.amount
-
--- some of it trades and some stays
-pub record IsInPart (prices : List ℕ) (flow : ℕ → ℕ → ℕ) (offers : List Offer) (offer : Offer) : Type 0 where
-  pub some : 0 < gives prices flow offers offer
-  pub not_all : gives prices flow offers offer < offer.amount
 
 -- at most one offer of a pair trades in part
 abbrev pub OneTradesInPart : Type 0
@@ -194,16 +172,6 @@ BlockTradesInFull =
     MustTrade (price_of block.header.prices offer.sell) (price_of block.header.prices offer.buy) offer.limit
     block.header.mu →
     gives block.header.prices (flow_of_block block) (offers_of parts block) offer ≡ offer.amount
-
--- what an offer trades, gives and gets in a block
-abbrev pub value_in : Parts → Block → Offer → ℕ
-value_in parts block offer = value_of block.header.prices (flow_of_block block) (offers_of parts block) offer
-
-abbrev pub gives_in : Parts → Block → Offer → ℕ
-gives_in parts block offer = gives block.header.prices (flow_of_block block) (offers_of parts block) offer
-
-abbrev pub gets_in : Parts → Block → Offer → ℕ
-gets_in parts block offer = gets block.header.prices (flow_of_block block) (offers_of parts block) offer
 
 -- what an offer gives in a valid block is worth its value, and less than one unit more
 abbrev pub BlockGivesItsValue : Type 0

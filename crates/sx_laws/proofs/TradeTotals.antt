@@ -7,8 +7,9 @@ use Rattle.std.specs.List.Sorted.{IsStrictlyIncreasing}
 use Rattle.std.proofs.lemmas.Bool.{cases_Bool, and_parts, eq-eqb, ne_eqb, ltb-false, or_cases}
 use Rattle.std.proofs.lemmas.List.Elements.{recursion_from_All}
 use Rattle.std.proofs.lemmas.List.Sums.{sum_by-cons}
-use Rattle.sx_block.specs.EffectLaws.{IsTradable, TradeConserves, TradeFallsByRounding, TradeKeepsRounding}
-use Rattle.sx_block.proofs.FillLaws.{gives_has}
+use Rattle.sx_block.specs.Effects.{IsTradable}
+use Rattle.sx_laws.specs.EffectLaws.{TradeConserves, TradeFallsByRounding, TradeKeepsRounding}
+use Rattle.sx_laws.proofs.FillLaws.{gives_has}
 use Rattle.sx_ledger.specs.declared.account.Account.{Account}
 use Rattle.sx_ledger.specs.declared.offer.Offer.{Offer}
 use Rattle.sx_ledger.specs.declared.parts.Parts.{Parts}

@@ -6,12 +6,12 @@ use Rattle.std.proofs.Math.Nat.{mul-le-mul_left, min-eq_left, min-eq_right}
 use Rattle.std.proofs.lemmas.Bool.{cases_lt, eqb-true, and_parts}
 use Rattle.std.proofs.lemmas.List.Elements.{filter_passes, recursion_from_All}
 use Rattle.std.proofs.lemmas.List.Sums.{sum_by-cons, sum_by_push}
+use Rattle.sx_laws.proofs.ListSums.{filter-le, sum_by-agree}
 use Rattle.sx_ledger.specs.declared.offer.Offer.{Offer}
 use Rattle.sx_ledger.specs.Bounds.{amounts, high_of, may_trade_at, pair_of, price_of}
 use Rattle.sx_ledger.specs.Fills.{value_of}
 use Rattle.sx_ledger.specs.Order.{offer_before}
 use Rattle.sx_ledger.proofs.OfferOrder.{Rising, rising_kept, in_front}
-use Rattle.sx_block.proofs.ListSums.{filter-le, sum_by-agree}
 
 -- what is left of y after q, up to r
 min_split : (y q r : ℕ) → min y q + min (y - q) r ≡ min y (q + r)

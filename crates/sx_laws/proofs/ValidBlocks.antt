@@ -3,25 +3,26 @@ use Rattle.std.proofs.Common.{◌≡◌, ℕ, ◌+◌, ◌≤◌, Option, None, 
 use Rattle.std.specs.Prelude.{Contains, is_some}
 use Rattle.std.proofs.lemmas.List.Elements.{All-contains}
 use Rattle.sx_block.specs.declared.header.Block.{Block}
-use Rattle.sx_block.specs.EffectLaws.{BlockCommits, BlockConserves, BlockDropsTheImpossible, BlockGetsItsValue}
-use Rattle.sx_block.specs.EffectLaws.{BlockGivesItsValue, BlockHeldFalls, BlockKeepsLedger, BlockKeepsRounding}
-use Rattle.sx_block.specs.EffectLaws.{BlockTradesInFull, BlockTradesMost, BlockTradesWithinLimits, BlocksChain}
-use Rattle.sx_block.specs.EffectLaws.{IsRounded, IsTradable, OneInPart}
+use Rattle.sx_block.specs.Effects.{IsRounded, IsTradable}
 use Rattle.sx_block.specs.Rule as rule
 use Rattle.sx_block.specs.Validity.{CutHolds, IsSound, IsValid, flow_of_block, high_in, low_in, offers_of}
 use Rattle.sx_block.specs.Validity.{undropped_low_in}
-use Rattle.sx_block.specs.ValidityLaws.{BlockFits}
-use Rattle.sx_block.proofs.FillLaws.{gets_less, gives_more, price_above}
-use Rattle.sx_block.proofs.InPart.{one_trades_in_part}
-use Rattle.sx_block.proofs.LimitLaws.{must_in_full, only_within_limit}
-use Rattle.sx_block.proofs.Rules.{sound_fits, sound_is_admissible, sound_is_tradable, valid_is_sound}
-use Rattle.sx_block.proofs.TradeKeeps.{trade_keeps_ledger}
-use Rattle.sx_block.proofs.TradeTotals.{trade_conserves, trade_keeps_rounding}
 use Rattle.sx_dual.specs.declared.cut.Cut.{Cut}
 use Rattle.sx_dual.specs.Sums.{EachPair}
 use Rattle.sx_dual.specs.Tables.{potential_of}
 use Rattle.sx_dual.proofs.CutLaws.{cut_refutes}
 use Rattle.sx_dual.proofs.Duality.{fit_is_greatest}
+use Rattle.sx_laws.specs.EffectLaws.{BlockCommits, BlockConserves, BlockDropsTheImpossible, BlockGetsItsValue}
+use Rattle.sx_laws.specs.EffectLaws.{BlockGivesItsValue, BlockHeldFalls, BlockKeepsLedger, BlockKeepsRounding}
+use Rattle.sx_laws.specs.EffectLaws.{BlockTradesInFull, BlockTradesMost, BlockTradesWithinLimits, BlocksChain}
+use Rattle.sx_laws.specs.EffectLaws.{OneInPart}
+use Rattle.sx_laws.specs.ValidityLaws.{BlockFits}
+use Rattle.sx_laws.proofs.FillLaws.{gets_less, gives_more, price_above}
+use Rattle.sx_laws.proofs.InPart.{one_trades_in_part}
+use Rattle.sx_laws.proofs.LimitLaws.{must_in_full, only_within_limit}
+use Rattle.sx_laws.proofs.Rules.{sound_fits, sound_is_admissible, sound_is_tradable, valid_is_sound}
+use Rattle.sx_laws.proofs.TradeKeeps.{trade_keeps_ledger}
+use Rattle.sx_laws.proofs.TradeTotals.{trade_conserves, trade_keeps_rounding}
 use Rattle.sx_ledger.specs.declared.offer.Offer.{Offer}
 use Rattle.sx_ledger.specs.declared.parts.Parts.{Parts}
 use Rattle.sx_ledger.proofs.BodyConserves.{body_conserves}

@@ -1,6 +1,6 @@
 //! Laws of the rules that make a block valid.
 
-ghost use Rattle.sx_block.specs.ValidityLaws.{
+ghost use Rattle.sx_laws.specs.ValidityLaws.{
   ApplicableIsSound,
   FittingIsSound,
   SoundFits,

@@ -8,9 +8,9 @@ use Rattle.std.proofs.lemmas.Bool.{cases_Bool, ltb-true}
 use Rattle.std.proofs.lemmas.List.{length-map, get_or_default, get_or-map}
 use Rattle.std.proofs.lemmas.List.Elements.{All-from_recursion, All-map, recursion_from_All}
 use Rattle.std.proofs.lemmas.List.Sums.{count_by-le-length, length-filter, get_or-le-sum_by}
-use Rattle.sx_block.specs.EffectLaws.{TradeKeepsLedger}
+use Rattle.sx_laws.specs.EffectLaws.{TradeKeepsLedger}
+use Rattle.sx_laws.proofs.TradeTotals.{added_length, balances_length, trade_conserves}
 use Rattle.sx_ledger.proofs.OfferOrder.{Precedes, Rising, rising_is, rising_kept, order_is}
-use Rattle.sx_block.proofs.TradeTotals.{added_length, balances_length, trade_conserves}
 use Rattle.sx_ledger.specs.declared.account.Account.{Account}
 use Rattle.sx_ledger.specs.declared.key.Key.{Key}
 use Rattle.sx_ledger.specs.declared.offer.Offer.{Offer}
@@ -128,7 +128,8 @@ trade_keeps_ledger parts prices flow rounding is below fits rounds =
     offers_are prices flow offers n parts.accounts offers
     (recursion_from_All (IsOffer n parts.accounts) offers is.offers) in
     let all_accounts : All (IsAccount parts.version n) accounts =
-    accounts_are prices flow offers parts.version n parts.accounts is.accounts (λ asset lt. omega (arith, total asset lt)) in
+    accounts_are prices flow offers parts.version n parts.accounts is.accounts
+    (λ asset lt. omega (arith, total asset lt)) in
     let round_length : length (added parts.rounding rounding) ≡ n =
     added_length parts.rounding rounding (rounds.one_each ∙ sym is.one_rounding) ∙ is.one_rounding in
     record {

@@ -1,5 +1,5 @@
-use Rattle.sx_block.proofs.FillLaws.{gives_has, gives_more, gets_less}
-use Rattle.sx_block.proofs.effect_laws.fill_laws.Goals as goal
+use Rattle.sx_laws.proofs.FillLaws.{gives_has, gives_more, gets_less}
+use Rattle.sx_laws.proofs.effect_laws.fill_laws.Goals as goal
 
 pub returns-clause-has : goal.returns-clause-has
 returns-clause-has c = gives_has

@@ -1,7 +1,7 @@
 -- Laws of the rules of a valid block, for all ledgers and blocks.
 use Rattle.sx_block.specs.declared.header.Block.{Block}
 use Rattle.sx_block.specs.Block.{IsBlock, most_version}
-use Rattle.sx_block.specs.EffectLaws.{IsRounded, IsTradable}
+use Rattle.sx_block.specs.Effects.{IsRounded, IsTradable}
 use Rattle.sx_block.specs.Rule as rule
 use Rattle.sx_block.specs.Validity.{Holds, HoldsBefore, IsApplicable, IsSound, IsValid, flow_of_block, high_in, low_in}
 use Rattle.sx_dual.specs.Fit.{Fits}

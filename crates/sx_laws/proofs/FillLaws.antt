@@ -10,19 +10,20 @@ use Rattle.std.proofs.lemmas.Bool.{cases_Bool, eqb-true, eq-eqb, eqb-false}
 use Rattle.std.proofs.lemmas.Grind.{div_ceil_times}
 use Rattle.std.proofs.lemmas.List.Elements.{recursion_from_All}
 use Rattle.std.proofs.lemmas.List.Sums.{sum_by-cons}
-use Rattle.sx_block.specs.EffectLaws.{GivesWhatItHas, GivesLessThanOneMore, GetsLessThanOneLess}
-use Rattle.sx_block.specs.EffectLaws.{RoundingIsNeverNegative, IsTradable}
-use Rattle.sx_block.proofs.ListSums.{grouped, sum_by-filter}
-use Rattle.sx_ledger.proofs.OfferOrder.{Rising, rising_is}
-use Rattle.sx_block.proofs.PairFills.{pair_trades}
+use Rattle.sx_block.specs.Effects.{IsTradable}
 use Rattle.sx_dual.specs.Circulation.{bought, sold}
 use Rattle.sx_dual.specs.Sums.{between}
 use Rattle.sx_dual.proofs.SumLaws.{sum_below-same}
+use Rattle.sx_laws.specs.EffectLaws.{GivesWhatItHas, GivesLessThanOneMore, GetsLessThanOneLess}
+use Rattle.sx_laws.specs.EffectLaws.{RoundingIsNeverNegative}
+use Rattle.sx_laws.proofs.ListSums.{grouped, sum_by-filter}
+use Rattle.sx_laws.proofs.PairFills.{pair_trades}
 use Rattle.sx_ledger.specs.declared.offer.Offer.{Offer}
 use Rattle.sx_ledger.specs.declared.parts.Parts.{Parts}
 use Rattle.sx_ledger.specs.Bounds.{price_of}
 use Rattle.sx_ledger.specs.Fills.{given, gives, gets, got, value_of}
 use Rattle.sx_ledger.specs.Ledger.{IsLedger, IsOffer, assets_of}
+use Rattle.sx_ledger.proofs.OfferOrder.{Rising, rising_is}
 use Rattle.sx_price.specs.Rounding.{rounded_up, rounded_down}
 
 -- ---- one offer

@@ -26,11 +26,11 @@ use Rattle.sx_dual.specs.Fit.{IsTight}
 use Rattle.sx_dual.specs.Sums.{EachPair, sum_below}
 use Rattle.sx_dual.specs.Tables.{IsFlow, potential_of, value_of}
 use Rattle.sx_ledger.specs.declared.parts.Parts.{Parts}
-use Rattle.sx_state.specs.Encoding.{state_bytes}
 use Rattle.sx_ledger.specs.Fills.{IsRounding}
 use Rattle.sx_ledger.specs.Static.{static_of}
 use Rattle.sx_price.specs.Limits.{IsPrice}
 use Rattle.sx_record.specs.Frame.{record_bytes}
+use Rattle.sx_state.specs.Encoding.{state_bytes}
 use Rattle.sx_tx.specs.Transactions.{IsTx, list_bytes}
 use Rattle.sx_tx.specs.Window.{bit_length}
 

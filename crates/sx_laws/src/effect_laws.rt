@@ -1,6 +1,6 @@
 //! Laws of what trading and whole blocks leave.
 
-ghost use Rattle.sx_block.specs.EffectLaws.{
+ghost use Rattle.sx_laws.specs.EffectLaws.{
   BlockCommits,
   BlockConserves,
   BlockDropsTheImpossible,

@@ -7,8 +7,9 @@ use Rattle.std.proofs.Math.Nat.{min-eq_left, min-eq_right, mul-le-mul_left}
 use Rattle.std.proofs.lemmas.Bool.{and_from, cases_Bool, cases_lt, cases_order, eq-eqb}
 use Rattle.std.proofs.lemmas.List.Elements.{All-contains}
 use Rattle.std.proofs.lemmas.List.Sums.{sum_by-cons}
-use Rattle.sx_block.specs.EffectLaws.{IsInPart, IsTradable, OneTradesInPart}
-use Rattle.sx_block.proofs.FillLaws.{price_above, up_is}
+use Rattle.sx_block.specs.Effects.{IsInPart, IsTradable}
+use Rattle.sx_laws.specs.EffectLaws.{OneTradesInPart}
+use Rattle.sx_laws.proofs.FillLaws.{price_above, up_is}
 use Rattle.sx_ledger.proofs.OfferOrder.{Rising, in_front, rising_is, rising_kept}
 use Rattle.sx_ledger.specs.declared.offer.Offer.{Offer}
 use Rattle.sx_ledger.specs.declared.parts.Parts.{Parts}

@@ -10,12 +10,13 @@ use Rattle.std.proofs.Math.Nat.{le_of_mul-le-mul_left, min-eq_left, min-eq_right
 use Rattle.std.proofs.lemmas.Bool.{cases_Bool, cases_lt, and_from, and_parts, eq-eqb, eqb-true, leb-true, le-leb}
 use Rattle.std.proofs.lemmas.List.Elements.{filter-append}
 use Rattle.std.proofs.lemmas.List.Sums.{sum_by-append, sum_by-cons}
-use Rattle.sx_block.specs.EffectLaws.{IsTradable, MustTradeInFull, TradesOnlyWithinLimit}
-use Rattle.sx_block.proofs.FillLaws.{gives_has, price_above, up_is}
+use Rattle.sx_block.specs.Effects.{IsTradable}
+use Rattle.sx_laws.specs.EffectLaws.{MustTradeInFull, TradesOnlyWithinLimit}
+use Rattle.sx_laws.proofs.FillLaws.{gives_has, price_above, up_is}
+use Rattle.sx_laws.proofs.ListSums.{filter-le}
+use Rattle.sx_laws.proofs.PairFills.{in_pair}
 use Rattle.sx_ledger.proofs.OfferOrder.{Precedes, Rising, before_all, in_front, keeps_all, rising_back, rising_is}
 use Rattle.sx_ledger.proofs.OfferOrder.{rising_kept}
-use Rattle.sx_block.proofs.ListSums.{filter-le}
-use Rattle.sx_block.proofs.PairFills.{in_pair}
 use Rattle.sx_ledger.specs.declared.offer.Offer.{Offer}
 use Rattle.sx_ledger.specs.declared.parts.Parts.{Parts}
 use Rattle.sx_ledger.specs.Bounds.{amounts, high_of, low_of, may_trade_at, must_trade_at, pair_of, price_of}

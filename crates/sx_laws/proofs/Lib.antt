@@ -1,0 +1,10 @@
+pub mod ListSums
+pub mod PairFills
+pub mod FillLaws
+pub mod LimitLaws
+pub mod TradeTotals
+pub mod TradeKeeps
+pub mod Rules
+pub mod InPart
+pub mod ValidBlocks
+pub mod ValidCase
