@@ -8,8 +8,9 @@ ghost use Rattle.sx_ahead.specs.Bodies.{AreBodies, IsBodyAt, body_above};
 
 use std::alloc::Global;
 use std::thread::Threads;
-use sx_block::{Block, Digest, body_digest};
+use sx_block::{Block, Digest};
 use sx_bytes::NoMemory;
+use sx_digests::body_digest;
 use sx_fork::fork;
 
 // The digest of the transactions of a block, where it is above this height.

@@ -7,7 +7,7 @@ ghost use Rattle.sx_ahead.specs.Ahead.{IsRight};
 
 use crate::batch::Claim;
 use std::thread::Threads;
-use sx_block::record_digest;
+use sx_digests::record_digest;
 use sx_fork::fork;
 use sx_record::tag;
 use sx_state::LONGEST_STATE;

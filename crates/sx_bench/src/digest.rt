@@ -3,8 +3,9 @@
 use crate::benchmark::Benchmark;
 use anyhow::Result;
 use std::alloc::Global;
-use sx_block::{Digest, digest_of};
+use sx_block::Digest;
 use sx_bytes::Writer;
+use sx_digests::digest_of;
 
 pub const NAME: &str = "digest";
 

@@ -10,4 +10,3 @@ pub mod BlockFaults
 pub mod InParts
 pub mod Cases
 pub mod FaultCases
-pub mod InPieces

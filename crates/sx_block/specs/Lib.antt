@@ -1,5 +1,4 @@
 pub mod Digest
-pub mod StateDigest
 pub mod Trades
 pub mod Encoding
 pub mod Decoding
@@ -8,4 +7,3 @@ pub mod Laws
 pub mod Rule
 pub mod Validity
 pub mod Effects
-pub mod Hashing

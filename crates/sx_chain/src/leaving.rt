@@ -7,8 +7,9 @@ ghost use Rattle.sx_meaning.specs.Items.{state_record};
 
 use std::alloc::Global;
 use std::thread::Threads;
-use sx_block::{Digest, digest_of, ledger_digest};
+use sx_block::Digest;
 use sx_bytes::{NoMemory, Writer};
+use sx_digests::{digest_of, ledger_digest};
 use sx_fork::fork;
 use sx_input::written;
 use sx_ledger::Ledger;

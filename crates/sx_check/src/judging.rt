@@ -23,8 +23,9 @@ use crate::survey::{Survey, survey_of};
 use std::alloc::Global;
 use std::thread::Threads;
 use sx_apply::{Effects, apply};
-use sx_block::{Block, Digest, Header, body_digest, ledger_digest};
+use sx_block::{Block, Digest, Header};
 use sx_body::PrecheckFault;
+use sx_digests::{body_digest, ledger_digest};
 use sx_ledger::Ledger;
 
 // What is told of a valid block.

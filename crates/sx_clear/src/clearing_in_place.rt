@@ -1,8 +1,8 @@
 //! Blocks from bodies on a ledger that is needed no more.
 
 ghost use Rattle.std.specs.Prelude.{◌≡◌, ◌+◌, ◌<◌, ◌≤◌, All, IfOk, length};
-ghost use Rattle.sx_block.specs.StateDigest.{IsWhole, digest_in};
 ghost use Rattle.sx_block.specs.Validity.{IsValid, digest_of_ledger, flow_of_block, high_in, low_in};
+ghost use Rattle.sx_digests.specs.StateDigest.{IsWhole, digest_in};
 ghost use Rattle.sx_discovery.specs.Digests.{IsBodyDigest};
 ghost use Rattle.sx_clear.specs.Dropping.{DropsExactly};
 ghost use Rattle.sx_discovery.specs.Found.{IsBodyOf};
@@ -23,8 +23,9 @@ use std::alloc::Global;
 use std::snapshot::Snapshot;
 use std::sync::ledger;
 use std::thread::Threads;
-use sx_block::{Block, Digest, StateDigest, WrittenBody};
+use sx_block::{Block, Digest};
 use sx_bytes::{NoMemory, Writer};
+use sx_digests::{StateDigest, WrittenBody};
 use sx_discovery::{Body, Digests, Opened, Search, WORKERS, written_and_opened};
 use sx_ledger::Ledger;
 use sx_net::Steps;

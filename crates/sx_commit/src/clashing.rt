@@ -22,8 +22,9 @@ use crate::proof::Proof;
 use crate::verifying::join;
 use std::alloc::Global;
 use std::thread::Threads;
-use sx_block::{Digest, digest_of};
+use sx_block::Digest;
 use sx_bytes::{Bytes, NoMemory, Writer};
+use sx_digests::digest_of;
 use sx_ledger::Ledger;
 
 // The bytes of what stands at a place of the ledger.

@@ -1,9 +1,9 @@
 -- The digests of what is there before anything trades.
 use Rattle.std.specs.Prelude.{◌≡◌, ℕ, List}
 use Rattle.sha2.specs.Sha256.{sha256}
-use Rattle.sx_block.specs.declared.body_writing.WrittenBody.{WrittenBody}
 use Rattle.sx_block.specs.Digest.{IsDigest}
 use Rattle.sx_block.specs.Validity.{digest_of_ledger}
+use Rattle.sx_digests.specs.declared.body_writing.WrittenBody.{WrittenBody}
 use Rattle.sx_discovery.specs.declared.digests.Digests.{Digests}
 use Rattle.sx_ledger.specs.declared.parts.Parts.{Parts}
 use Rattle.sx_tx.specs.declared.tx.Tx.{Tx}

@@ -6,8 +6,9 @@ ghost use Rattle.sx_tx.specs.Transactions.{most_transactions};
 
 use std::alloc::Global;
 use std::thread::Threads;
-use sx_block::{Digest, WrittenBody, body_digest, ledger_digest, par_written_body};
+use sx_block::Digest;
 use sx_bytes::{NoMemory, Writer};
+use sx_digests::{WrittenBody, body_digest, ledger_digest, par_written_body};
 use sx_ledger::Ledger;
 use sx_tx::Tx;
 

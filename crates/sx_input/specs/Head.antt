@@ -1,7 +1,7 @@
 -- Where a chain of blocks stands.
 use Rattle.std.specs.Prelude.{◌≡◌, IfSome}
-use Rattle.sx_block.specs.StateDigest.{IsWhole, digest_in}
 use Rattle.sx_block.specs.Validity.{digest_of_ledger}
+use Rattle.sx_digests.specs.StateDigest.{IsWhole, digest_in}
 use Rattle.sx_input.specs.declared.head.Head.{Head}
 use Rattle.sx_meaning.specs.Items.{state_record}
 

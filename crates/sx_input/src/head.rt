@@ -5,8 +5,8 @@ ghost use Rattle.sx_input.specs.Head.{IsHead};
 ghost use Rattle.sx_meaning.specs.Items.{state_record};
 
 use std::alloc::Global;
-use sx_block::StateDigest;
 use sx_bytes::{NoMemory, Writer};
+use sx_digests::StateDigest;
 use sx_ledger::Ledger;
 use sx_record::{FRAME_BYTES, tag, write_frame};
 use sx_state::{state_length, write_state};

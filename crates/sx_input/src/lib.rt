@@ -38,4 +38,4 @@ pub use opening::take_head;
 pub use payloads::{Payload, decoded};
 pub use stop::Stop;
 pub use stream::{Taken, end, end_of, next, stop_at, take, take_with_spare};
-pub use sx_block::{DigestOf, StateDigest};
+pub use sx_digests::{DigestOf, StateDigest};

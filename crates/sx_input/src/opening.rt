@@ -21,7 +21,7 @@ use std::alloc::Global;
 use std::sync::Arc;
 use std::thread::Threads;
 use sx_base::Source;
-use sx_block::StateDigest;
+use sx_digests::StateDigest;
 use sx_record::{Record, tag};
 
 // The ledger of a record, which is let go, and where a chain of blocks stands on it. A thread makes the digest of a

@@ -1,9 +1,9 @@
 //! A block of candidates: worker threads gather them, and the body that they make is cleared.
 
 ghost use Rattle.std.specs.Prelude.{◌≡◌, ◌+◌, ◌≤◌, ◌<◌, Ok, IfErr, IfOk, length};
-ghost use Rattle.sx_block.specs.StateDigest.{IsWhole, digest_in};
 ghost use Rattle.sx_block.specs.Validity.{digest_of_ledger};
 ghost use Rattle.sx_clear.specs.Searches.{most_clearing_searches};
+ghost use Rattle.sx_digests.specs.StateDigest.{IsWhole, digest_in};
 ghost use Rattle.sx_gather.specs.Start.{IsFaultOf};
 ghost use Rattle.sx_input.specs.Head.{IsHead};
 ghost use Rattle.sx_layout.specs.Gathering.{IsGathered};
@@ -17,9 +17,10 @@ ghost use Rattle.sx_tx.specs.Transactions.{list_bytes, most_transactions};
 use std::alloc::Global;
 use std::sync::ledger;
 use std::thread::Threads;
-use sx_block::{Block, StateDigest};
+use sx_block::Block;
 use sx_bytes::{NoMemory, Writer};
 use sx_clear::{Cleared, clear_in_place, clear_many};
+use sx_digests::StateDigest;
 use sx_gather::{GatherFault, Sealed};
 use sx_input::Head;
 use sx_layout::{PackedOutcomes, gathering_laws};

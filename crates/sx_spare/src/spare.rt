@@ -6,8 +6,9 @@ ghost use Rattle.sx_state.specs.Encoding.{state_bytes};
 
 use crate::refilling::copied;
 use std::alloc::Global;
-use sx_block::{Digest, record_digest};
+use sx_block::Digest;
 use sx_bytes::{NoMemory, Writer};
+use sx_digests::record_digest;
 use sx_ledger::Ledger;
 use sx_record::tag;
 use sx_state::{state_length, write_state};

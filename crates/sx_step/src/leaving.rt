@@ -9,9 +9,10 @@ ghost use Rattle.sx_step.specs.Leaves.{Leaves};
 
 use std::alloc::Global;
 use sx_apply::{Effects, apply};
-use sx_block::{Block, Digest, body_digest};
+use sx_block::{Block, Digest};
 use sx_bytes::NoMemory;
 use sx_check::{CheckFault, check_laws, close, judge};
+use sx_digests::body_digest;
 use sx_laws::validity_laws;
 use sx_ledger::Ledger;
 use sx_spare::Spare;

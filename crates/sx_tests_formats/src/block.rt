@@ -3,6 +3,7 @@
 use std::test::Fail;
 use sx_block::*;
 use sx_bytes::Writer;
+use sx_digests::{body_digest, ledger_digest};
 use sx_laws::{block_effect_laws, fill_laws, limit_laws, trade_laws};
 use sx_state::read_state;
 

@@ -2,8 +2,8 @@
 use Rattle.std.specs.Prelude.{ℕ, List}
 use Rattle.sha2.specs.Sha256.{sha256}
 use Rattle.sx_block.specs.Digest.{IsDigest}
-use Rattle.sx_block.specs.declared.state_digest.StateDigest.{StateDigest}
-use Rattle.sx_block.specs.declared.state_digest.StateDigest.TheVariants as state_digest
+use Rattle.sx_digests.specs.declared.state_digest.StateDigest.{StateDigest}
+use Rattle.sx_digests.specs.declared.state_digest.StateDigest.TheVariants as state_digest
 use Rattle.sx_record.specs.Frame.{record_bytes}
 use Rattle.sx_record.specs.Tags.{state_tag}
 

@@ -1,6 +1,6 @@
 use Rattle.sx_bytes.proofs.Written.{flat_map-taken}
 use Rattle.sx_tx.specs.Transactions.{tx_bytes}
-use Rattle.sx_block.proofs.pieces.TxEncoderEncoderTx.write.Goals as goal
+use Rattle.sx_digests.proofs.pieces.TxEncoderEncoderTx.write.Goals as goal
 
 pub loop-tx-preserved : goal.loop-tx-preserved
 loop-tx-preserved c =

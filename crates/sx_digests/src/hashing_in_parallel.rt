@@ -3,15 +3,15 @@
 ghost use Rattle.std.specs.Prelude.{◌≡◌, IfOk};
 ghost use Rattle.std.specs.List.{flat_map};
 ghost use Rattle.sx_block.specs.Digest.{IsDigest};
-ghost use Rattle.sx_block.specs.Hashing.{HoldsAllButOffers};
 ghost use Rattle.sx_block.specs.Validity.{digest_of_ledger};
+ghost use Rattle.sx_digests.specs.Hashing.{HoldsAllButOffers};
 ghost use Rattle.sx_state.specs.Encoding.{offer_bytes};
 
-use crate::digest::Digest;
 use crate::hashing::{hash_before_offers, ledger_digest};
 use sha2::{Digest as Hasher, Sha256};
 use std::alloc::Global;
 use std::thread::Threads;
+use sx_block::Digest;
 use sx_bytes::{NoMemory, Writer};
 use sx_fork::fork;
 use sx_ledger::Ledger;

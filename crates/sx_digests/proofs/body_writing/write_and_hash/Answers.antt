@@ -1,7 +1,7 @@
 use Rattle.std.proofs.Common.{ℕ, ◌+◌, ◌-◌, List, ◌++◌, take, drop, sym, ap, ap₂, ◌∙◌, arith}
 use Rattle.std.specs.List.{flat_map}
-use Rattle.sx_block.proofs.InPieces.{up_to}
-use Rattle.sx_block.proofs.body_writing.write_and_hash.Goals as goal
+use Rattle.sx_digests.proofs.body_writing.write_and_hash.Goals as goal
+use Rattle.sx_digests.proofs.InPieces.{up_to}
 use Rattle.sx_tx.specs.Transactions.{tx_bytes}
 
 pub loop-done-preserved : goal.loop-done-preserved

@@ -4,16 +4,16 @@ ghost use Rattle.std.specs.Prelude.{◌≡◌, ◌<◌, ◌≤◌, ◌^◌, leng
 ghost use Rattle.std.specs.Arc.{arc_value};
 ghost use Rattle.sha2.specs.Sha256.{sha256};
 ghost use Rattle.sx_block.specs.Digest.{IsDigest};
-ghost use Rattle.sx_block.specs.StateDigest.{IsWhole, digest_in};
+ghost use Rattle.sx_digests.specs.StateDigest.{IsWhole, digest_in};
 ghost use Rattle.sx_record.specs.Frame.{most_bytes, record_bytes};
 ghost use Rattle.sx_record.specs.Tags.{state_tag};
 
-use crate::digest::Digest;
 use crate::hashing::record_digest;
 use std::alloc::Global;
 use std::snapshot::Snapshot;
 use std::sync::Arc;
 use std::thread::{Promise, PromisedHandle, Threads, spawn_with};
+use sx_block::Digest;
 use sx_bytes::Bytes;
 use sx_record::{Record, tag};
 

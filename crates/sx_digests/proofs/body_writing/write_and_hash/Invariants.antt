@@ -2,7 +2,7 @@ use Rattle.std.proofs.Common.{◌≡◌, ℕ, ◌≤◌, ◌-◌, List, ◌++◌
 use Rattle.std.specs.List.{flat_map}
 use Rattle.sha2.specs.Hashers.{Holds256}
 use Rattle.sx_tx.specs.Transactions.{tx_bytes}
-use Rattle.sx_block.proofs.body_writing.write_and_hash.Given as goal
+use Rattle.sx_digests.proofs.body_writing.write_and_hash.Given as goal
 
 abbrev pub invariant-loop-done : goal.invariant-loop-done
 invariant-loop-done g l = record {

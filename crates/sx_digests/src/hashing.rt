@@ -5,15 +5,15 @@ ghost use Rattle.std.specs.List.{flat_map};
 ghost use Rattle.sha2.specs.Hashers.{Holds256};
 ghost use Rattle.sha2.specs.Sha256.{sha256};
 ghost use Rattle.sx_block.specs.Digest.{IsDigest};
-ghost use Rattle.sx_block.specs.Hashing.{HoldsAllButOffers};
 ghost use Rattle.sx_block.specs.Validity.{digest_of_ledger};
+ghost use Rattle.sx_digests.specs.Hashing.{HoldsAllButOffers};
 ghost use Rattle.sx_record.specs.Frame.{record_bytes};
 ghost use Rattle.sx_tx.specs.Transactions.{list_bytes, most_transactions, tx_bytes};
 
-use crate::digest::Digest;
 use crate::pieces::{AccountEncoder, OfferEncoder, TxEncoder, add_entries, add_written};
 use sha2::{Digest as Hasher, Sha256};
 use std::alloc::Global;
+use sx_block::Digest;
 use sx_bytes::{NoMemory, Writer};
 use sx_ledger::Ledger;
 use sx_record::tag;
