@@ -7,6 +7,7 @@ pub mod Refusals
 pub mod InPlace
 pub mod Places
 pub mod Merging
+pub mod SortNumbers
 pub mod OffersAfter
 pub mod Cancelled
 pub mod PostedUnits

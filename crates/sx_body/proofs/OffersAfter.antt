@@ -4,7 +4,6 @@ use Rattle.std.proofs.Common.{drop, Some, None, refl, sym, ap, subst, ◌∙◌}
 use Rattle.std.specs.Prelude.{All, slice_get}
 use Rattle.std.specs.List.{filter, list_any}
 use Rattle.std.specs.List.Sorted.{IsPermutation, IsSortedByKey}
-use Rattle.std.specs.declared.cmp.Ordering.{Ordering}
 use Rattle.std.proofs.lemmas.List.{drop_more, nil_from_length}
 use Rattle.std.proofs.lemmas.List.Elements.{All-get_or}
 use Rattle.std.proofs.lemmas.List.Sorted.{IsPermutation-append_left, IsPermutation-sym, IsPermutation-trans}
@@ -14,8 +13,6 @@ use Rattle.sx_body.specs.Merging.{merged}
 use Rattle.sx_body.specs.Tally.{AreFlags}
 use Rattle.sx_body.proofs.Merging.{merged_moves, merged_sorted}
 use Rattle.sx_body.proofs.SameOrder.{one_list, put_all_moves}
-use Rattle.sx_ledger.specs.contracts.key.KeyOrd.TheImpl as derived
-use Rattle.sx_ledger.specs.declared.key.Key.{Key}
 use Rattle.sx_ledger.specs.declared.offer.Offer.{Offer}
 use Rattle.sx_ledger.specs.declared.parts.Parts.{Parts}
 use Rattle.sx_ledger.specs.Body.{IsAdmissibleIn, cancelled, kept_offers, made, offers_after, put_offers}
@@ -23,7 +20,7 @@ use Rattle.sx_ledger.specs.Ledger.{IsLedger}
 use Rattle.sx_ledger.specs.Order.{key_before, key_cmp, key_of, same_key}
 use Rattle.sx_ledger.proofs.BodyKeepsLedger.{keys_in_order}
 use Rattle.sx_ledger.proofs.Insertion.{filter_in_order, put_offers_are}
-use Rattle.sx_ledger.proofs.KeyOrder.{before_both, before_differs, key_cmp_derived, key_cmp_total}
+use Rattle.sx_ledger.proofs.KeyOrder.{before_both, before_differs, key_cmp_total}
 use Rattle.sx_ledger.proofs.KeyOrder.{same_key_from, same_key_is}
 use Rattle.sx_tx.specs.declared.tx.Tx.{Tx}
 
@@ -84,12 +81,6 @@ offers_stay parts txs flags are none no_more =
     ∙ ap (λ (new : List Offer). put_offers new (kept_offers parts.offers txs)) (sym (nil_from_length (made txs) no_more))
 
 -- ---- the offers after the body
-
-pub sorted_offers : (offers : List Offer) → IsSortedByKey key_of derived.ghosts.cmp offers
-    → IsSortedByKey key_of key_cmp offers
-sorted_offers offers sorted =
-    let same : derived.ghosts.cmp ≡ key_cmp = λ i one other. key_cmp_derived one other i in
-    subst (λ (R : Key → Key → Ordering). IsSortedByKey key_of R offers) same sorted
 
 rising : (offers : List Offer) → IsSortedByKey key_of key_cmp offers → (i j : ℕ) (d : Offer) → i ≤ j
     → j < length offers → key_before (key_of (get_or offers j d)) (key_of (get_or offers i d)) ≡ false

@@ -8,3 +8,4 @@ pub mod Overdraft
 pub mod Accounts
 pub mod Merging
 pub mod OfferChanges
+pub mod SortNumbers

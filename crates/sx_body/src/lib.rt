@@ -48,6 +48,7 @@ mod postings;
 mod prechecking;
 mod ranges;
 mod repeats;
+mod sorting;
 mod sums;
 mod tally;
 mod units;

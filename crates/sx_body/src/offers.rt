@@ -3,15 +3,14 @@
 ghost use Rattle.std.specs.Prelude.{◌≡◌, ◌++◌, [], ◌∷◌, List, length, drop, take, All, Bool, false, not, if◌then◌else◌, IfOk, OnOk};
 ghost use Rattle.std.specs.Bool.{OnTrue};
 ghost use Rattle.std.specs.List.{filter};
-ghost use Rattle.std.specs.List.Sorted.{IsPermutation, IsSortedByKey};
 ghost use Rattle.sx_body.specs.Merging.{count_before, merged};
 ghost use Rattle.sx_body.specs.OfferChanges.{changed_by};
 ghost use Rattle.sx_body.specs.Tally.{AreFlags, IsTally, IsTallyFor};
 ghost use Rattle.sx_ledger.specs.declared.offer.Offer.{Offer as OneOffer};
 ghost use Rattle.sx_ledger.specs.Body.{IsAdmissibleIn, offers_after as all_after};
-ghost use Rattle.sx_ledger.specs.Order.{key_cmp, key_of};
 ghost use Rattle.sx_tx.specs.declared.tx.Tx.{Tx as Transaction};
 
+use crate::sorting::sorted_copy;
 use crate::tally::Tally;
 use std::alloc::Global;
 use sx_bytes::NoMemory;
@@ -47,16 +46,6 @@ impl OfferChange {
             OfferChange::To(after) => after,
         }
     }
-}
-
-// A copy of these offers, in order of their keys.
-fn sorted_copy(alloc: Global, offers: &[Offer]) -> Result<Vec<Offer>, NoMemory>
-    ensures all { IfOk result (λ copy. IsPermutation offers.now copy.items) }
-    ensures sorted { IfOk result (λ copy. IsSortedByKey key_of key_cmp copy.items) }
-{
-    let mut copy = Vec::from_slice(alloc, offers)?;
-    copy.sort_unstable_by_key(|offer| offer.key());
-    Ok(copy)
 }
 
 // Pushes the made offers, from the first one on, that stand before this offer. Answers those that are left.
