@@ -10,7 +10,7 @@ use crate::tallying::tally_of;
 use crate::trading::execute;
 use std::alloc::Global;
 use sx_block::{Block, Header};
-use sx_body::{apply_accounts, offers_after};
+use sx_after::{apply_accounts, offers_after};
 use sx_bytes::NoMemory;
 use sx_ledger::Ledger;
 use sx_tx::Tx;

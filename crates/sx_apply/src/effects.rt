@@ -1,6 +1,7 @@
 //! What a block does, as it is found while the block is judged.
 
-use sx_body::{OfferChange, Tally};
+use sx_after::OfferChange;
+use sx_body::Tally;
 use sx_ledger::Fills;
 
 /// What a block does to a ledger, as it is found while the block is judged: what its transactions do, what they change

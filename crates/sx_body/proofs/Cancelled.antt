@@ -1,16 +1,16 @@
 -- Which offers are cancelled, with one transaction more.
-use Rattle.std.proofs.Common.{◌≡◌, ◌≢◌, ℕ, zero, suc, ◌<◌, Bool, true, false, ◌||◌, List, [], ◌∷◌, ◌++◌, length, set}
-use Rattle.std.proofs.Common.{get_or, Option, None, Some, inl, inr, refl, sym, ap, ◌∙◌, arith}
+use Rattle.std.proofs.Common.{◌≡◌, ℕ, ◌<◌, Bool, true, false, ◌||◌, List, [], ◌∷◌, ◌++◌, length, set}
+use Rattle.std.proofs.Common.{get_or, None, Some, inl, inr, refl, sym, ap, ◌∙◌, arith}
 use Rattle.std.specs.Prelude.{slice_get}
 use Rattle.std.specs.List.{list_any}
 use Rattle.std.specs.Option.{option_map}
-use Rattle.std.proofs.lemmas.Bool.{and_parts, cases_eq, false_from_ne_true, or_right}
+use Rattle.std.proofs.lemmas.Bool.{cases_eq, or_right}
 use Rattle.std.proofs.lemmas.Grind.{get_or-set_at}
 use Rattle.std.proofs.lemmas.List.{get_or-set_other, length-map, length-set}
 use Rattle.std.proofs.lemmas.List.Folds.{list_any-append}
-use Rattle.std.proofs.lemmas.Option.{get_or_from_slice_get, none-some, same_Some, slice_get-get_or, slice_get-map}
+use Rattle.std.proofs.lemmas.Option.{get_or_from_slice_get, slice_get-get_or, slice_get-map}
 use Rattle.std.proofs.lemmas.Option.{slice_get_within}
-use Rattle.sx_bytes.specs.Grammar.{in_order, may_follow}
+use Rattle.sx_bytes.specs.Grammar.{in_order}
 use Rattle.sx_body.specs.Repeats.{cancels}
 use Rattle.sx_body.specs.Tally.{AreFlags}
 use Rattle.sx_body.proofs.Repeated.{done_more, done_none}
@@ -23,8 +23,9 @@ use Rattle.sx_ledger.specs.Body.{cancelled, cancelled_by}
 use Rattle.sx_ledger.specs.Ledger.{keys}
 use Rattle.sx_ledger.specs.Order.{key_before, key_of, same_key}
 use Rattle.sx_ledger.specs.Places.{IsTarget}
-use Rattle.sx_ledger.proofs.KeyOrder.{before_both, before_differs, same_key_from, same_key_is}
+use Rattle.sx_ledger.proofs.KeyOrder.{same_key_from}
 use Rattle.sx_ledger.proofs.Lookup.{entry_at, mark_is}
+use Rattle.sx_postings.proofs.KeysApart.{keys_apart}
 use Rattle.sx_tx.specs.declared.kind.Kind.{Kind}
 use Rattle.sx_tx.specs.declared.kind.Kind.TheVariants as kind
 use Rattle.sx_tx.specs.declared.tx.Tx.{Tx}
@@ -66,40 +67,6 @@ pub none_more : (offers : List Offer) (before : List Tx) (tx : Tx) (flags : List
 none_more offers before tx flags nothing was place offer there =
     was place offer there
     ∙ ap (λ (ks : List Key). Some (list_any (same_key (key_of offer)) ks)) (sym (done_none cancels before tx nothing))
-
--- ---- keys in order differ
-
-pub before_later : (k : Key) (ks : List Key) (place : ℕ) (key : Key) → in_order key_before (Some k) ks ≡ true
-    → slice_get ks place ≡ Some key → key_before k key ≡ true
-before_later k [] place key ordered there = absurd (none-some key there)
-before_later k (first ∷ ks) zero key ordered there =
-    ap (key_before k) (sym (same_Some first key there)) ∙
-    (and_parts (key_before k first) (in_order key_before (Some first) ks) ordered).0
-before_later k (first ∷ ks) (suc place) key ordered there =
-    let both = and_parts (key_before k first) (in_order key_before (Some first) ks) ordered in
-    before_both k first key both.0 (before_later first ks place key both.1 there)
-
-pub keys_apart : (previous : Option Key) (ks : List Key) (p q : ℕ) (one other : Key)
-    → in_order key_before previous ks ≡ true → slice_get ks p ≡ Some one → slice_get ks q ≡ Some other → p ≢ q
-    → same_key one other ≡ false
-keys_apart previous [] p q one other ordered here there differ = absurd (none-some one here)
-keys_apart previous (k ∷ ks) zero zero one other ordered here there differ = absurd (differ refl)
-keys_apart previous (k ∷ ks) zero (suc q) one other ordered here there differ =
-    let both = and_parts (may_follow key_before previous k) (in_order key_before (Some k) ks) ordered in
-    let before : key_before one other ≡ true =
-    ap (λ (x : Key). key_before x other) (sym (same_Some k one here)) ∙ before_later k ks q other both.1 there in
-    false_from_ne_true (same_key one other) (λ e.
-    let differs : same_key other one ≡ false = before_differs one other before in
-    let same : same_key other one ≡ true = same_key_from other one (sym (same_key_is one other e)) in
-    absurd cc)
-keys_apart previous (k ∷ ks) (suc p) zero one other ordered here there differ =
-    let both = and_parts (may_follow key_before previous k) (in_order key_before (Some k) ks) ordered in
-    let before : key_before other one ≡ true =
-    ap (λ (x : Key). key_before x one) (sym (same_Some k other there)) ∙ before_later k ks p one both.1 here in
-    before_differs other one before
-keys_apart previous (k ∷ ks) (suc p) (suc q) one other ordered here there differ =
-    let both = and_parts (may_follow key_before previous k) (in_order key_before (Some k) ks) ordered in
-    keys_apart (Some k) ks p q one other both.1 here there (λ e. differ (ap suc e))
 
 -- ---- the flags
 

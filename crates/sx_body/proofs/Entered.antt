@@ -11,9 +11,9 @@ use Rattle.std.proofs.lemmas.List.{get_or-set_other, length-map}
 use Rattle.std.proofs.lemmas.List.Elements.{All-head, All-tail}
 use Rattle.std.proofs.lemmas.Option.{none-some, same_Some, slice_get-get_or, slice_get-map, slice_get_within}
 use Rattle.sx_body.specs.declared.tally.Tally.{Tally}
-use Rattle.sx_body.specs.declared.pending.Pending.{Pending}
-use Rattle.sx_body.specs.declared.entry.Entry.{Entry}
-use Rattle.sx_body.specs.Postings.{AreWithin, CanPost, HasRows, IsNonePending, credit_at, debit_at, units_in}
+use Rattle.sx_postings.specs.declared.pending.Pending.{Pending}
+use Rattle.sx_postings.specs.declared.entry.Entry.{Entry}
+use Rattle.sx_postings.specs.Postings.{AreWithin, CanPost, HasRows, IsNonePending, credit_at, debit_at, units_in}
 use Rattle.sx_body.specs.Repeats.{IsRepeat}
 use Rattle.sx_body.specs.Tally.{HasUsed, IsTally, IsTallyWithPending}
 use Rattle.sx_body.proofs.UsedNumbers.{marked, not_marked}

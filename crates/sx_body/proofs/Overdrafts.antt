@@ -13,7 +13,7 @@ use Rattle.sx_body.specs.declared.overdraft.Overdraft.{Overdraft}
 use Rattle.sx_body.specs.declared.tally.Tally.{Tally}
 use Rattle.sx_body.specs.Overdraft.{AreCovered, CoversAt, IsFirstFrom, IsFirstOverdrawn, IsOverdraftAt, NoneOverdrawn}
 use Rattle.sx_body.specs.Overdraft.{may_spend}
-use Rattle.sx_body.specs.Postings.{credit_at, debit_at}
+use Rattle.sx_postings.specs.Postings.{credit_at, debit_at}
 use Rattle.sx_body.specs.Tally.{IsTally}
 use Rattle.sx_ledger.specs.declared.account.Account.{Account}
 use Rattle.sx_ledger.specs.declared.parts.Parts.{Parts}

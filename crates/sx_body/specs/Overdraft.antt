@@ -1,8 +1,8 @@
 -- Accounts whose debits are above what they may spend.
 use Rattle.std.specs.Prelude.{◌≡◌, ℕ, ◌+◌, ◌<◌, ◌≤◌, List, length, slice_index, slice_get, Some, ◌==◌, if◌then◌else◌}
 use Rattle.sx_body.specs.declared.overdraft.Overdraft.{Overdraft}
-use Rattle.sx_body.specs.declared.postings.Postings.{Postings}
-use Rattle.sx_body.specs.Postings.{credit_at, debit_at}
+use Rattle.sx_postings.specs.declared.postings.Postings.{Postings}
+use Rattle.sx_postings.specs.Postings.{credit_at, debit_at}
 use Rattle.sx_ledger.specs.declared.account.Account.{Account}
 use Rattle.sx_ledger.specs.declared.parts.Parts.{Parts}
 use Rattle.sx_ledger.specs.Body.{holding_of, spendable}

@@ -6,8 +6,8 @@ use Rattle.std.specs.Ordering.{nat_cmp}
 use Rattle.sx_body.specs.declared.cancellations.Cancellations.{Cancellations}
 use Rattle.sx_body.specs.declared.creations.Creations.{Creations}
 use Rattle.sx_body.specs.declared.tally.Tally.{Tally}
-use Rattle.sx_body.specs.declared.pending.Pending.{Pending}
-use Rattle.sx_body.specs.Postings.{HasPostings, HasPostingsWithPending, HasRows}
+use Rattle.sx_postings.specs.declared.pending.Pending.{Pending}
+use Rattle.sx_postings.specs.Postings.{HasPostings, HasPostingsWithPending, HasRows}
 use Rattle.sx_body.specs.Repeats.{IsRepeat, cancels, creates}
 use Rattle.sx_ledger.specs.declared.account.Account.{Account}
 use Rattle.sx_ledger.specs.declared.offer.Offer.{Offer}

@@ -1,4 +1,4 @@
-//! What a body of transactions does to the accounts and offers of a ledger.
+//! What a body of transactions does to the accounts and offers of a ledger, added up.
 //!
 //! [`precheck`] goes over the transactions once. It answers the first that the ledger refuses by itself,
 //! or, where none is, a [`Tally`] of what all of them do: debits and credits, the sequence numbers that
@@ -15,49 +15,27 @@
 //! [`Tally::par_first_overdraft`] answers the same, and has each of several threads look at a part of the
 //! accounts. Only it and [`par_precheck`] start threads.
 //!
-//! [`offers_after`] answers what an admissible body changes the offers to, and [`apply_accounts`] the ledger after
-//! it: exactly those of the definitions of `sx_ledger`. [`apply_to_account`] makes one account what it is
-//! after the body, and [`complete_accounts`] the ledger once each account is so, for callers that change
-//! many accounts at the same time.
-//!
 //! Each payee and each cancelled offer is searched for once, and an account once where its transactions
-//! stand together. Only accounts that are debited or credited have sums of their own, and only their
-//! balances are read and changed, in place. A sum takes 8 bytes as long as all amounts together are below
-//! 2^64, and 16 bytes from then on. Of the accounts only those that are created are sorted, and one pass puts
-//! them among the others, in the memory of these. Of the offers only those that are made are sorted, and one
-//! pass puts them among those that are kept. Where none is made or cancelled, [`OfferChange`] says so, and the
-//! offers stay where they are.
+//! stand together. Only accounts that are debited or credited have sums of their own (`sx_postings`), and only
+//! their balances are read.
 //!
-//! Not here: whether transactions stand in order, and what trades afterwards.
+//! Not here: what the body leaves of the accounts and offers (`sx_after`), whether transactions stand in order, and
+//! what trades afterwards.
 #![tactic(auto)]
 
-mod accounts;
-mod applying;
 mod cancellations;
-mod created;
 mod creations;
-mod entries;
-mod entry;
 mod kinds;
 mod laws;
 mod lookup;
-mod offers;
 mod overdraft;
-mod pending;
-mod postings;
 mod prechecking;
 mod ranges;
 mod repeats;
-mod sorting;
-mod sums;
 mod tally;
-mod units;
 mod used;
 
-pub use accounts::apply_to_account;
-pub use applying::{apply_accounts, complete_accounts};
 pub use laws::refusal_laws;
-pub use offers::{OfferChange, offers_after};
 pub use overdraft::Overdraft;
 pub use prechecking::{PrecheckFault, par_precheck, precheck};
 pub use tally::Tally;

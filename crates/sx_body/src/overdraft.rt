@@ -5,16 +5,16 @@ ghost use Rattle.std.specs.Prelude.{IfNone, Some};
 ghost use Rattle.std.specs.Thread.{IsSync};
 ghost use Rattle.sx_body.specs.Overdraft.{AreCovered, CoversAt, CoversBelow, IsFirstFrom, IsFirstOverdrawn};
 ghost use Rattle.sx_body.specs.Overdraft.{IsOverdraftAt, IsOverdraftOf, NoneOverdrawn, may_spend};
-ghost use Rattle.sx_body.specs.Postings.{HasRows, credit_at, debit_at};
+ghost use Rattle.sx_postings.specs.Postings.{HasRows, credit_at, debit_at};
 ghost use Rattle.sx_body.specs.Tally.{IsTally, IsTallyFor};
 ghost use Rattle.sx_tx.specs.declared.tx.Tx.{Tx as Transaction};
 
-use crate::postings::Postings;
 use crate::tally::Tally;
 use std::thread::Threads;
 use sx_base::{AccountId, AssetId};
 use sx_fork::fork;
 use sx_ledger::{Account, Ledger};
+use sx_postings::Postings;
 
 // How many accounts are worth a thread of their own. To look at them takes a millisecond, and to start a thread a small
 // part of that.

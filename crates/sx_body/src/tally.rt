@@ -2,7 +2,7 @@
 
 ghost use Rattle.std.specs.Prelude.{◌≡◌, ◌++◌, [], ◌∷◌, List, Ok, nat_eq, length, IfNone, IfOk, IfSome, OnOk};
 ghost use Rattle.std.specs.List.{IsDistinct};
-ghost use Rattle.sx_body.specs.Postings.{CanPost, IsNonePending, credit_at, debit_at};
+ghost use Rattle.sx_postings.specs.Postings.{CanPost, IsNonePending, credit_at, debit_at};
 ghost use Rattle.sx_body.specs.Repeats.{IsFirstRepeat, cancels, creates};
 ghost use Rattle.sx_body.specs.Tally.{IsTally, IsTallyFor, IsTallyWithPending};
 ghost use Rattle.sx_ledger.specs.declared.parts.Parts.{Parts as Ledgers};
@@ -15,15 +15,13 @@ ghost use Rattle.sx_tx.specs.declared.tx.Tx.{Tx as Transaction};
 
 use crate::cancellations::Cancellations;
 use crate::creations::Creations;
-use crate::entries::hold;
 use crate::kinds::made_offer;
-use crate::pending::Pending;
-use crate::postings::Postings;
 use crate::ranges::tx_ranges;
 use crate::used::mark;
 use std::alloc::Global;
 use sx_bytes::NoMemory;
 use sx_ledger::{Ledger, Offer, Places};
+use sx_postings::{Pending, Postings, hold};
 use sx_tx::Tx;
 
 /// What transactions do to a ledger, added up: the debits and credits of each account and asset, the
@@ -147,5 +145,40 @@ impl Tally {
             → result ≡ length (made_in txs) }
     {
         self.made.len()
+    }
+
+    /// The debits and credits, of the accounts at their places.
+    pub fn postings(&self) -> &Postings
+        ensures { result.now ≡ self.now.postings }
+    {
+        &self.postings
+    }
+
+    /// For each account the map of the sequence numbers that it uses, at its place.
+    pub fn used(&self) -> &[u64]
+        ensures { result.now ≡ self.now.used.items }
+    {
+        &self.used
+    }
+
+    /// For each offer of the ledger whether it is cancelled, at its place.
+    pub fn cancelled_flags(&self) -> &[bool]
+        ensures { result.now ≡ self.now.cancellations.flags.items }
+    {
+        &self.cancellations.flags
+    }
+
+    /// The ids of the accounts that are created, in the order of their transactions.
+    pub fn created_ids(&self) -> &[u64]
+        ensures { result.now ≡ self.now.creations.ids.items }
+    {
+        &self.creations.ids
+    }
+
+    /// The offers that are made, in the order of their transactions.
+    pub fn made_offers(&self) -> &[Offer]
+        ensures { result.now ≡ self.now.made.items }
+    {
+        &self.made
     }
 }

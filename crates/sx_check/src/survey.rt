@@ -6,7 +6,8 @@ ghost use Rattle.sx_check.specs.Surveys.{IsSurvey};
 
 use std::alloc::Global;
 use std::thread::Threads;
-use sx_body::{OfferChange, PrecheckFault, Tally, offers_after, par_precheck, precheck};
+use sx_after::{OfferChange, offers_after};
+use sx_body::{PrecheckFault, Tally, par_precheck, precheck};
 use sx_ledger::Ledger;
 use sx_tx::Tx;
 

@@ -14,10 +14,10 @@ ghost use Rattle.sx_tx.specs.declared.tx.Tx.{Tx};
 
 use std::alloc::Global;
 use std::thread::Threads;
+use sx_after::apply_accounts;
 use sx_apply::execute;
 use sx_base::Balances;
 use sx_block::Digest;
-use sx_body::apply_accounts;
 use sx_bytes::NoMemory;
 use sx_digests::{ledger_digest, par_ledger_digest};
 use sx_discovery::{Body, digest_of_parent};

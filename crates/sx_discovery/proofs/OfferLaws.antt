@@ -6,7 +6,7 @@ use Rattle.std.proofs.lemmas.List.Elements.{All-map}
 use Rattle.std.proofs.lemmas.List.Sums.{sum_by-cons}
 use Rattle.sx_apply.specs.Bounds.{AreOffers}
 use Rattle.sx_apply.proofs.BoundLaws.{ledger_offers}
-use Rattle.sx_body.specs.OfferChanges.{changed_by}
+use Rattle.sx_after.specs.OfferChanges.{changed_by}
 use Rattle.sx_discovery.specs.declared.body.Body.{Body}
 use Rattle.sx_discovery.specs.Found.{IsBodyOf}
 use Rattle.sx_discovery.specs.Quotes.{quote_of, quotes_of}

@@ -15,7 +15,7 @@ use Rattle.std.proofs.lemmas.Cmp.{tied_itself}
 use Rattle.std.proofs.lemmas.List.Elements.{Contains-get_or}
 use Rattle.std.proofs.lemmas.List.Sorted.{Contains-permutation, IsPermutation-sym, IsPermutation-trans, ranks_by}
 use Rattle.std.proofs.lemmas.List.Sorted.{sorted_far}
-use Rattle.sx_body.proofs.SameOrder.{one_list, put_all_moves, same_order}
+use Rattle.sx_postings.proofs.SameOrder.{one_list, put_all_moves, same_order}
 use Rattle.sx_bytes.specs.Grammar.{in_order, may_follow}
 use Rattle.sx_kept.specs.Kept.{same_number}
 use Rattle.sx_kept.proofs.Counts.{contains_in, in_contains, times}

@@ -2,7 +2,7 @@ use Rattle.std.proofs.Common.{◌≡◌, ℕ, ◌≤◌, inl, inr, sym, subst, a
 use Rattle.std.specs.Prelude.{slice_index}
 use Rattle.std.proofs.lemmas.Bool.{cases_lt, ltb-false}
 use Rattle.sx_body.specs.Overdraft.{may_spend}
-use Rattle.sx_body.specs.Postings.{credit_at, debit_at}
+use Rattle.sx_postings.specs.Postings.{credit_at, debit_at}
 use Rattle.sx_body.proofs.overdraft.overdrawn_asset.Goals as goal
 
 pub loop-asset-preserved : goal.loop-asset-preserved

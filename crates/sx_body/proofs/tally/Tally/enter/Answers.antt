@@ -6,7 +6,7 @@ use Rattle.std.proofs.lemmas.Option.{slice_get_within}
 use Rattle.sx_body.specs.Tally.{HasUsed}
 use Rattle.sx_body.proofs.Cancelled.{cancels_at}
 use Rattle.sx_body.proofs.Entered.{number_is_open, one_passes, used_more}
-use Rattle.sx_body.proofs.PostedUnits.{when_ok}
+use Rattle.sx_postings.proofs.PostedUnits.{when_ok}
 use Rattle.sx_body.proofs.tally.Tally.enter.Goals as goal
 use Rattle.sx_ledger.specs.Ledger.{ids, keys}
 use Rattle.sx_ledger.specs.Order.{key_of}

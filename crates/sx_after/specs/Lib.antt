@@ -1,0 +1,4 @@
+pub mod Accounts
+pub mod Merging
+pub mod OfferChanges
+pub mod SortNumbers
