@@ -4,4 +4,3 @@ pub mod Refusals
 pub mod Cancelled
 pub mod Entered
 pub mod Overdrafts
-pub mod KnownParts

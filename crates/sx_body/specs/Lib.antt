@@ -1,5 +1,4 @@
 pub mod Repeats
 pub mod Tally
 pub mod Refusal
-pub mod Known
 pub mod Overdraft

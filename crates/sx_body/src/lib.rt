@@ -15,19 +15,16 @@
 //! [`Tally::par_first_overdraft`] answers the same, and has each of several threads look at a part of the
 //! accounts. Only it and [`par_precheck`] start threads.
 //!
-//! Each payee and each cancelled offer is searched for once, and an account once where its transactions
-//! stand together. Only accounts that are debited or credited have sums of their own (`sx_postings`), and only
-//! their balances are read.
+//! Only accounts that are debited or credited have sums of their own, and only their balances are read.
 //!
-//! Not here: what the body leaves of the accounts and offers (`sx_after`), whether transactions stand in order, and
-//! what trades afterwards.
+//! Not here: how places are looked up and debits and credits are added up (`sx_postings`), what the body leaves of the
+//! accounts and offers (`sx_after`), whether transactions stand in order, and what trades afterwards.
 #![tactic(auto)]
 
 mod cancellations;
 mod creations;
 mod kinds;
 mod laws;
-mod lookup;
 mod overdraft;
 mod prechecking;
 mod ranges;

@@ -2,7 +2,7 @@
 
 ghost use Rattle.std.specs.Prelude.{◌≡◌, ◌+◌, ◌<◌, ◌≤◌, [], Err, IfErr, IfOk, IfSome, OnOk, length, slice_index_or, take};
 ghost use Rattle.sx_body.specs.declared.prechecking.PrecheckFault.TheVariants as precheck_fault;
-ghost use Rattle.sx_body.specs.Known.{AreKnown, HasPlaces};
+ghost use Rattle.sx_postings.specs.Known.{AreKnown, HasPlaces};
 ghost use Rattle.sx_body.specs.Refusal.{IsPrecheckFault};
 ghost use Rattle.sx_postings.specs.Postings.{IsNonePending};
 ghost use Rattle.sx_body.specs.Tally.{IsTally, IsTallyWithPending};
@@ -10,7 +10,6 @@ ghost use Rattle.sx_ledger.specs.Ledger.{IsLedger, ids};
 ghost use Rattle.sx_ledger.specs.Static.{static_of};
 ghost use Rattle.sx_tx.specs.declared.tx.Tx.{Tx as Transaction};
 
-use crate::lookup::{look_up, look_up_part};
 use crate::tally::Tally;
 use std::alloc::Global;
 use std::mem;
@@ -18,7 +17,7 @@ use std::thread::Threads;
 use sx_bytes::NoMemory;
 use sx_fork::fork_mut;
 use sx_ledger::{Ledger, LedgerIndex, Places, Static};
-use sx_postings::Pending;
+use sx_postings::{Pending, look_up, look_up_part};
 use sx_tx::Tx;
 use thiserror::Error;
 

@@ -1,3 +1,4 @@
+pub mod KnownParts
 pub mod SameOrder
 pub mod SumUnits
 pub mod Rows

@@ -1,6 +1,6 @@
 use Rattle.std.proofs.Common.{◌≡◌, ◌+◌, ◌-◌, ◌≤◌, ℕ, List, Option, drop, get_or, length, subst, take, ◌∙◌, arith}
 use Rattle.std.proofs.lemmas.List.{get_or-drop, get_or-take, length-drop, length-take-le}
-use Rattle.sx_body.specs.Known.{AreKnown}
+use Rattle.sx_postings.specs.Known.{AreKnown}
 use Rattle.sx_body.specs.Tally.{IsTally}
 use Rattle.sx_body.proofs.prechecking.enter_known.Goals as goal
 use Rattle.sx_ledger.specs.declared.parts.Parts.{Parts}

@@ -1,5 +1,5 @@
 use Rattle.std.proofs.Common.{◌<◌, ◌≤◌, ◌+◌, ◌-◌, length, take}
-use Rattle.sx_body.specs.Known.{AreKnown}
+use Rattle.sx_postings.specs.Known.{AreKnown}
 use Rattle.sx_postings.specs.Postings.{IsNonePending}
 use Rattle.sx_body.specs.Tally.{IsTally}
 use Rattle.sx_body.proofs.prechecking.enter_pieces.Given as goal

@@ -2,7 +2,7 @@
 
 ghost use Rattle.std.specs.Prelude.{◌≡◌, ◌+◌, ◌≤◌, IfSome, length};
 ghost use Rattle.std.specs.Thread.{IsSync};
-ghost use Rattle.sx_body.specs.Known.{AreKnown, HasPlaces};
+ghost use Rattle.sx_postings.specs.Known.{AreKnown, HasPlaces};
 ghost use Rattle.sx_ledger.specs.Ledger.{ids};
 
 use std::thread::Threads;
@@ -22,9 +22,9 @@ fn look_up_one(ledger: &Ledger, index: &LedgerIndex, near: u32, tx: &Tx) -> Opti
     ledger.places_of(index, near, tx).ok()
 }
 
-// Looks up the places of transactions one after another, from an index on. Each account is looked for near the one
-// before it.
-pub(crate) fn look_up_part(
+/// Looks up the places of transactions one after another, from an index on. Each account is looked for near the one
+/// before it.
+pub fn look_up_part(
     ledger: &Ledger,
     index: &LedgerIndex,
     txs: &[Tx],
@@ -87,8 +87,8 @@ fn look_up_by<R: Threads + Sync>(
     );
 }
 
-// Looks up the places of transactions from an index on, in at most so many threads.
-pub(crate) fn look_up<R: Threads + Sync>(
+/// Looks up the places of transactions from an index on, in at most so many threads.
+pub fn look_up<R: Threads + Sync>(
     rt: &R,
     ledger: &Ledger,
     index: &LedgerIndex,

@@ -1,5 +1,5 @@
 use Rattle.std.proofs.Common.{◌+◌, ◌*◌}
-use Rattle.sx_body.proofs.lookup.+fn-look_up_by-fork_mut+arg4+look_up_by.Given as goal
+use Rattle.sx_postings.proofs.lookup.+fn-look_up_by-fork_mut+arg4+look_up_by.Given as goal
 
 -- each call leaves the rest to one thread less
 abbrev pub decreases-look_up_by : goal.decreases-look_up_by

@@ -3,7 +3,7 @@ use Rattle.std.proofs.Common.{ℕ, ◌+◌, ◌-◌, List, ◌++◌, length, Opt
 use mathlib.Core.Logic.{⊎_elim}
 use Rattle.std.proofs.lemmas.Bool.{cases_lt}
 use Rattle.std.proofs.lemmas.List.{get_or_append_left, get_or-append_right, length-append}
-use Rattle.sx_body.specs.Known.{AreKnown, HasPlaces}
+use Rattle.sx_postings.specs.Known.{AreKnown, HasPlaces}
 use Rattle.sx_ledger.specs.declared.parts.Parts.{Parts}
 use Rattle.sx_ledger.specs.declared.places.Places.{Places}
 use Rattle.sx_tx.specs.declared.tx.Tx.{Tx}

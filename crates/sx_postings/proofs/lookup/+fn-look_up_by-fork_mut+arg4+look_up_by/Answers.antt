@@ -1,7 +1,7 @@
 use Rattle.std.proofs.Common.{◌≡◌, ◌+◌, length, subst, sym, rules}
-use Rattle.sx_body.specs.Known.{AreKnown}
-use Rattle.sx_body.proofs.KnownParts.{known_both}
-use Rattle.sx_body.proofs.lookup.+fn-look_up_by-fork_mut+arg4+look_up_by.Goals as goal
+use Rattle.sx_postings.specs.Known.{AreKnown}
+use Rattle.sx_postings.proofs.KnownParts.{known_both}
+use Rattle.sx_postings.proofs.lookup.+fn-look_up_by-fork_mut+arg4+look_up_by.Goals as goal
 
 pub returns-clause-known : goal.returns-clause-known
 returns-clause-known g t c =

@@ -1,7 +1,7 @@
 use Rattle.std.proofs.Common.{◌≡◌, ◌+◌, ◌<◌, ℕ, IfSome, Option, length}
 use Rattle.std.specs.Prelude.{slice_index_or}
-use Rattle.sx_body.specs.Known.{HasPlaces}
-use Rattle.sx_body.proofs.lookup.look_up_part.Given as goal
+use Rattle.sx_postings.specs.Known.{HasPlaces}
+use Rattle.sx_postings.proofs.lookup.look_up_part.Given as goal
 use Rattle.sx_ledger.specs.declared.places.Places.{Places}
 use Rattle.sx_tx.specs.declared.tx.Tx.{Tx}
 
