@@ -10,7 +10,7 @@ use Rattle.std.proofs.lemmas.List.Sorted.{IsPermutation-append_left, IsPermutati
 use Rattle.std.proofs.lemmas.List.Sorted.{ranks_by, sorted_far}
 use Rattle.std.proofs.lemmas.Option.{get_or_from_slice_get, same_Some, slice_get-get_or, slice_get_within}
 use Rattle.sx_after.specs.Merging.{merged}
-use Rattle.sx_body.specs.Tally.{AreFlags}
+use Rattle.sx_postings.specs.Changes.{AreFlags}
 use Rattle.sx_after.proofs.Merging.{merged_moves, merged_sorted}
 use Rattle.sx_postings.proofs.SameOrder.{one_list, put_all_moves}
 use Rattle.sx_ledger.specs.declared.offer.Offer.{Offer}

@@ -14,7 +14,7 @@ use Rattle.sx_body.specs.declared.tally.Tally.{Tally}
 use Rattle.sx_postings.specs.declared.pending.Pending.{Pending}
 use Rattle.sx_postings.specs.declared.entry.Entry.{Entry}
 use Rattle.sx_postings.specs.Postings.{AreWithin, CanPost, HasRows, IsNonePending, credit_at, debit_at, units_in}
-use Rattle.sx_body.specs.Repeats.{IsRepeat}
+use Rattle.sx_postings.specs.Repeats.{IsRepeat}
 use Rattle.sx_body.specs.Tally.{HasUsed, IsTally, IsTallyWithPending}
 use Rattle.sx_body.proofs.UsedNumbers.{marked, not_marked}
 use Rattle.sx_ledger.specs.declared.account.Account.{Account}

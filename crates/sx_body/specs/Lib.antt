@@ -1,4 +1,3 @@
-pub mod Repeats
 pub mod Tally
 pub mod Refusal
 pub mod Overdraft

@@ -21,16 +21,10 @@
 //! accounts and offers (`sx_after`), whether transactions stand in order, and what trades afterwards.
 #![tactic(auto)]
 
-mod cancellations;
-mod creations;
-mod kinds;
 mod laws;
 mod overdraft;
 mod prechecking;
-mod ranges;
-mod repeats;
 mod tally;
-mod used;
 
 pub use laws::refusal_laws;
 pub use overdraft::Overdraft;

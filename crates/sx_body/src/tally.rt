@@ -3,7 +3,7 @@
 ghost use Rattle.std.specs.Prelude.{◌≡◌, ◌++◌, [], ◌∷◌, List, Ok, nat_eq, length, IfNone, IfOk, IfSome, OnOk};
 ghost use Rattle.std.specs.List.{IsDistinct};
 ghost use Rattle.sx_postings.specs.Postings.{CanPost, IsNonePending, credit_at, debit_at};
-ghost use Rattle.sx_body.specs.Repeats.{IsFirstRepeat, cancels, creates};
+ghost use Rattle.sx_postings.specs.Repeats.{IsFirstRepeat, cancels, creates};
 ghost use Rattle.sx_body.specs.Tally.{IsTally, IsTallyFor, IsTallyWithPending};
 ghost use Rattle.sx_ledger.specs.declared.parts.Parts.{Parts as Ledgers};
 ghost use Rattle.sx_ledger.specs.Body.{cancelled, created as created_in, made as made_in};
@@ -13,15 +13,12 @@ ghost use Rattle.sx_ledger.specs.Places.{ArePlaces};
 ghost use Rattle.sx_ledger.specs.Static.{static_of};
 ghost use Rattle.sx_tx.specs.declared.tx.Tx.{Tx as Transaction};
 
-use crate::cancellations::Cancellations;
-use crate::creations::Creations;
-use crate::kinds::made_offer;
-use crate::ranges::tx_ranges;
-use crate::used::mark;
 use std::alloc::Global;
 use sx_bytes::NoMemory;
 use sx_ledger::{Ledger, Offer, Places};
-use sx_postings::{Pending, Postings, hold};
+use sx_postings::{
+    Cancellations, Creations, Pending, Postings, hold, made_offer, mark_used, tx_ranges,
+};
 use sx_tx::Tx;
 
 /// What transactions do to a ledger, added up: the debits and credits of each account and asset, the
@@ -87,7 +84,7 @@ impl Tally {
         tx_ranges(tx);
         let last = ledger.account(places.account).window.last;
         hold(pending, ledger, tx, places)?;
-        mark(&mut self.used, places.account, last, tx.seq);
+        mark_used(&mut self.used, places.account, last, tx.seq);
         self.cancellations.enter(index, &places.target);
         self.creations.enter(index, tx)?;
         push_made(&mut self.made, tx)

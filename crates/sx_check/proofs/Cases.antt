@@ -1,12 +1,12 @@
 -- Reasons of small blocks, worked out by hand: which of two counts, and what it tells.
 use Rattle.std.proofs.Common.{◌≡◌, ℕ, zero, suc, ◌<◌, ◌≤◌, List, [], ◌∷◌, length, inl, inr, refl, arith}
 use Rattle.sx_block.specs.declared.header.Block.{Block}
-use Rattle.sx_body.specs.Repeats.{IsFirstRepeat, Repeats, creates}
 use Rattle.sx_check.specs.declared.fault.CheckFault.TheVariants as check_fault
 use Rattle.sx_check.specs.declared.invalid.Invalid.TheVariants.{WrongAfter}
 use Rattle.sx_check.specs.Refusals.{ExplainsEarly, IsCrowded, IsMisrounded}
 use Rattle.sx_laws.proofs.ValidCase.{before, block}
 use Rattle.sx_ledger.specs.declared.parts.Parts.{Parts}
+use Rattle.sx_postings.specs.Repeats.{IsFirstRepeat, Repeats, creates}
 use Rattle.sx_tx.specs.declared.kind.Kind.TheVariants as kind
 use Rattle.sx_tx.specs.declared.tx.Tx.{Tx}
 

@@ -16,7 +16,7 @@ use Rattle.sx_block.specs.Validity.{digest_of_ledger, flow_of_block, high_in, le
 use Rattle.sx_block.specs.Validity.{undropped_low_in}
 use Rattle.sx_body.specs.Overdraft.{IsFirstOverdrawn}
 use Rattle.sx_body.specs.Refusal.{IsFirstRefused}
-use Rattle.sx_body.specs.Repeats.{IsFirstRepeat, Repeats, cancels, creates, done_at}
+use Rattle.sx_postings.specs.Repeats.{IsFirstRepeat, Repeats, cancels, creates, done_at}
 use Rattle.sx_check.specs.declared.invalid.Invalid.{Invalid}
 use Rattle.sx_check.specs.declared.invalid.Invalid.TheVariants.{NoCut, Overdrawn, Overspent, Rounding}
 use Rattle.sx_check.specs.declared.invalid.Invalid.TheVariants.{WrongAfter}

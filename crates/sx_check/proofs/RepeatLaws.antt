@@ -6,7 +6,7 @@ use Rattle.std.specs.List.{AllByRecursion, IsDistinct, cons_option, filter_map}
 use Rattle.std.proofs.lemmas.Bool.{cases_order, eqb-true, eq-eqb, false_from_ne_true}
 use Rattle.std.proofs.lemmas.Map.Keys.{IsDistinct-cons, IsDistinct-head, IsDistinct-tail}
 use Rattle.std.proofs.lemmas.Option.{none-some, same_Some}
-use Rattle.sx_body.specs.Repeats.{IsFirstRepeat, Repeats, cancels, creates, done_at}
+use Rattle.sx_postings.specs.Repeats.{IsFirstRepeat, Repeats, cancels, creates, done_at}
 use Rattle.sx_ledger.specs.Body.{cancelled, created}
 use Rattle.sx_ledger.specs.Order.{same_key}
 use Rattle.sx_ledger.proofs.KeyOrder.{same_key_from, same_key_is}

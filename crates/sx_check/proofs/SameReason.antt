@@ -10,7 +10,7 @@ use Rattle.sx_block.specs.Validity.{Rounds, flow_of_block, high_in, low_in}
 use Rattle.sx_base.specs.declared.account_id.AccountId.{AccountId}
 use Rattle.sx_body.specs.declared.overdraft.Overdraft.{Overdraft}
 use Rattle.sx_body.specs.Overdraft.{IsFirstOverdrawn}
-use Rattle.sx_body.specs.Repeats.{cancels, creates}
+use Rattle.sx_postings.specs.Repeats.{cancels, creates}
 use Rattle.sx_body.proofs.Refusals.{one_refusal}
 use Rattle.sx_check.specs.declared.invalid.Invalid.{Invalid}
 use Rattle.sx_check.specs.declared.invalid.Invalid.TheVariants.{Ended, WrongHeight, WrongParent, WrongBody}

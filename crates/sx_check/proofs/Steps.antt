@@ -10,7 +10,7 @@ use Rattle.sx_block.specs.Rule as rule
 use Rattle.sx_block.specs.Validity.{Holds, HoldsBefore, HoldsButParent, digest_of_ledger}
 use Rattle.sx_body.specs.Overdraft.{NoneOverdrawn}
 use Rattle.sx_body.specs.Refusal.{IsFirstRefused}
-use Rattle.sx_body.specs.Repeats.{IsFirstRepeat, cancels, creates}
+use Rattle.sx_postings.specs.Repeats.{IsFirstRepeat, cancels, creates}
 use Rattle.sx_check.specs.declared.checked.Judged.{Judged}
 use Rattle.sx_check.specs.declared.fault.CheckFault.{CheckFault}
 use Rattle.sx_check.specs.declared.fault.CheckFault.TheVariants as check_fault

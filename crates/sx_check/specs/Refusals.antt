@@ -9,7 +9,7 @@ use Rattle.sx_block.specs.Validity.{HoldsBefore, HoldsButParent, Rounds, digest_
 use Rattle.sx_block.specs.Validity.{ledger_after, low_in, undropped_low_in}
 use Rattle.sx_body.specs.Overdraft.{IsFirstOverdrawn}
 use Rattle.sx_body.specs.Refusal.{IsFirstRefused}
-use Rattle.sx_body.specs.Repeats.{IsFirstRepeat, cancels, creates}
+use Rattle.sx_postings.specs.Repeats.{IsFirstRepeat, cancels, creates}
 use Rattle.sx_check.specs.declared.fault.CheckFault.{CheckFault}
 use Rattle.sx_check.specs.declared.fault.CheckFault.TheVariants as check_fault
 use Rattle.sx_check.specs.declared.invalid.Invalid.{Invalid}

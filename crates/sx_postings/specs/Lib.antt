@@ -1,3 +1,5 @@
 pub mod Known
+pub mod Repeats
+pub mod Changes
 pub mod Sums
 pub mod Postings

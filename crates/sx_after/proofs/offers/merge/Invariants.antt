@@ -1,7 +1,7 @@
 use Rattle.std.proofs.Common.{◌≡◌, ◌++◌, Bool, not, drop}
 use Rattle.std.specs.List.{filter}
 use Rattle.sx_after.specs.Merging.{merged}
-use Rattle.sx_body.specs.Tally.{AreFlags}
+use Rattle.sx_postings.specs.Changes.{AreFlags}
 use Rattle.sx_after.proofs.offers.merge.Given as goal
 use Rattle.sx_ledger.specs.declared.offer.Offer.{Offer}
 

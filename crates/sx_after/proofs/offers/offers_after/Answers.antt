@@ -3,7 +3,7 @@ use Rattle.std.specs.List.{list_any}
 use Rattle.std.specs.List.Sorted.{IsPermutation}
 use Rattle.std.proofs.lemmas.Bool.{OnTrue_at}
 use Rattle.sx_after.specs.Merging.{merged}
-use Rattle.sx_body.specs.Tally.{AreFlags}
+use Rattle.sx_postings.specs.Changes.{AreFlags}
 use Rattle.sx_after.proofs.OffersAfter.{offers_are, offers_stay}
 use Rattle.sx_after.proofs.offers.offers_after.Goals as goal
 use Rattle.sx_ledger.specs.declared.offer.Offer.{Offer}

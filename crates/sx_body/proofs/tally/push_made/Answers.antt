@@ -1,5 +1,5 @@
 use Rattle.std.proofs.Common.{List, [], ◌∷◌, ◌++◌, ap, sym, ◌∙◌}
-use Rattle.sx_body.proofs.Repeated.{done_more, done_none}
+use Rattle.sx_postings.proofs.Repeated.{done_more, done_none}
 use Rattle.sx_body.proofs.tally.push_made.Goals as goal
 use Rattle.sx_ledger.specs.declared.offer.Offer.{Offer}
 use Rattle.sx_ledger.specs.Body.{made_by}

@@ -1,6 +1,6 @@
 use Rattle.std.proofs.Common.{refl}
-use Rattle.sx_body.specs.Repeats.{cancels}
-use Rattle.sx_body.proofs.Repeated.{distinct_from_none, when_none}
+use Rattle.sx_postings.specs.Repeats.{cancels}
+use Rattle.sx_postings.proofs.Repeated.{distinct_from_none, when_none}
 use Rattle.sx_body.proofs.tally.Tally.cancelled_again.Goals as goal
 use Rattle.sx_ledger.specs.Order.{same_key}
 use Rattle.sx_ledger.proofs.KeyOrder.{same_key_from, same_key_is}

@@ -1,8 +1,8 @@
 use Rattle.std.proofs.Common.{refl}
 use Rattle.std.specs.Prelude.{nat_eq}
 use Rattle.std.proofs.lemmas.Bool.{eq-eqb, eqb-true}
-use Rattle.sx_body.specs.Repeats.{creates}
-use Rattle.sx_body.proofs.Repeated.{distinct_from_none, when_none}
+use Rattle.sx_postings.specs.Repeats.{creates}
+use Rattle.sx_postings.proofs.Repeated.{distinct_from_none, when_none}
 use Rattle.sx_body.proofs.tally.Tally.created_again.Goals as goal
 
 pub returns-clause-none : goal.returns-clause-none

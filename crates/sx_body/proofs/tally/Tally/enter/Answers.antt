@@ -4,7 +4,7 @@ use Rattle.std.proofs.lemmas.List.{length-map, length-set}
 use Rattle.std.proofs.lemmas.List.Elements.{All-append}
 use Rattle.std.proofs.lemmas.Option.{slice_get_within}
 use Rattle.sx_body.specs.Tally.{HasUsed}
-use Rattle.sx_body.proofs.Cancelled.{cancels_at}
+use Rattle.sx_postings.proofs.Cancelled.{cancels_at}
 use Rattle.sx_body.proofs.Entered.{number_is_open, one_passes, used_more}
 use Rattle.sx_postings.proofs.PostedUnits.{when_ok}
 use Rattle.sx_body.proofs.tally.Tally.enter.Goals as goal
@@ -24,8 +24,8 @@ account-requires c =
       length-map accounts id_of,
     )
 
-pub mark-requires : goal.mark-requires
-mark-requires c =
+pub mark_used-requires : goal.mark_used-requires
+mark_used-requires c =
     let parts = c.args.ledger.now in
     let is_open = number_is_open parts c.account.ensures.kept c.args.tx.now c.requires.passes c.args.places.now.account
     c.account.result.now c.account.ensures.account c.requires.places.account in
@@ -67,7 +67,7 @@ returns c =
       shape = record {
         rows = c.requires.shape.rows;
         maps =
-            ap length c.mark.ensures
+            ap length c.mark_used.ensures
             ∙ length-set maps at (bit_or (get_or maps at 0) (2 ^ (tx.seq - own.window.last - 1)))
             ∙ c.requires.shape.maps;
         flags = c.enter.ensures.as_many ∙ c.requires.shape.flags;
@@ -75,7 +75,7 @@ returns c =
       passes = All-append passes before (tx ∷ []) was.passes (one_passes passes tx c.requires.passes);
       in_range = All-append IsTx before (tx ∷ []) was.in_range (one_passes IsTx tx c.tx_ranges.ensures);
       postings = c.in_ok-hold.ensures before c.args.self.now.postings was.postings;
-      used = subst (HasUsed parts (before ++ tx ∷ [])) (sym c.mark.ensures)
+      used = subst (HasUsed parts (before ++ tx ∷ [])) (sym c.mark_used.ensures)
           (used_more parts keeps before tx at own there is_open maps c.requires.shape.maps was.used);
       cancelled = c.enter.ensures.entered parts tx before keeps c.requires.shape.flags c.requires.places.target index
           was.cancelled;

@@ -1,7 +1,7 @@
 use Rattle.std.proofs.Common.{◌≡◌, ℕ, List, get_or, replicate, subst, ap, ◌∙◌, arith, rules}
 use Rattle.std.proofs.lemmas.Option.{slice_get_within}
 use Rattle.sx_postings.specs.Postings.{HasRows}
-use Rattle.sx_body.specs.Repeats.{cancels}
+use Rattle.sx_postings.specs.Repeats.{cancels}
 use Rattle.sx_body.proofs.Entered.{no_repeat, zero_at}
 use Rattle.sx_body.proofs.tally.Tally.none.Goals as goal
 use Rattle.sx_ledger.specs.Ledger.{assets_of}

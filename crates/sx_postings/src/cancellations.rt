@@ -1,7 +1,7 @@
 //! The offers that a body cancels.
 
 ghost use Rattle.std.specs.Prelude.{◌≡◌, ℕ, ◌++◌, [], ◌∷◌, ◌<◌, List, None, Some, false, length, slice_get, IfOk};
-ghost use Rattle.sx_body.specs.Tally.{HasCancelled};
+ghost use Rattle.sx_postings.specs.Changes.{HasCancelled};
 ghost use Rattle.sx_ledger.specs.declared.parts.Parts.{Parts};
 ghost use Rattle.sx_ledger.specs.declared.places.Target.TheVariants as target_at;
 ghost use Rattle.sx_ledger.specs.Ledger.{IsLedger};
@@ -13,8 +13,8 @@ use std::alloc::Global;
 use sx_bytes::NoMemory;
 use sx_ledger::Target;
 
-// Which of a ledger's offers are cancelled, by their places, and the first transaction that cancels one
-// again.
+/// Which of a ledger's offers are cancelled, by their places, and the first transaction that cancels one
+/// again.
 #[derive(Debug, Drop)]
 pub struct Cancellations {
     pub flags: Vec<bool>,
@@ -22,7 +22,7 @@ pub struct Cancellations {
 }
 
 impl Cancellations {
-    // None of these offers is cancelled.
+    /// None of these offers is cancelled.
     pub fn none(alloc: Global, offers: usize) -> Result<Cancellations, NoMemory>
         ensures as_many { IfOk result (λ cancellations. length cancellations.flags.items ≡ offers) }
         ensures unset { IfOk result (λ cancellations. (place : ℕ) → place < offers
@@ -35,7 +35,7 @@ impl Cancellations {
         })
     }
 
-    // Enters the transaction at an index, which has this target.
+    /// Enters the transaction at an index, which has this target.
     pub fn enter(&mut self, index: usize, target: &Target)
         requires within { (place : ℕ) → target.now ≡ target_at.Offer place
             → place < length self.old.flags.items }

@@ -6,8 +6,8 @@ ghost use Rattle.sx_ledger.specs.Body.{created_by, made_by};
 use sx_ledger::Offer;
 use sx_tx::{Kind, Tx};
 
-// The offer that a transaction makes.
-pub(crate) fn made_offer(tx: &Tx) -> Option<Offer>
+/// The offer that a transaction makes.
+pub fn made_offer(tx: &Tx) -> Option<Offer>
     ensures { result ≡ made_by tx.now tx.now.kind }
 {
     match tx.kind {
@@ -29,7 +29,7 @@ pub(crate) fn made_offer(tx: &Tx) -> Option<Offer>
 }
 
 // The id of the account that a transaction creates.
-pub(crate) fn created_id(tx: &Tx) -> Option<u64>
+pub fn created_id(tx: &Tx) -> Option<u64>
     ensures { result ≡ created_by tx.now.kind }
 {
     match tx.kind {

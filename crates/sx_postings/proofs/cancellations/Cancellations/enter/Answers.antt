@@ -1,9 +1,9 @@
 use Rattle.std.proofs.Common.{true, ◌∙◌, refl}
 use Rattle.std.proofs.lemmas.List.{length-set}
-use Rattle.sx_body.specs.Repeats.{cancels}
-use Rattle.sx_body.proofs.Cancelled.{cancels_at, cancels_none, flag_tells, flags_more, none_more}
-use Rattle.sx_body.proofs.Repeated.{repeat_none, repeat_step}
-use Rattle.sx_body.proofs.cancellations.Cancellations.enter.Goals as goal
+use Rattle.sx_postings.specs.Repeats.{cancels}
+use Rattle.sx_postings.proofs.Cancelled.{cancels_at, cancels_none, flag_tells, flags_more, none_more}
+use Rattle.sx_postings.proofs.Repeated.{repeat_none, repeat_step}
+use Rattle.sx_postings.proofs.cancellations.Cancellations.enter.Goals as goal
 use Rattle.sx_ledger.specs.Order.{same_key}
 use Rattle.sx_ledger.proofs.KeyOrder.{same_key_from, same_key_is}
 

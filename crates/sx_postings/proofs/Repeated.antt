@@ -14,7 +14,7 @@ use Rattle.std.proofs.lemmas.List.Elements.{filter_map-append}
 use Rattle.std.proofs.lemmas.List.Folds.{list_any-append}
 use Rattle.std.proofs.lemmas.Map.Keys.{IsDistinct-cons}
 use Rattle.std.proofs.lemmas.Option.{none-some, same_Some}
-use Rattle.sx_body.specs.Repeats.{IsFirstRepeat, IsRepeat, Repeats, done_at}
+use Rattle.sx_postings.specs.Repeats.{IsFirstRepeat, IsRepeat, Repeats, done_at}
 use Rattle.sx_tx.specs.declared.tx.Tx.{Tx}
 
 -- ---- what is done at an index

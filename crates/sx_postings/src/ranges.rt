@@ -48,7 +48,7 @@ fn kind_ranges(kind: &Kind)
     }
 }
 
-// All fields of a transaction are in their ranges. It does nothing when it runs.
+/// All fields of a transaction are in their ranges. It does nothing when it runs.
 #[inline]
 pub fn tx_ranges(tx: &Tx)
     ensures { IsTx tx.now }

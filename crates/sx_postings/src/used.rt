@@ -6,8 +6,8 @@ ghost use Rattle.sx_tx.specs.Window.{open_numbers};
 
 use sx_base::Seq;
 
-// Sets the bit of a sequence number in the map of the account at a place, whose last number is `last`.
-pub fn mark(maps: &mut Vec<u64>, place: u32, last: u64, seq: Seq)
+/// Sets the bit of a sequence number in the map of the account at a place, whose last number is `last`.
+pub fn mark_used(maps: &mut Vec<u64>, place: u32, last: u64, seq: Seq)
     requires place { place < length maps.old.items }
     requires above { last < seq }
     requires within { seq ≤ last + open_numbers }

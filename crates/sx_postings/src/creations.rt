@@ -1,7 +1,7 @@
 //! The accounts that a body creates.
 
 ghost use Rattle.std.specs.Prelude.{◌≡◌, ◌++◌, [], ◌∷◌, List, length, OnOk};
-ghost use Rattle.sx_body.specs.Tally.{HasCreated};
+ghost use Rattle.sx_postings.specs.Changes.{HasCreated};
 ghost use Rattle.sx_tx.specs.declared.tx.Tx.{Tx as Transaction};
 
 use crate::kinds::created_id;
@@ -11,8 +11,8 @@ use std::collections::BTreeSet;
 use sx_bytes::NoMemory;
 use sx_tx::Tx;
 
-// The ids of the accounts that are created, one for each creation, and as a set; and the first
-// transaction that creates one again.
+/// The ids of the accounts that are created, one for each creation, and as a set; and the first
+/// transaction that creates one again.
 #[derive(Debug, Drop)]
 pub struct Creations {
     pub ids: Vec<u64>,
@@ -21,7 +21,7 @@ pub struct Creations {
 }
 
 impl Creations {
-    // No account is created.
+    /// No account is created.
     pub fn none(alloc: Global) -> Creations
         ensures { HasCreated [] result }
     {
@@ -32,7 +32,7 @@ impl Creations {
         }
     }
 
-    // Enters a transaction, which is the one at this index.
+    /// Enters a transaction, which is the one at this index.
     pub fn enter(&mut self, index: usize, tx: &Tx) -> Result<(), NoMemory>
         ensures { OnOk result ((before : List Transaction) → length before ≡ index → HasCreated before self.old
             → HasCreated (before ++ tx.now ∷ []) self.new) }

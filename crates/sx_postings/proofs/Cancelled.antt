@@ -11,9 +11,9 @@ use Rattle.std.proofs.lemmas.List.Folds.{list_any-append}
 use Rattle.std.proofs.lemmas.Option.{get_or_from_slice_get, slice_get-get_or, slice_get-map}
 use Rattle.std.proofs.lemmas.Option.{slice_get_within}
 use Rattle.sx_bytes.specs.Grammar.{in_order}
-use Rattle.sx_body.specs.Repeats.{cancels}
-use Rattle.sx_body.specs.Tally.{AreFlags}
-use Rattle.sx_body.proofs.Repeated.{done_more, done_none}
+use Rattle.sx_postings.specs.Repeats.{cancels}
+use Rattle.sx_postings.specs.Changes.{AreFlags}
+use Rattle.sx_postings.proofs.Repeated.{done_more, done_none}
 use Rattle.sx_ledger.specs.declared.key.Key.{Key}
 use Rattle.sx_ledger.specs.declared.offer.Offer.{Offer}
 use Rattle.sx_ledger.specs.declared.parts.Parts.{Parts}

@@ -6,9 +6,9 @@ use Rattle.std.specs.BTreeSet.{contains}
 use Rattle.std.specs.List.{list_any}
 use Rattle.std.specs.Ordering.{nat_cmp}
 use Rattle.std.proofs.lemmas.Bool.{eq-eqb, eqb-true}
-use Rattle.sx_body.specs.Repeats.{creates}
-use Rattle.sx_body.proofs.Repeated.{done_more, done_none, id_more, repeat_none, repeat_step}
-use Rattle.sx_body.proofs.creations.Creations.enter.Goals as goal
+use Rattle.sx_postings.specs.Repeats.{creates}
+use Rattle.sx_postings.proofs.Repeated.{done_more, done_none, id_more, repeat_none, repeat_step}
+use Rattle.sx_postings.proofs.creations.Creations.enter.Goals as goal
 use Rattle.sx_ledger.specs.Body.{created}
 
 pub returns-in_default : goal.returns-in_default
