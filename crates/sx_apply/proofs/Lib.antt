@@ -9,5 +9,3 @@ pub mod FillTotals
 pub mod WrittenBack
 pub mod Trades
 pub mod ClearLaws
-pub mod BoundLaws
-pub mod SameBounds

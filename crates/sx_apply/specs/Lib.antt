@@ -1,4 +1,3 @@
-pub mod Bounds
 pub mod Trading
 pub mod Effects
 pub mod FillSums

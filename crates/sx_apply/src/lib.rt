@@ -9,18 +9,15 @@
 //! known what each offer trades, for callers that have no header yet. [`pay_sellers`] does the part of it that
 //! lies in the accounts, some of them at a time, and [`settle`] the rest.
 //!
-//! [`bounds_of`] answers what each pair of assets must and may trade at some prices, and [`without_low`]
-//! the same once lower bounds are dropped. [`tally_of`] answers what a body does, [`fills_of`] what each
-//! offer trades, and [`rounding_of`] what rounding keeps of each asset. They go over sorted lists once, and
-//! [`fills_of`] only over the offers that trade: where a pair ends it finds by halving the offers that are left.
-//! [`par_tally_of`] answers the same as [`tally_of`], with threads that look accounts and offers up. By
-//! [`apply_laws`] a valid block has what the calls ask for.
+//! [`tally_of`] answers what a body does, [`fills_of`] what each offer trades, and [`rounding_of`] what rounding keeps
+//! of each asset. They go over sorted lists once, and [`fills_of`] only over the offers that trade: where a pair ends it
+//! finds by halving the offers that are left. [`par_tally_of`] answers the same as [`tally_of`], with threads that look
+//! accounts and offers up. By [`apply_laws`] a valid block has what the calls ask for.
 //!
-//! Not here: whether a block is valid, and how its prices and its flow are found.
+//! Not here: whether a block is valid, what pairs may trade (`sx_bounds`), and how its prices and its flow are found.
 #![tactic(auto)]
 
 mod applying;
-mod bounds;
 mod capacity;
 mod effects;
 mod fills;
@@ -32,7 +29,6 @@ mod tallying;
 mod trading;
 
 pub use applying::{apply, apply_body};
-pub use bounds::{bounds_of, without_low};
 pub use effects::Effects;
 pub use fills::fills_of;
 pub use laws::apply_laws;

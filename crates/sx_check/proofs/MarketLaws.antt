@@ -1,7 +1,7 @@
 -- What a block says of its trade, against the bounds of its pairs.
 use Rattle.std.proofs.Common.{◌≡◌, Option, Some, None, refl, sym, subst}
 use Rattle.std.specs.Prelude.{is_some}
-use Rattle.sx_apply.specs.Bounds.{HasBounds}
+use Rattle.sx_bounds.specs.Bounds.{HasBounds}
 use Rattle.sx_block.specs.declared.header.Block.{Block}
 use Rattle.sx_block.specs.Rule as rule
 use Rattle.sx_block.specs.Validity.{CutHolds, HoldsButParent, high_in, low_in, offers_of, undropped_low_in}

@@ -4,14 +4,14 @@ ghost use Rattle.std.specs.Prelude.{◌≡◌, Some, None, IfErr, OnOk};
 ghost use Rattle.sx_block.specs.Block.{IsBlock};
 ghost use Rattle.sx_block.specs.Rule as rule;
 ghost use Rattle.sx_block.specs.Validity.{HoldsButParent, high_in, low_in, offers_of, undropped_low_in};
-ghost use Rattle.sx_apply.specs.Bounds.{HasBounds};
+ghost use Rattle.sx_bounds.specs.Bounds.{HasBounds};
 ghost use Rattle.sx_check.specs.Refusals.{ExplainsButParent, RefusesButParent};
 ghost use Rattle.sx_ledger.specs.Ledger.{IsLedger, assets_of};
 
 use crate::fault::CheckFault;
 use crate::invalid::Invalid;
 use std::alloc::Global;
-use sx_apply::{bounds_of, without_low};
+use sx_bounds::{bounds_of, without_low};
 use sx_block::Block;
 use sx_dual::{Bounds, Cut, cuts, fits};
 use sx_ledger::{Ledger, Offer};

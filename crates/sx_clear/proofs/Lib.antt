@@ -3,4 +3,3 @@ pub mod BlockLaws
 pub mod SearchCounts
 pub mod Tradings
 pub mod SearchCases
-mod LedgersLeft

@@ -3,8 +3,8 @@ use Rattle.std.proofs.Common.{◌≡◌, ℕ, zero, suc, ◌<◌, ◌^◌, false
 use Rattle.std.proofs.Common.{arith}
 use Rattle.std.specs.Prelude.{if◌then◌else◌, is_some}
 use Rattle.std.proofs.lemmas.Bool.{cases_Bool, cases_eq}
-use Rattle.sx_apply.specs.Bounds.{HasBounds}
-use Rattle.sx_apply.proofs.SameBounds.{cut_from, fits_from}
+use Rattle.sx_bounds.specs.Bounds.{HasBounds}
+use Rattle.sx_bounds.proofs.SameBounds.{cut_from, fits_from}
 use Rattle.sx_block.specs.Block.{CutFits}
 use Rattle.sx_block.specs.Validity.{CutHolds}
 use Rattle.sx_clear.specs.declared.trade.Trade.{Trade}

@@ -1,7 +1,7 @@
 -- What a body trades, and what follows of its block.
 use Rattle.std.proofs.Common.{◌≡◌, ℕ, ◌+◌, ◌*◌, ◌<◌, ◌≤◌, false, List, length, Result, Ok, Err, ap, subst, ◌∙◌}
 use Rattle.std.specs.Prelude.{All, IfOk, slice_index}
-use Rattle.sx_apply.specs.Bounds.{HasBounds}
+use Rattle.sx_bounds.specs.Bounds.{HasBounds}
 use Rattle.sx_apply.specs.Trading.{CanExecute}
 use Rattle.sx_block.specs.declared.header.Block.{Block}
 use Rattle.sx_block.specs.Validity.{digest_of_ledger}

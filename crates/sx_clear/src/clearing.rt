@@ -15,7 +15,6 @@ ghost use Rattle.sx_tx.specs.Transactions.{most_transactions};
 
 use crate::filling::{Filled, fill};
 use crate::heading::{Terms, block_of};
-use crate::leaving::{digest_left, digests_around};
 use crate::trade::{Trade, trade_within};
 use std::alloc::Global;
 use std::snapshot::Snapshot;
@@ -28,6 +27,7 @@ use sx_discovery::{
     price_ranges,
 };
 use sx_dual::Bounds;
+use sx_leaving::{digest_left, digests_around};
 use sx_ledger::Ledger;
 use sx_multi::posted_laws;
 use sx_net::Steps;

@@ -43,7 +43,6 @@ mod clearing;
 mod clearing_in_place;
 mod filling;
 mod heading;
-mod leaving;
 mod trade;
 
 pub use clearing::{clear, clear_at, clear_many};

@@ -1,7 +1,7 @@
 //! What pairs trade within given bounds.
 
 ghost use Rattle.std.specs.Prelude.{ℕ, ◌+◌, ◌*◌, ◌≤◌, IfOk};
-ghost use Rattle.sx_apply.specs.Bounds.{HasBounds};
+ghost use Rattle.sx_bounds.specs.Bounds.{HasBounds};
 ghost use Rattle.sx_clear.specs.Searches.{most_clearing_searches};
 ghost use Rattle.sx_clear.specs.Traded.{HasNoLow, IsFreeTrade, IsTrade};
 ghost use Rattle.sx_dual.specs.Tables.{high_of as high_in};
@@ -9,7 +9,7 @@ ghost use Rattle.sx_level.specs.Solved.{HaveDigits, most_searches};
 
 use std::alloc::Global;
 use std::sync::ledger::Ledger;
-use sx_apply::without_low;
+use sx_bounds::without_low;
 use sx_bytes::NoMemory;
 use sx_dual::{Bounds, Cut, Flow, Potentials};
 use sx_level::{Solved, solve};

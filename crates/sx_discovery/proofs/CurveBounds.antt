@@ -9,7 +9,7 @@ use Rattle.std.proofs.lemmas.List.Elements.{All-head, All-tail}
 use Rattle.std.proofs.lemmas.List.Sums.{sum_by-cons}
 use Rattle.std.proofs.lemmas.Nat.{div-mul-add, mod-mul-add}
 use Rattle.std.proofs.Math.Nat.{mul-le-mul_left, mul-le-mul_right}
-use Rattle.sx_apply.specs.Bounds.{HasBounds}
+use Rattle.sx_bounds.specs.Bounds.{HasBounds}
 use Rattle.sx_discovery.specs.Bounding.{AreValues, may_value, must_value}
 use Rattle.sx_discovery.specs.Quotes.{quote_of, quotes_of}
 use Rattle.sx_curve.specs.declared.quote.Quote.{Quote}

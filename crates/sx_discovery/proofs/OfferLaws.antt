@@ -4,8 +4,8 @@ use Rattle.std.specs.Prelude.{All, ◌==◌, length}
 use Rattle.std.proofs.lemmas.Bool.{cases_Bool}
 use Rattle.std.proofs.lemmas.List.Elements.{All-map}
 use Rattle.std.proofs.lemmas.List.Sums.{sum_by-cons}
-use Rattle.sx_apply.specs.Bounds.{AreOffers}
-use Rattle.sx_apply.proofs.BoundLaws.{ledger_offers}
+use Rattle.sx_bounds.specs.Bounds.{AreOffers}
+use Rattle.sx_bounds.proofs.BoundLaws.{ledger_offers}
 use Rattle.sx_after.specs.OfferChanges.{changed_by}
 use Rattle.sx_discovery.specs.declared.body.Body.{Body}
 use Rattle.sx_discovery.specs.Found.{IsBodyOf}

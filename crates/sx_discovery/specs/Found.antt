@@ -1,6 +1,6 @@
 -- What is found of a body before anything trades.
 use Rattle.std.specs.Prelude.{ℕ, false, List}
-use Rattle.sx_apply.specs.Bounds.{HasBounds}
+use Rattle.sx_bounds.specs.Bounds.{HasBounds}
 use Rattle.sx_apply.specs.Effects.{IsChangeTo}
 use Rattle.sx_apply.specs.Trading.{CanExecute}
 use Rattle.sx_body.specs.Tally.{IsTally}

@@ -3,7 +3,7 @@
 ghost use Rattle.std.specs.Prelude.{◌≡◌, ◌*◌, ◌/◌, ◌%◌, ◌^◌, ◌<◌, ◌≤◌, false, List, IfOk, length};
 ghost use Rattle.std.specs.List.{filter};
 ghost use Rattle.std.specs.List.Sorted.{IsPermutation};
-ghost use Rattle.sx_apply.specs.Bounds.{HasBounds};
+ghost use Rattle.sx_bounds.specs.Bounds.{HasBounds};
 ghost use Rattle.sx_discovery.specs.Bounding.{AreValues, may_value, must_value};
 ghost use Rattle.sx_discovery.specs.Quotes.{quotes_of as the_quotes_of};
 ghost use Rattle.sx_curve.specs.Demand.{e_must, may_at, price_of};

@@ -2,7 +2,7 @@
 
 ghost use Rattle.std.specs.Prelude.{◌≡◌, IfOk, IfSome};
 ghost use Rattle.std.specs.List.Sorted.{IsPermutation};
-ghost use Rattle.sx_apply.specs.Bounds.{AreOffers};
+ghost use Rattle.sx_bounds.specs.Bounds.{AreOffers};
 ghost use Rattle.sx_discovery.specs.Quotes.{quotes_of as the_quotes_of};
 ghost use Rattle.sx_dual.specs.Tables.{IsAssetCount};
 ghost use Rattle.sx_ledger.specs.Body.{IsAdmissible, body_after};

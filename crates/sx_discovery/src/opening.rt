@@ -2,7 +2,7 @@
 //! bounds at these.
 
 ghost use Rattle.std.specs.Prelude.{◌≡◌, ◌≤◌, false, IfOk, length};
-ghost use Rattle.sx_apply.specs.Bounds.{AreOffers, HasBounds};
+ghost use Rattle.sx_bounds.specs.Bounds.{AreOffers, HasBounds};
 ghost use Rattle.sx_discovery.specs.Digests.{IsBodyDigest, IsWrittenBody};
 ghost use Rattle.sx_discovery.specs.Found.{HasBoundsAt, IsBodyOf};
 ghost use Rattle.sx_discovery.specs.Quotes.{posted_at, quotes_of};
@@ -20,7 +20,7 @@ use crate::digests::{digest_of_body, written_body};
 use crate::ranges::price_ranges;
 use std::alloc::Global;
 use std::thread::Threads;
-use sx_apply::bounds_of;
+use sx_bounds::bounds_of;
 use sx_block::Digest;
 use sx_bytes::{NoMemory, Writer};
 use sx_digests::WrittenBody;

@@ -1,4 +1,2 @@
 pub mod Answering
 pub mod Shown
-pub mod Accounts
-pub mod ProvedAccounts

@@ -27,20 +27,18 @@
 //! circulations it takes, that two ledgers of one digest are the same, and what a source gave or a sink
 //! received that tells nothing of its bytes.
 //!
-//! The way of the data: `sx_input` (bytes to what records hold), `sx_chain` and `sx_seal` (the commands `check` and
-//! `replay`, `follow`, `seal`, `filter` and `demo`), `interleaving`, `migrating`, `proving`, `verifying` and `showing`
-//! (the other commands), `output` (what a command writes), `running` (what a command found to what is written and to a
-//! status). What is found of an input is defined
-//! in `sx_meaning`, and texts and statuses are those of `sx_text`.
+//! The way of the data: `sx_input` (bytes to what records hold); `sx_chain` (the commands `check`, `replay` and
+//! `follow`), `sx_seal` (`seal` and `demo`), `sx_choosing` (`filter`), `sx_proving` (`prove` and `verify`),
+//! `interleaving`, `migrating` and `showing` (the other commands); `output` (what a command writes), and `running` (what
+//! a command found to what is written and to a status). What is found of an input is defined in `sx_meaning`, and texts
+//! and statuses are those of `sx_text`.
 #![tactic(auto)]
 
 mod interleaving;
 mod migrating;
 mod output;
-mod proving;
 mod running;
 mod showing;
-mod verifying;
 
 pub use running::run;
 pub use sx_meaning::{chain_laws, input_laws};

@@ -1,2 +1,1 @@
 pub mod Demonstrations
-pub mod Filterings

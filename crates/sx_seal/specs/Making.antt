@@ -1,22 +1,13 @@
--- The numbers of a seal, and why it stops where candidates are not gathered.
-use Rattle.std.specs.Prelude.{◌≡◌, ◌≤◌}
+-- The seal of given numbers, and why it stops where candidates are not gathered.
+use Rattle.std.specs.Prelude.{◌≡◌}
 use Rattle.sx_check.specs.declared.invalid.Invalid.TheVariants as invalid
 use Rattle.sx_gather.specs.declared.fault.GatherFault.{GatherFault}
 use Rattle.sx_gather.specs.declared.fault.GatherFault.TheVariants as fault
 use Rattle.sx_input.specs.declared.stop.Stop.{Stop}
 use Rattle.sx_input.specs.declared.stop.Stop.TheVariants as stop
-use Rattle.sx_seal.specs.declared.making.Numbers.{Numbers}
+use Rattle.sx_making.specs.declared.making.Numbers.{Numbers}
 use Rattle.sx_words.specs.declared.command.Command.{Command}
 use Rattle.sx_words.specs.declared.command.Command.TheVariants.{Seal}
-
--- the numbers of a seal or a demonstration are in their ranges
-pub record AreNumbers (numbers : Numbers) : Type 0 where
-  pub some_worker : 1 ≤ numbers.workers
-  pub few_workers : numbers.workers ≤ 64
-  pub some_shard : 1 ≤ numbers.shards
-  pub few_shards : numbers.shards ≤ 64
-  pub some_search : 1 ≤ numbers.searches
-  pub few_searches : numbers.searches ≤ 8
 
 -- the seal of these numbers
 abbrev pub seal_of : Numbers → Command

@@ -1,7 +1,7 @@
 //! The lines of many entries, written by several threads.
 //!
 //! Each thread has a part of the entries. The first one appends the lines of its part to the text, while each of the other
-//! ones writes those of its part to a text of its own, which is appended then.
+//! ones writes those of its part to a text of its own. These are appended then, one after the other, each once.
 
 ghost use Rattle.std.specs.Prelude.{◌≡◌, ◌*◌, ◌≤◌, ◌++◌, OnOk, string_bytes};
 ghost use Rattle.std.specs.List.{flat_map};
@@ -31,25 +31,26 @@ fn put_by<R: Threads + Sync, T: Sync, L: Line<T> + Sync>(
         return put_each(shape, to, entries);
     }
     let others = threads - 1;
-    let (front, back) = entries.split_at(entries.len() / threads);
+    let share = entries.len() / threads;
+    let (front, back) = entries.split_at(entries.len() - share);
     let alloc = *to.allocator();
     let mut later = String::with_capacity(alloc, room(alloc, shape, back)?)?;
-    let (one, other) = fork_mut(
+    let (last, before) = fork_mut(
         rt,
         others < 2,
         &mut || -> Result<(), NoMemory>
             requires { IsSync T.row × IsSync L.row }
             ensures { OnOk result
-                (string_bytes to.exit.now ≡ string_bytes to.entry.now ++ flat_map (L.line shape.entry.now) front.entry.now) }
-        { put_each(shape, to, front) },
+                (string_bytes later.exit ≡ string_bytes later.entry ++ flat_map (L.line shape.entry.now) back.entry.now) }
+        { put_each(shape, &mut later, back) },
         &mut || -> Result<(), NoMemory>
             requires { IsSync R.row × IsSync T.row × IsSync L.row × (1 ≤ others) }
             ensures { OnOk result
-                (string_bytes later.exit ≡ string_bytes later.entry ++ flat_map (L.line shape.entry.now) back.entry.now) }
-        { put_by(rt, others, shape, &mut later, back) },
+                (string_bytes to.exit.now ≡ string_bytes to.entry.now ++ flat_map (L.line shape.entry.now) front.entry.now) }
+        { put_by(rt, others, shape, to, front) },
     );
-    one?;
-    other?;
+    before?;
+    last?;
     to.push_str(later.as_str())?;
     Ok(())
 }

@@ -1,7 +1,7 @@
 use Rattle.std.proofs.Common.{refl}
 use Rattle.sx_block.specs.Rule as rule
 use Rattle.sx_block.specs.Validity.{high_in, undropped_low_in}
-use Rattle.sx_apply.proofs.SameBounds.{cut_back, cut_from}
+use Rattle.sx_bounds.proofs.SameBounds.{cut_back, cut_from}
 use Rattle.sx_check.proofs.MarketLaws.{cut_holds, dropped_bounds}
 use Rattle.sx_check.proofs.market.check_dropped.Goals as goal
 use Rattle.sx_laws.proofs.Rules.{one_more_but}

@@ -1,6 +1,6 @@
 use Rattle.std.proofs.Common.{◌≡◌, ℕ, ◌++◌, false, List, length, take, drop, sym, ap, subst, ◌∙◌, arith}
-use Rattle.sx_apply.specs.Bounds.{HasBounds}
-use Rattle.sx_apply.proofs.BoundLaws.{bounds_as, put_back}
+use Rattle.sx_bounds.specs.Bounds.{HasBounds}
+use Rattle.sx_bounds.proofs.BoundLaws.{bounds_as, put_back}
 use Rattle.sx_discovery.proofs.CurveBounds.{are_bounds, have_bounds}
 use Rattle.sx_discovery.proofs.bounding.bounds_by_curves.Goals as goal
 use Rattle.sx_curve.specs.Curves.{AreQuotes}

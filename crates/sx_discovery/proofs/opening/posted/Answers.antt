@@ -1,5 +1,5 @@
 use Rattle.std.proofs.Common.{ℕ, false, length, subst, sym, ap, ◌∙◌}
-use Rattle.sx_apply.specs.Bounds.{HasBounds}
+use Rattle.sx_bounds.specs.Bounds.{HasBounds}
 use Rattle.sx_discovery.specs.Quotes.{quotes_of}
 use Rattle.sx_discovery.proofs.PriceLaws.{no_round, posted_length}
 use Rattle.sx_discovery.proofs.opening.posted.Goals as goal
