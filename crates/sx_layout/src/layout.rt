@@ -7,7 +7,7 @@ ghost use Rattle.sx_ledger.specs.Ledger.{assets_of};
 ghost use Rattle.sx_tx.specs.Transactions.{most_transactions};
 
 use crate::new_ids::new_ids;
-use crate::opening::{Words, all_bits, all_purses, share_of, words_for};
+use crate::opening::{Opening, Words, opening_words, share_of, words_for};
 use crate::spot::Spot;
 use std::alloc::Global;
 use std::marker::Model;
@@ -76,8 +76,7 @@ impl Layout {
         ensures laid_out { IfOk result (λ layout. IsLaidOut ledger.now candidates.now shards) }
     {
         let names = new_ids(alloc, candidates)?;
-        let purses = all_purses(alloc, ledger, shards)?;
-        let bits = all_bits(alloc, ledger, &names, shards)?;
+        let Opening { purses, bits } = opening_words(alloc, ledger, &names, shards)?;
         Ok(Layout {
             assets: ledger.assets(),
             accounts: ledger.accounts(),

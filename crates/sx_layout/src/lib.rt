@@ -46,6 +46,7 @@
 
 mod acting;
 mod asked;
+mod dealing;
 mod deciding;
 mod fault;
 mod hand;
@@ -68,6 +69,7 @@ mod script;
 mod script_reading;
 mod script_writing;
 mod setting;
+mod share;
 mod space;
 mod spot;
 mod stage;

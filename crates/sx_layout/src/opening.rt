@@ -1,16 +1,25 @@
 //! The words of each shard at the opening.
 
-ghost use Rattle.std.specs.Prelude.{◌≡◌, ◌≤◌, ◌<◌, length, map, IfOk};
+ghost use Rattle.std.specs.Prelude.{◌≡◌, ℕ, ◌+◌, ◌*◌, ◌≤◌, ◌<◌, [], length, map, slice_index_or, IfOk};
 ghost use Rattle.sx_layout.specs.Dealing.{share_of as the_share, dealt, words_for as the_words, for_each_shard};
 ghost use Rattle.sx_layout.specs.Plan.{purses_at, bits_at};
+ghost use Rattle.sx_layout.specs.declared.share.Share.{Share};
 ghost use Rattle.sx_tx.specs.Transactions.{most_transactions};
 
+use crate::dealing::deal;
+use crate::share::Share;
 use std::alloc::Global;
 use sx_bytes::{ListOf, NoMemory};
 use sx_ledger::Ledger;
 
 /// The words of a shard.
 pub type Words = ListOf<u64>;
+
+/// The words of all shards, shard by shard.
+pub struct Opening {
+    pub purses: Vec<Words>,
+    pub bits: Vec<Words>,
+}
 
 // How many of these things a shard has.
 pub fn share_of(shards: u32, shard: u32, things: u32) -> u32
@@ -33,87 +42,93 @@ pub fn words_for(bits: u32) -> u32
     bits.div_ceil(64)
 }
 
-// The opening balances of the accounts of a shard.
-fn purses_in(alloc: Global, ledger: &Ledger, shards: u32, shard: u32) -> Result<Words, NoMemory>
-    requires { 1 ≤ shards }
-    ensures { IfOk result (λ words. words ≡ purses_at ledger.now shards shard) }
-{
-    let accounts = ledger.parts().accounts.items();
-    let mut words = Vec::new(alloc);
-    let mut place = shard as usize;
-    while place < accounts.len() {
-        words.extend_from_slice(accounts[place].balances.items())?;
-        place += shards as usize;
-    }
-    Ok(Words::of(words))
-}
-
-// What the accounts of a shard have used of their sequence numbers.
-fn used_in(alloc: Global, ledger: &Ledger, shards: u32, shard: u32) -> Result<Vec<u64>, NoMemory>
-    requires { 1 ≤ shards }
-    ensures { IfOk result (λ words. words.items ≡ map (λ account. account.window.used) (dealt shards shard ledger.now.accounts)) }
-{
-    let accounts = ledger.parts().accounts.items();
-    let mut words = Vec::new(alloc);
-    let mut place = shard as usize;
-    while place < accounts.len() {
-        words.push(accounts[place].window.used)?;
-        place += shards as usize;
-    }
-    Ok(words)
-}
-
-// The opening bit words of a shard.
-fn bits_in(
-    alloc: Global,
-    ledger: &Ledger,
-    names: &[u64],
-    shards: u32,
-    shard: u32,
-) -> Result<Words, NoMemory>
+// How many bit words of a shard are of offers and of new ids. They are clear at the opening.
+fn clear_words(ledger: &Ledger, names: &[u64], shards: u32, shard: u32) -> u32
     requires some { 1 ≤ shards }
     requires few { shards ≤ 64 }
     requires shard { shard < shards }
     requires names { length names.now ≤ most_transactions }
-    ensures { IfOk result (λ words. words ≡ bits_at ledger.now names.now shards shard) }
+    ensures clear { result ≡ the_share shards shard (the_words (length ledger.now.offers))
+        + the_share shards shard (the_words (length names.now)) }
+    ensures few { result ≤ 2 * most_transactions }
 {
     let offers = share_of(shards, shard, words_for(ledger.offers()));
     let new_ids = share_of(shards, shard, words_for(names.len() as u32));
-    let mut words = used_in(alloc, ledger, shards, shard)?;
-    let clear = vec![in alloc; 0; (offers + new_ids) as usize]?;
-    words.extend_from_slice(&clear)?;
-    Ok(Words::of(words))
+    offers + new_ids
 }
 
-// The opening purses of all shards.
-#[tactic(auto, using(crate::proofs::DealtLists::shards_more))]
-pub fn all_purses(alloc: Global, ledger: &Ledger, shards: u32) -> Result<Vec<Words>, NoMemory>
-    requires { 1 ≤ shards }
-    ensures { IfOk result (λ lists. lists.items ≡ for_each_shard (purses_at ledger.now shards) shards) }
-{
-    let mut lists = Vec::with_capacity(alloc, shards as usize)?;
-    for shard in 0..shards {
-        lists.push(purses_in(alloc, ledger, shards, shard)?)?;
-    }
-    Ok(lists)
-}
-
-// The opening bit words of all shards.
-#[tactic(auto, using(crate::proofs::DealtLists::shards_more))]
-pub fn all_bits(
+// A share for each shard, of no account yet, with memory for all its words.
+fn empty_shares(
     alloc: Global,
     ledger: &Ledger,
     names: &[u64],
     shards: u32,
-) -> Result<Vec<Words>, NoMemory>
+) -> Result<Vec<Share>, NoMemory>
     requires some { 1 ≤ shards }
     requires few { shards ≤ 64 }
     requires names { length names.now ≤ most_transactions }
-    ensures { IfOk result (λ lists. lists.items ≡ for_each_shard (bits_at ledger.now names.now shards) shards) }
+    ensures one_each { IfOk result (λ shares. length shares.items ≡ shards) }
+    ensures balances { IfOk result (λ shares. (k : ℕ) (d : Share) → k < shards
+        → (slice_index_or shares.items k d).balances.items ≡ []) }
+    ensures used { IfOk result (λ shares. (k : ℕ) (d : Share) → k < shards
+        → (slice_index_or shares.items k d).used.items ≡ []) }
 {
-    let mut lists = Vec::with_capacity(alloc, shards as usize)?;
+    let assets = ledger.assets() as usize;
+    let mut shares = Vec::with_capacity(alloc, shards as usize)?;
     for shard in 0..shards {
-        lists.push(bits_in(alloc, ledger, names, shards, shard)?)?;
+        let accounts = share_of(shards, shard, ledger.accounts()) as usize;
+        let clear = clear_words(ledger, names, shards, shard);
+        let share = Share::with_room(alloc, accounts * assets, accounts + clear as usize)?;
+        shares.push(share)?;
     }
-    Ok(lists)
+    Ok(shares)
+}
+
+// The share of each shard in the accounts.
+fn shares_of(
+    alloc: Global,
+    ledger: &Ledger,
+    names: &[u64],
+    shards: u32,
+) -> Result<Vec<Share>, NoMemory>
+    requires some { 1 ≤ shards }
+    requires few { shards ≤ 64 }
+    requires names { length names.now ≤ most_transactions }
+    ensures one_each { IfOk result (λ shares. length shares.items ≡ shards) }
+    ensures balances { IfOk result (λ shares. (k : ℕ) (d : Share) → k < shards
+        → (slice_index_or shares.items k d).balances.items ≡ purses_at ledger.now shards k) }
+    ensures used { IfOk result (λ shares. (k : ℕ) (d : Share) → k < shards
+        → (slice_index_or shares.items k d).used.items
+        ≡ map (λ account. account.window.used) (dealt shards k ledger.now.accounts)) }
+{
+    let mut shares = empty_shares(alloc, ledger, names, shards)?;
+    deal(ledger.parts().accounts.items(), &mut shares)?;
+    Ok(shares)
+}
+
+// The opening words of all shards: the accounts are dealt out in turn, and offers and new ids are clear.
+pub fn opening_words(
+    alloc: Global,
+    ledger: &Ledger,
+    names: &[u64],
+    shards: u32,
+) -> Result<Opening, NoMemory>
+    requires some { 1 ≤ shards }
+    requires few { shards ≤ 64 }
+    requires names { length names.now ≤ most_transactions }
+    ensures purses { IfOk result (λ opening.
+        opening.purses.items ≡ for_each_shard (purses_at ledger.now shards) shards) }
+    ensures bits { IfOk result (λ opening.
+        opening.bits.items ≡ for_each_shard (bits_at ledger.now names.now shards) shards) }
+{
+    let shares = shares_of(alloc, ledger, names, shards)?;
+    let mut purses = Vec::with_capacity(alloc, shards as usize)?;
+    let mut bits = Vec::with_capacity(alloc, shards as usize)?;
+    for share in shares {
+        let clear = clear_words(ledger, names, shards, bits.len() as u32);
+        let (balances, words) = share.into_words(clear)?;
+        purses.push(balances)?;
+        bits.push(words)?;
+    }
+    Ok(Opening { purses, bits })
 }

@@ -12,8 +12,8 @@ invariant_of-result c = record {
   in_order = c.in_ok-names.ensures.rise;
   some_shard = c.requires.some_shard;
   few_shards = c.requires.few_shards;
-  purses = ap length c.in_ok-purses.ensures
+  purses = ap length c.in_ok-purses.ensures.purses
       ∙ length-map-range_with_len (purses_at c.args.ledger.now c.args.shards) 0 c.args.shards;
-  bits = ap length c.in_ok-bits.ensures
+  bits = ap length c.in_ok-purses.ensures.bits
       ∙ length-map-range_with_len (bits_at c.args.ledger.now c.deref.result.now c.args.shards) 0 c.args.shards;
 }
