@@ -49,7 +49,7 @@ fn accounts_from(
     Ok((accounts, from.place()))
 }
 
-// The same by so many threads.
+// The same by so many threads. The last part is put after those before it, where there is room, so each is moved once.
 fn accounts_by<R: Threads + Sync>(
     rt: &R,
     threads: usize,
@@ -70,19 +70,19 @@ fn accounts_by<R: Threads + Sync>(
     let others = threads - 1;
     let share = count / threads;
     let rest = count - share;
-    let middle = place.saturating_add(share.saturating_mul(account_width(version, assets)));
-    let (front, back) = fork_mut(
+    let middle = place.saturating_add(rest.saturating_mul(account_width(version, assets)));
+    let (back, front) = fork_mut(
         rt,
         others < 2,
         &mut || -> Result<(Vec<Account>, usize), ReadError>
-            ensures { IfOk result (λ read. AreAccountsAt payload.entry.now version assets place share read.0.items read.1) }
-        { accounts_from(alloc, payload, place, version, assets, share, room) },
+            ensures { IfOk result (λ read. AreAccountsAt payload.entry.now version assets middle share read.0.items read.1) }
+        { accounts_from(alloc, payload, middle, version, assets, share, share) },
         &mut || -> Result<(Vec<Account>, usize), ReadError>
             requires { IsSync R.row × (1 ≤ others) }
-            ensures { IfOk result (λ read. AreAccountsAt payload.entry.now version assets middle rest read.0.items read.1) }
+            ensures { IfOk result (λ read. AreAccountsAt payload.entry.now version assets place rest read.0.items read.1) }
         {
             accounts_by(
-                rt, others, alloc, payload, middle, version, assets, rest, rest,
+                rt, others, alloc, payload, place, version, assets, rest, room,
             )
         },
     );
