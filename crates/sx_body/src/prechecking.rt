@@ -307,6 +307,40 @@ fn enter_pieces<R: Threads + Sync>(
     Ok(())
 }
 
+// The same, with room for the places of two pieces and for what is pending.
+fn enter_all<R: Threads + Sync>(
+    rt: &R,
+    alloc: Global,
+    ledger: &Ledger,
+    index: &LedgerIndex,
+    txs: &[Tx],
+    workers: u32,
+    tally: &mut Tally,
+) -> Result<(), PrecheckFault>
+    requires ledger { IsLedger ledger.now }
+    requires index { index.now ≡ ids ledger.now.accounts }
+    requires some_workers { 2 ≤ workers }
+    requires some { 1 ≤ length txs.now }
+    requires tally { IsTally ledger.now [] tally.old }
+    ensures tally { OnOk result (IsTally ledger.now txs.now tally.new) }
+    ensures refused { IfErr result (IsPrecheckFault ledger.now txs.now) }
+{
+    let mut known = empty_slots(alloc, PIECE.min(txs.len()))?;
+    let mut ahead = empty_slots(alloc, known.len())?;
+    let mut pending = Pending::none(alloc, RUN)?;
+    enter_pieces(
+        rt,
+        ledger,
+        index,
+        txs,
+        workers,
+        &mut known,
+        &mut ahead,
+        tally,
+        &mut pending,
+    )
+}
+
 /// The same as [`precheck`], with threads that look places up. It goes over the transactions in pieces: threads look up
 /// what the first piece names; then one thread enters the transactions of a piece in their order, while others look up
 /// what the next piece names. At most so many threads work at the same time. So the answer is that of [`precheck`],
@@ -327,19 +361,6 @@ pub fn par_precheck<R: Threads + Sync>(
     }
     let index = ledger.index()?;
     let mut tally = Tally::none(alloc, ledger, txs.len())?;
-    let mut known = empty_slots(alloc, PIECE.min(txs.len()))?;
-    let mut ahead = empty_slots(alloc, known.len())?;
-    let mut pending = Pending::none(alloc, RUN)?;
-    enter_pieces(
-        rt,
-        ledger,
-        &index,
-        txs,
-        workers,
-        &mut known,
-        &mut ahead,
-        &mut tally,
-        &mut pending,
-    )?;
+    enter_all(rt, alloc, ledger, &index, txs, workers, &mut tally)?;
     Ok(tally)
 }
