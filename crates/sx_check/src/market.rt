@@ -11,8 +11,8 @@ ghost use Rattle.sx_ledger.specs.Ledger.{IsLedger, assets_of};
 use crate::fault::CheckFault;
 use crate::invalid::Invalid;
 use std::alloc::Global;
-use sx_bounds::{bounds_of, without_low};
 use sx_block::Block;
+use sx_bounds::{bounds_of, without_low};
 use sx_dual::{Bounds, Cut, cuts, fits};
 use sx_ledger::{Ledger, Offer};
 

@@ -6,8 +6,8 @@ ghost use Rattle.sx_ledger.specs.Body.{IsAdmissible};
 
 use std::alloc::Global;
 use std::thread::Threads;
-use sx_apply::{par_tally_of, tally_of};
 use sx_after::{OfferChange, offers_after};
+use sx_apply::{par_tally_of, tally_of};
 use sx_body::Tally;
 use sx_bytes::NoMemory;
 use sx_ledger::Ledger;
