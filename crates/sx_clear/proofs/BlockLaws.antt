@@ -7,7 +7,7 @@ use Rattle.sx_base.specs.Ranges.{most_amount}
 use Rattle.sx_block.specs.declared.header.Block.{Block}
 use Rattle.sx_block.specs.Effects.{IsRounded, IsTradable}
 use Rattle.sx_block.specs.Validity.{IsValid, flow_of_block, high_in, offers_of, undropped_low_in}
-use Rattle.sx_clear.specs.declared.trade.Trade.{Trade}
+use Rattle.sx_trade.specs.declared.trade.Trade.{Trade}
 use Rattle.sx_clear.specs.Dropping.{DropsExactly}
 use Rattle.sx_clear.specs.Traded.{IsTradeAt}
 use Rattle.sx_dual.specs.declared.cut.Cut.{Cut}

@@ -25,6 +25,8 @@ use Rattle.sx_ledger.specs.Ledger.{IsLedger, assets_of}
 use Rattle.sx_ledger.specs.Trade.{traded}
 use Rattle.sx_level.specs.Solved.{HaveDigits, most_searches}
 use Rattle.sx_price.specs.Limits.{IsPrice}
+use Rattle.sx_trade.specs.declared.trade.Trade.{Trade}
+use Rattle.sx_trade.specs.Traded.{IsTrade}
 use Rattle.sx_tx.specs.declared.tx.Tx.{Tx}
 
 module _ (parts : Parts) (txs : List Tx) (body : Body) (prices : List ℕ) (j : ℕ) (trading : Trading)
@@ -50,6 +52,15 @@ module _ (parts : Parts) (txs : List Tx) (body : Body) (prices : List ℕ) (j : 
       let leaves : CanLeave parts body prices trading.filled.rounding trading.filled.fills =
       record { txs = txs; admissible = admissible; body = found; trade = execute } in
       record { trade = trade; rounded = rounded; fills = fills; leaves = leaves }
+
+-- what trades within the bounds of the offers after these transactions
+pub traded_at : (parts : Parts) (txs : List Tx) (prices : List ℕ) (j : ℕ) (bounds : BoundsTable) (trade : Trade)
+    → HasBoundsAt parts txs prices j bounds
+    → ((n : ℕ) (low high : ℕ → ℕ → ℕ) → HasBounds n low high bounds → IsTrade n low high trade)
+    → IsTradeAt parts txs prices j trade
+traded_at parts txs prices j bounds trade has traded =
+    let offers = (body_after parts txs).offers in
+    traded (assets_of parts) (low_of prices j false offers) (high_of prices offers) has
 
 -- what is counted by the bounds of a table is counted by the offers after these transactions
 pub counted_at : (parts : Parts) (txs : List Tx) (prices : List ℕ) (j : ℕ) (bounds : BoundsTable) (old new : ℕ)

@@ -11,7 +11,3 @@ use Rattle.sx_level.specs.Solved.{HaveDigits, most_searches}
 abbrev pub IsCounted : Parts → ℕ → ℕ → Block → Type 0
 IsCounted parts old new block =
     (b : ℕ) → HaveDigits (assets_of parts) (high_in parts block) b → new ≤ old + 2 * most_searches (assets_of parts) b
-
--- no more than this for any block: twice the most for 32 assets, and for values of at most 2 ^ 102, so of 103 digits
-abbrev pub most_clearing_searches : ℕ
-most_clearing_searches = 29000400

@@ -7,12 +7,13 @@ ghost use Rattle.sx_discovery.specs.Digests.{IsBodyDigest};
 ghost use Rattle.sx_clear.specs.Dropping.{DropsExactly};
 ghost use Rattle.sx_discovery.specs.Found.{IsBodyOf};
 ghost use Rattle.sx_discovery.specs.Quotes.{imbalance_at, posted_at};
-ghost use Rattle.sx_clear.specs.Searches.{IsCounted, most_clearing_searches};
+ghost use Rattle.sx_clear.specs.Searches.{IsCounted};
 ghost use Rattle.sx_clear.specs.Trading.{IsTrading};
 ghost use Rattle.sx_dual.specs.Circulation.{IsGreatest};
 ghost use Rattle.sx_ledger.specs.Body.{IsAdmissible};
 ghost use Rattle.sx_ledger.specs.Ledger.{assets_of, most_height};
 ghost use Rattle.sx_price.specs.Limits.{IsPrice};
+ghost use Rattle.sx_trade.specs.Searches.{most_clearing_searches};
 ghost use Rattle.sx_tx.specs.Transactions.{list_bytes, most_transactions};
 
 use crate::clearing::{Trading, trade_body};

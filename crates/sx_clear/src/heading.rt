@@ -9,7 +9,6 @@ ghost use Rattle.sx_ledger.specs.Body.{IsAdmissible};
 ghost use Rattle.sx_ledger.specs.Ledger.{IsLedger, most_height};
 ghost use Rattle.sx_tx.specs.Transactions.{IsTx, most_transactions};
 
-use crate::trade::Trade;
 use std::snapshot::Snapshot;
 use sx_base::Balances;
 use sx_block::{Block, Digest, Header};
@@ -17,6 +16,7 @@ use sx_discovery::Digests;
 use sx_dual::Potentials;
 use sx_ledger::Ledger;
 use sx_price::{Mu, Prices};
+use sx_trade::Trade;
 use sx_tx::TxList;
 
 // At which terms a body trades, and the digest of the ledger that is left.

@@ -7,11 +7,10 @@
 //! of several searches, [`clear_in_place`] does the same without a copy of the ledger, and [`clear_at`] takes prices that
 //! are given.
 //!
-//! The method: what the body does, the prices and the bounds of each pair are found first (`sx_discovery`). `solve` of
-//! `sx_level` finds a circulation of greatest value within the bounds, or a cut. Where it finds a cut, it is asked once
-//! more, without the lower bounds: it is asked at most twice, and so the number of its searches has a bound. The value
-//! is shared out among the offers of each pair in their order, rounded to whole units. What the block leaves of the
-//! ledger, or of a copy, is hashed for its header.
+//! The method: what the body does, the prices and the bounds of each pair are found first (`sx_discovery`). Then
+//! `trade_within` of `sx_trade` answers a circulation of greatest value within the bounds, with lower bounds dropped where
+//! a cut shows that none keeps them. The value is shared out among the offers of each pair in their order, rounded to
+//! whole units. What the block leaves of the ledger, or of a copy, is hashed for its header.
 //!
 //! A thread makes the digest of a large body beside the search for prices, and that of a large ledger beside a copy and
 //! its digest. In [`clear_in_place`] that thread writes the body, and others hash what it has written; the block and the
@@ -43,7 +42,6 @@ mod clearing;
 mod clearing_in_place;
 mod filling;
 mod heading;
-mod trade;
 
 pub use clearing::{clear, clear_at, clear_many};
 pub use clearing_in_place::{Cleared, clear_in_place};

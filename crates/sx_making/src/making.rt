@@ -2,7 +2,7 @@
 
 ghost use Rattle.std.specs.Prelude.{◌≡◌, ◌+◌, ◌≤◌, ◌<◌, Ok, IfErr, IfOk, length};
 ghost use Rattle.sx_block.specs.Validity.{digest_of_ledger};
-ghost use Rattle.sx_clear.specs.Searches.{most_clearing_searches};
+ghost use Rattle.sx_trade.specs.Searches.{most_clearing_searches};
 ghost use Rattle.sx_digests.specs.StateDigest.{IsWhole, digest_in};
 ghost use Rattle.sx_gather.specs.Start.{IsFaultOf};
 ghost use Rattle.sx_input.specs.Head.{IsHead};

@@ -28,7 +28,7 @@
 //! received that tells nothing of its bytes.
 //!
 //! The way of the data: `sx_input` (bytes to what records hold); `sx_chain` (the commands `check`, `replay` and
-//! `follow`), `sx_seal` (`seal` and `demo`), `sx_choosing` (`filter`), `sx_proving` (`prove` and `verify`),
+//! `follow`), `sx_seal` (`seal`), `sx_demo` (`demo`), `sx_choosing` (`filter`), `sx_proving` (`prove` and `verify`),
 //! `interleaving`, `migrating` and `showing` (the other commands); `output` (what a command writes), and `running` (what
 //! a command found to what is written and to a status). What is found of an input is defined in `sx_meaning`, and texts
 //! and statuses are those of `sx_text`.

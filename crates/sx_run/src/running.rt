@@ -2,7 +2,7 @@
 
 ghost use Rattle.std.specs.Prelude.{◌≡◌, ◌+◌, ◌≤◌, IfSome, IsErrOf, IsTrue};
 ghost use Rattle.sx_base.specs.Outside.{Rose};
-ghost use Rattle.sx_clear.specs.Searches.{most_clearing_searches};
+ghost use Rattle.sx_trade.specs.Searches.{most_clearing_searches};
 ghost use Rattle.sx_input.specs.Found.{Found};
 ghost use Rattle.sx_input.specs.Stream.{UnlessReadFault};
 ghost use Rattle.sx_meaning.specs.Answers.{Answers, Completes, FitsWords, IsRead, asked, reads_nothing, takes_no_input};
@@ -27,13 +27,14 @@ use std::thread::Threads;
 use sx_base::{Sink, Source};
 use sx_chain::{check, follow, replay};
 use sx_choosing::filter;
+use sx_demo::demonstrate;
 use sx_input::Stop;
 use sx_making::Numbers;
 use sx_meaning::{chain_laws, input_laws};
 use sx_net::Steps;
 use sx_price::Mu;
 use sx_proving::{prove, verify};
-use sx_seal::{demonstrate, seal};
+use sx_seal::seal;
 use sx_text::Status;
 use sx_words::{Command, WordsFault, parse};
 use sx_workers::Gate;

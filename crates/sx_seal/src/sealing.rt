@@ -4,7 +4,7 @@
 ghost use Rattle.std.specs.Prelude.{◌≡◌, ◌+◌, ◌≤◌, ◌++◌, [], ◌∷◌, length, Err, IfErr, IfOk, IsErrOf, IsTrue};
 ghost use Rattle.sx_base.specs.Outside.{Rose};
 ghost use Rattle.sx_block.specs.Block.{IsBlock};
-ghost use Rattle.sx_clear.specs.Searches.{most_clearing_searches};
+ghost use Rattle.sx_trade.specs.Searches.{most_clearing_searches};
 ghost use Rattle.sx_input.specs.Found.{ConcludesAs, Found};
 ghost use Rattle.sx_input.specs.Head.{IsHead};
 ghost use Rattle.sx_input.specs.Stream.{UnlessReadFault};

@@ -1,9 +1,9 @@
 -- How many searches are made at most.
 use Rattle.std.proofs.Common.{◌≡◌, ℕ, ◌+◌, ◌*◌, ◌<◌, ◌≤◌, refl, subst, arith}
 use Rattle.sx_bounds.specs.Bounds.{HasBounds}
-use Rattle.sx_clear.specs.Searches.{most_clearing_searches}
 use Rattle.sx_dual.specs.Tables.{BoundsTable, high_of}
 use Rattle.sx_level.specs.Solved.{HaveDigits, most_searches}
+use Rattle.sx_trade.specs.Searches.{most_clearing_searches}
 
 -- ---- circulations
 

@@ -1,5 +1,5 @@
-use Rattle.sx_seal.proofs.Demonstrations.{room_there}
-use Rattle.sx_seal.proofs.demonstrating.made.Goals as goal
+use Rattle.sx_demo.proofs.Demonstrations.{room_there}
+use Rattle.sx_demo.proofs.demonstrating.made.Goals as goal
 
 pub no_memory-requires : goal.no_memory-requires
 no_memory-requires g c =

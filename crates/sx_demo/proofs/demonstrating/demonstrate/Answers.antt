@@ -1,8 +1,8 @@
 use Rattle.std.proofs.Common.{List, ap, ◌∙◌}
 use Rattle.sx_layout.specs.declared.outcome.Outcome.{Outcome}
 use Rattle.sx_text.specs.Demonstration.{demo_text}
-use Rattle.sx_seal.proofs.Demonstrations.{demonstrates, eight_assets, summed_up}
-use Rattle.sx_seal.proofs.demonstrating.demonstrate.Goals as goal
+use Rattle.sx_demo.proofs.Demonstrations.{demonstrates, eight_assets, summed_up}
+use Rattle.sx_demo.proofs.demonstrating.demonstrate.Goals as goal
 
 pub demo_lines-requires : goal.demo_lines-requires
 demo_lines-requires g c = eight_assets c.in_ok-made.made.block c.in_ok-made.ensures.made.cleared.valid

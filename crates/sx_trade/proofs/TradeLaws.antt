@@ -1,5 +1,5 @@
--- What pairs trade, from tables with the bounds of the offers.
-use Rattle.std.proofs.Common.{◌≡◌, ℕ, zero, suc, ◌<◌, ◌^◌, false, List, Option, None, inl, inr, refl, sym, subst, ◌∙◌}
+-- What pairs trade, from tables of the bounds.
+use Rattle.std.proofs.Common.{◌≡◌, ℕ, zero, suc, ◌<◌, ◌^◌, List, Option, None, inl, inr, refl, sym, subst, ◌∙◌}
 use Rattle.std.proofs.Common.{arith}
 use Rattle.std.specs.Prelude.{if◌then◌else◌, is_some}
 use Rattle.std.proofs.lemmas.Bool.{cases_Bool, cases_eq}
@@ -7,21 +7,15 @@ use Rattle.sx_bounds.specs.Bounds.{HasBounds}
 use Rattle.sx_bounds.proofs.SameBounds.{cut_from, fits_from}
 use Rattle.sx_block.specs.Block.{CutFits}
 use Rattle.sx_block.specs.Validity.{CutHolds}
-use Rattle.sx_clear.specs.declared.trade.Trade.{Trade}
-use Rattle.sx_discovery.specs.Found.{HasBoundsAt}
-use Rattle.sx_clear.specs.Traded.{HasNoLow, IsFreeTrade, IsTrade, IsTradeAt}
 use Rattle.sx_dual.specs.declared.cut.Cut.{Cut}
 use Rattle.sx_dual.specs.Cuts.{goes_in, sum_in}
 use Rattle.sx_dual.specs.Sums.{EachPair, between, sum_below}
 use Rattle.sx_dual.specs.Tables.{BoundsTable, FlowTable, high_of, low_of, potential_of, value_of}
 use Rattle.sx_dual.proofs.SumLaws.{between-other, between-self, sum_below-same}
 use Rattle.sx_dual.specs.Cuts.{IsCutOf}
-use Rattle.sx_ledger.specs.declared.parts.Parts.{Parts}
-use Rattle.sx_ledger.specs.Body.{body_after}
-use Rattle.sx_ledger.specs.Bounds.{high_of as high_at, low_of as low_at}
-use Rattle.sx_ledger.specs.Ledger.{assets_of}
 use Rattle.sx_level.specs.Solved.{IsBest}
-use Rattle.sx_tx.specs.declared.tx.Tx.{Tx}
+use Rattle.sx_trade.specs.declared.trade.Trade.{Trade}
+use Rattle.sx_trade.specs.Traded.{HasNoLow, IsFreeTrade, IsTrade}
 
 -- ---- bounds with no lower one
 
@@ -64,15 +58,6 @@ own_bounds bounds = record {
 }
 
 -- ---- trades
-
--- what trades within the bounds of the offers after these transactions
-pub traded_at : (parts : Parts) (txs : List Tx) (prices : List ℕ) (j : ℕ) (bounds : BoundsTable) (trade : Trade)
-    → HasBoundsAt parts txs prices j bounds
-    → ((n : ℕ) (low high : ℕ → ℕ → ℕ) → HasBounds n low high bounds → IsTrade n low high trade)
-    → IsTradeAt parts txs prices j trade
-traded_at parts txs prices j bounds trade has traded =
-    let offers = (body_after parts txs).offers in
-    traded (assets_of parts) (low_at prices j false offers) (high_at prices offers) has
 
 best_from : (n : ℕ) (low high : ℕ → ℕ → ℕ) (bounds : BoundsTable) (flow : FlowTable) (potentials : List ℕ)
     → HasBounds n low high bounds → IsBest bounds.assets (low_of bounds) (high_of bounds) flow potentials

@@ -3,7 +3,7 @@
 ghost use Rattle.std.specs.Prelude.{◌≡◌, ◌+◌, ◌≤◌, ℕ, List, Option, Ok, IfOk, IsErrOf};
 ghost use Rattle.sx_block.specs.Validity.{IsValid};
 ghost use Rattle.sx_check.specs.Checked.{checked_of};
-ghost use Rattle.sx_clear.specs.Searches.{most_clearing_searches};
+ghost use Rattle.sx_trade.specs.Searches.{most_clearing_searches};
 ghost use Rattle.sx_gather.specs.Start.{IsFaultOf};
 ghost use Rattle.sx_gen.specs.Candidates.{demo_txs};
 ghost use Rattle.sx_gen.specs.State.{demo_parts};

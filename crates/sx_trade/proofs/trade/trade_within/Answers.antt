@@ -1,8 +1,8 @@
 use Rattle.std.proofs.Common.{refl, subst}
 use Rattle.std.proofs.lemmas.Result.{IfOk-weaker}
-use Rattle.sx_clear.proofs.SearchCounts.{asked, asked_once, asked_twice}
-use Rattle.sx_clear.proofs.TradeLaws.{dropped_trade, kept_trade, no_low, own_bounds}
-use Rattle.sx_clear.proofs.trade.trade_within.Goals as goal
+use Rattle.sx_trade.proofs.SearchCounts.{asked, asked_once, asked_twice}
+use Rattle.sx_trade.proofs.TradeLaws.{dropped_trade, kept_trade, no_low, own_bounds}
+use Rattle.sx_trade.proofs.trade.trade_within.Goals as goal
 use Rattle.sx_dual.specs.Tables.{high_of, low_of}
 use Rattle.sx_level.specs.Solved.{IsSolved, most_searches}
 

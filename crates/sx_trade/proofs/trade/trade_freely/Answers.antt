@@ -1,7 +1,7 @@
 use Rattle.std.proofs.Common.{subst}
 use Rattle.sx_level.specs.Solved.{IsSolved}
-use Rattle.sx_clear.proofs.TradeLaws.{no_cut}
-use Rattle.sx_clear.proofs.trade.trade_freely.Goals as goal
+use Rattle.sx_trade.proofs.TradeLaws.{no_cut}
+use Rattle.sx_trade.proofs.trade.trade_freely.Goals as goal
 
 pub unreachable-requires : goal.unreachable-requires
 unreachable-requires g c =

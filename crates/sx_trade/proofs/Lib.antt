@@ -1,0 +1,2 @@
+pub mod TradeLaws
+pub mod SearchCounts
