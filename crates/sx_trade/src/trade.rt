@@ -18,9 +18,9 @@ use sx_net::Steps;
 /// What pairs trade.
 #[derive(Drop)]
 pub struct Trade {
-    /// The value that each pair trades.
+    /// The value that each pair trades, in units of `2^-24`.
     pub flow: Flow,
-    /// One of each asset, which show that no more value could be traded.
+    /// A potential for each asset: they show that no more value could be traded.
     pub potentials: Potentials,
     /// Where lower bounds were dropped, the cut that shows that no circulation keeps them.
     pub dropped: Option<Cut>,
@@ -51,8 +51,8 @@ fn trade_freely<L: Ledger>(
     }
 }
 
-/// A circulation of greatest value within the bounds, with potentials that show it. Where there is none, lower bounds are
-/// dropped, and the cut shows why. `NoMemory` is the only error.
+/// A circulation of greatest value within the bounds, which are values in units of `2^-24`, with potentials that show
+/// it. Where there is none, lower bounds are dropped, and the cut shows why. `NoMemory` is the only error.
 ///
 /// `steps` counts the searches of the circulation. For n assets and upper bounds below `2^b` these are at most twice
 /// `(n + 1)(b + 1)(4n(n + 1) + 1)`, and never more than 29,000,400, whatever is answered.
