@@ -1,7 +1,7 @@
 """Bounds of trade for bench/circulation: for each two assets the least and the greatest value that may be traded.
 
 Each kind is a function of the number of assets and of a generator, and answers a table of pairs (low, high), by the
-asset sold and the asset bought. BOOKS has the kinds that the benchmark itself prints, from the bounds of drawn offers.
+asset sold and the asset bought.
 """
 ORDERS = 102
 
@@ -151,11 +151,3 @@ def without_lower(bounds):
 
 KINDS = (zero, tight, most, half, ring, rings, small, spread, wide, chance, offers, posted)
 KINDS += (scales, nested, layers, ladder)
-
-# offers, and whether the lower bounds are dropped
-BOOKS = {
-    "book 2,000": (2_000, False),
-    "book 2,000 dropped": (2_000, True),
-    "book 262,144": (262_144, False),
-    "book 262,144 dropped": (262_144, True),
-}

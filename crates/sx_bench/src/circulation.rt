@@ -1,35 +1,22 @@
 //! A circulation of greatest value is found, or a cut.
 
-ghost use Rattle.std.specs.Prelude.{◌≡◌, ◌<◌, IfOk};
+ghost use Rattle.std.specs.Prelude.{◌≡◌, ◌<◌};
 ghost use Rattle.sx_level.specs.Solved.{IsSolved};
 
-use crate::benchmark::ROUNDS;
+use crate::report::ROUNDS;
 use anyhow::{Result, ensure};
-use std::alloc::Global;
 use std::marker::Brand;
 use std::rt::Clock;
 use std::sync::ledger::{Blank, Ledger};
 use std::time::Instant;
-use sx_bytes::NoMemory;
-use sx_circ::best;
 use sx_dual::{Bounds, cuts, fits};
-use sx_feas::{Feas, feasible};
 use sx_level::{Solved, solve};
 use sx_net::Steps;
 
 pub const NAME: &str = "circulation";
 
 pub const WHAT: &str =
-    "finds a circulation of greatest value within the bounds that are read, or a cut";
-
-pub const LEVELS: &str = "levels";
-
-/// How a circulation is found: a first one and from there a greatest one, or level by level.
-#[derive(Clone, Copy)]
-pub enum Method {
-    Pair,
-    Levels,
-}
+    "finds a circulation of greatest value within the bounds that are read, or a cut, level by level";
 
 // What was found: the value that is traded, or the assets of a cut as the bits of a number.
 #[derive(Clone, Copy, PartialEq, Eq)]
@@ -43,36 +30,6 @@ enum Found {
 struct Run {
     found: Found,
     taken: u128,
-}
-
-fn solve_by_pair<L: Ledger>(
-    alloc: Global,
-    bounds: &Bounds,
-    steps: &mut Steps<L>,
-) -> Result<Solved, NoMemory>
-    ensures { IfOk result (IsSolved bounds.now) }
-{
-    match feasible(alloc, bounds, steps)? {
-        Feas::Flow(flow) => {
-            let (flow, potentials) = best(alloc, bounds, flow, steps)?;
-            Ok(Solved::Best { flow, potentials })
-        }
-        Feas::Cut(cut) => Ok(Solved::Cut(cut)),
-    }
-}
-
-fn solve_by<L: Ledger>(
-    method: Method,
-    alloc: Global,
-    bounds: &Bounds,
-    steps: &mut Steps<L>,
-) -> Result<Solved, NoMemory>
-    ensures { IfOk result (IsSolved bounds.now) }
-{
-    match method {
-        Method::Pair => solve_by_pair(alloc, bounds, steps),
-        Method::Levels => solve(alloc, bounds, steps),
-    }
 }
 
 // What is found by an answer, which is looked at once more.
@@ -94,32 +51,26 @@ fn found_by(bounds: &Bounds, solved: Solved) -> Result<Found>
 
 fn run_once<R: Clock + AllocGlobal, L: Ledger>(
     rt: &R,
-    method: Method,
     bounds: &Bounds,
     steps: &mut Steps<L>,
 ) -> Result<Run> {
     let start = Instant::now(rt)?;
-    let solved = solve_by(method, rt.alloc(), bounds, steps)?;
+    let solved = solve(rt.alloc(), bounds, steps)?;
     let taken = start.elapsed(rt)?.as_nanos();
     let found = found_by(bounds, solved)?;
     Ok(Run { found, taken })
 }
 
 // The quickest of several runs, which all find the same.
-fn best_run<R: Clock + AllocGlobal, L: Ledger>(
-    rt: &R,
-    method: Method,
-    bounds: &Bounds,
-    blank: Blank,
-) -> Result<Run>
+fn best_run<R: Clock + AllocGlobal, L: Ledger>(rt: &R, bounds: &Bounds, blank: Blank) -> Result<Run>
     requires name { blank.name ≡ L.name }
     requires parts { blank.parts ≡ L.parts }
     requires some { 0 < blank.parts }
 {
     let mut steps = Steps::<L>::new(blank);
-    let mut least = run_once(rt, method, bounds, &mut steps)?;
+    let mut least = run_once(rt, bounds, &mut steps)?;
     for _ in 0..4 * ROUNDS {
-        let again = run_once(rt, method, bounds, &mut steps)?;
+        let again = run_once(rt, bounds, &mut steps)?;
         ensure!(again.found == least.found, "two runs find two things");
         least.taken = least.taken.min(again.taken);
     }
@@ -127,12 +78,8 @@ fn best_run<R: Clock + AllocGlobal, L: Ledger>(
 }
 
 /// Prints the least time of several runs in nanoseconds, and the value that is traded, or the assets of the cut.
-pub fn measure<R: Clock + Print + AllocGlobal>(
-    rt: &R,
-    method: Method,
-    bounds: &Bounds,
-) -> Result<()> {
-    let Run { found, taken } = best_run::<R, Brand>(rt, method, bounds, Blank::new(1))?;
+pub fn measure<R: Clock + Print + AllocGlobal>(rt: &R, bounds: &Bounds) -> Result<()> {
+    let Run { found, taken } = best_run::<R, Brand>(rt, bounds, Blank::new(1))?;
     match found {
         Found::Traded(value) => println!(rt; "{taken} ns traded {value}")?,
         Found::Cut(set) => println!(rt; "{taken} ns cut {set:b}")?,

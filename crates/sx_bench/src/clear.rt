@@ -7,6 +7,7 @@ ghost use Rattle.sx_ledger.specs.Body.{IsAdmissible};
 ghost use Rattle.sx_ledger.specs.Ledger.{assets_of, most_height};
 ghost use Rattle.sx_tx.specs.Transactions.{most_transactions};
 
+use crate::records::record;
 use anyhow::{Result, bail};
 use std::alloc::Global;
 use std::marker::Brand;
@@ -22,7 +23,7 @@ use sx_laws::validity_laws;
 use sx_ledger::Ledger;
 use sx_net::Steps;
 use sx_price::Mu;
-use sx_record::{Record, next_record, tag};
+use sx_record::tag;
 use sx_state::read_state;
 use sx_tx::TxList;
 
@@ -36,13 +37,6 @@ pub const WHAT: &str =
 struct Input {
     ledger: Ledger,
     block: Block,
-}
-
-fn record<S: Source>(alloc: Global, source: &mut S, tag: u8) -> Option<Record> {
-    match next_record(alloc, source, 0, &[tag]) {
-        Ok(found) => found,
-        Err(_) => None,
-    }
 }
 
 fn read_input<S: Source>(alloc: Global, source: &mut S) -> Option<Input>

@@ -5,8 +5,7 @@ ghost use Rattle.std.specs.Prelude.{◌+◌, ◌^◌, ◌<◌, ◌≤◌, IfOk};
 use anyhow::Result;
 use rand_core::{Rng, SeedableRng};
 use rand_xoshiro::Xoshiro256PlusPlus;
-use sx_base::{Amount, AssetId, Seq};
-use sx_price::Limit;
+use sx_base::Amount;
 
 const SEED: u64 = 1;
 
@@ -24,21 +23,9 @@ pub fn draw(generator: &mut Xoshiro256PlusPlus, low: u64, count: u64) -> u64
     low + generator.next_u64() % count
 }
 
-pub fn draw_asset(generator: &mut Xoshiro256PlusPlus) -> Result<AssetId> {
-    Ok(AssetId::new(draw(generator, 0, 32) as u8)?)
-}
-
-pub fn draw_limit(generator: &mut Xoshiro256PlusPlus) -> Result<Limit> {
-    Ok(Limit::new(draw(generator, 1, 1 << 50))?)
-}
-
 /// An amount small enough for any number of them to be within a total.
 pub fn draw_amount(generator: &mut Xoshiro256PlusPlus) -> Result<Amount>
     ensures { IfOk result (λ amount. amount ≤ 2 ^ 40) }
 {
     Ok(Amount::new(draw(generator, 1, 1 << 40))?)
-}
-
-pub fn draw_seq(generator: &mut Xoshiro256PlusPlus) -> Result<Seq> {
-    Ok(Seq::new(draw(generator, 1, 1 << 60))?)
 }

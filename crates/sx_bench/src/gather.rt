@@ -3,7 +3,8 @@
 ghost use Rattle.std.specs.Prelude.{◌≤◌, length, IfSome};
 ghost use Rattle.sx_tx.specs.Transactions.{most_transactions};
 
-use crate::benchmark::ROUNDS;
+use crate::records::record;
+use crate::report::ROUNDS;
 use anyhow::{Result, bail, ensure};
 use std::alloc::Global;
 use std::rt::Clock;
@@ -11,7 +12,7 @@ use std::thread::Threads;
 use std::time::Instant;
 use sx_base::Source;
 use sx_ledger::Ledger;
-use sx_record::{Record, next_record, tag};
+use sx_record::tag;
 use sx_state::read_state;
 use sx_tx::{TxList, read_candidates};
 use sx_workers::{NoGate, gather_all};
@@ -29,13 +30,6 @@ const MOST_WORKERS: u32 = 64;
 struct Input {
     ledger: Ledger,
     candidates: TxList,
-}
-
-fn record<S: Source>(alloc: Global, source: &mut S, tag: u8) -> Option<Record> {
-    match next_record(alloc, source, 0, &[tag]) {
-        Ok(found) => found,
-        Err(_) => None,
-    }
 }
 
 fn read_input<S: Source>(alloc: Global, source: &mut S) -> Option<Input>

@@ -1,5 +1,8 @@
 use std::io;
 
+/// How many times a call is run. The least time counts.
+pub const ROUNDS: u32 = 5;
+
 // Nanoseconds of a second.
 const SECOND: u128 = 1_000_000_000;
 

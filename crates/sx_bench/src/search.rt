@@ -3,9 +3,8 @@
 ghost use Rattle.std.specs.Prelude.{◌≡◌, ◌≤◌, ◌^◌, All, IfOk, length};
 ghost use Rattle.sx_bench.specs.Quotes.{IsSmall};
 
-use crate::benchmark::ROUNDS;
 use crate::quotes::draw_quotes;
-use crate::report;
+use crate::report::{self, ROUNDS};
 use anyhow::{Result, ensure};
 use std::alloc::Global;
 use std::rt::Clock;
@@ -19,17 +18,17 @@ pub const NAME: &str = "search";
 pub const WHAT: &str =
     "builds the curves of SIZE offers of ASSETS assets, and searches prices for 500 rounds";
 
-/// The most offers that are drawn.
-pub const MOST_OFFERS: usize = 1 << 20;
+// The most offers that are drawn.
+const MOST_OFFERS: usize = 1 << 20;
 
-/// How many rounds a search makes at most.
-pub const TRIALS: u32 = 500;
+// How many rounds a search makes at most.
+const TRIALS: u32 = 500;
 
 // The exponent of μ: the least margin, which makes a search longest.
 const MU: u8 = Mu::MOST;
 
-/// The curves of these offers.
-pub fn curves_of(alloc: Global, assets: u32, quotes: Vec<Quote>) -> Result<Curves>
+// The curves of these offers.
+fn curves_of(alloc: Global, assets: u32, quotes: Vec<Quote>) -> Result<Curves>
     requires assets { (2 ≤ assets) × (assets ≤ 32) }
     requires count { length quotes.items ≤ 2 ^ 20 }
     requires small { All (IsSmall assets) quotes.items }

@@ -2,6 +2,7 @@
 
 ghost use Rattle.std.specs.Prelude.{◌≤◌};
 
+use crate::markets::two_accounts;
 use std::alloc::Global;
 use std::test::Fail;
 use std::thread::Threads;
@@ -11,26 +12,6 @@ use sx_ledger::Ledger;
 use sx_proof::*;
 use sx_record::{tag, write_record};
 use sx_state::read_state;
-
-// One asset at 1. Account 1 has 100 units of it, and account 2 has 5.
-#[rattlefmt::skip]
-fn state() -> [u8; 82] {
-    [
-        1,
-        0, 0, 0, 0, 0, 0, 0, 0,
-        1,
-        0, 0, 0, 0, 1, 0, 0, 0,
-        0, 0, 0, 0, 0, 0, 0, 0,
-        0, 0, 0, 2,
-        0, 0, 0, 0, 0, 0, 0, 1,
-        0, 0, 0, 0, 0, 0, 0, 0,
-        0, 0, 0, 0, 0, 0, 0, 100,
-        0, 0, 0, 0, 0, 0, 0, 2,
-        0, 0, 0, 0, 0, 0, 0, 0,
-        0, 0, 0, 0, 0, 0, 0, 5,
-        0, 0, 0, 0,
-    ]
-}
 
 // The record of the proof of account 1: tag, length, root, version, number of assets, place, the account, and sixteen
 // digests.
@@ -111,7 +92,7 @@ fn is_good(alloc: Global, payload: &[u8]) -> Option<bool> {
 
 #[test]
 fn the_record_of_a_proof(rt: HostRuntime) -> Result<(), Fail> {
-    let ledger = read_state(rt.alloc(), state().as_slice())?;
+    let ledger = read_state(rt.alloc(), two_accounts().as_slice())?;
     let one = proved(&rt, rt.alloc(), &ledger, 1);
     assert!(rt; one.is_some_and(|told| told.bytes() == record().as_slice()));
     let four = proved(&rt, rt.alloc(), &ledger, 4);

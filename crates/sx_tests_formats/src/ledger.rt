@@ -1,5 +1,6 @@
 //! A state worked out by hand, through each public call.
 
+use crate::markets::two_offers;
 use std::alloc::Global;
 use std::test::*;
 use sx_base::{AccountId, Amount, AssetId, Seq};
@@ -8,46 +9,6 @@ use sx_ledger::*;
 use sx_price::{Limit, Price};
 use sx_state::*;
 use sx_tx::{Kind, Tx};
-
-// Two assets, the second at the greatest price and with 3 units kept by rounding, at the greatest
-// height. Account 1 has used the sequence number 7. It sells 40 of the first asset under the number
-// 3, at the limit 2, and 1 of the second under the number 7, at the greatest limit.
-#[rattlefmt::skip]
-fn state_bytes() -> [u8; 182] {
-    [
-        1,
-        127, 255, 255, 255, 255, 255, 255, 255,
-        2,
-        0, 0, 0, 0, 1, 0, 0, 0,
-        0, 0, 1, 0, 0, 0, 0, 0,
-        0, 0, 0, 0, 0, 0, 0, 0,
-        0, 0, 0, 0, 0, 0, 0, 3,
-        // accounts, from byte 42 on
-        0, 0, 0, 2,
-        0, 0, 0, 0, 0, 0, 0, 1,
-        0, 0, 0, 0, 0, 0, 0, 7,
-        0, 0, 0, 0, 0, 0, 0, 10,
-        0, 0, 0, 0, 0, 0, 0, 20,
-        255, 255, 255, 255, 255, 255, 255, 255,
-        0, 0, 0, 0, 0, 0, 0, 0,
-        0, 0, 0, 0, 0, 0, 0, 30,
-        0, 0, 0, 0, 0, 0, 0, 0,
-        // offers, from byte 110 on
-        0, 0, 0, 2,
-        0,
-        1,
-        0, 0, 0, 0, 2, 0, 0, 0,
-        0, 0, 0, 0, 0, 0, 0, 1,
-        0, 0, 0, 0, 0, 0, 0, 3,
-        0, 0, 0, 0, 0, 0, 0, 40,
-        1,
-        0,
-        0, 255, 255, 255, 255, 255, 255, 255,
-        0, 0, 0, 0, 0, 0, 0, 1,
-        0, 0, 0, 0, 0, 0, 0, 7,
-        0, 0, 0, 0, 0, 0, 0, 1,
-    ]
-}
 
 fn first_offer() -> Option<Offer> {
     Some(Offer {
@@ -76,7 +37,7 @@ fn numbers(ledger: &Ledger, asset: AssetId) -> Option<[u64; 5]> {
 
 // The height, and the numbers of both assets.
 fn read_numbers(alloc: Global) -> Option<(u64, [u64; 5], [u64; 5])> {
-    let ledger = read_state(alloc, &state_bytes()).ok()?;
+    let ledger = read_state(alloc, &two_offers()).ok()?;
     let first = numbers(&ledger, AssetId::new(0).ok()?)?;
     let second = numbers(&ledger, AssetId::new(1).ok()?)?;
     Some((ledger.height(), first, second))
@@ -84,14 +45,14 @@ fn read_numbers(alloc: Global) -> Option<(u64, [u64; 5], [u64; 5])> {
 
 // Where the ledger and its index find an account.
 fn found_account(alloc: Global, id: u64) -> Option<[Option<u32>; 2]> {
-    let ledger = read_state(alloc, &state_bytes()).ok()?;
+    let ledger = read_state(alloc, &two_offers()).ok()?;
     let index = ledger.index().ok()?;
     Some([ledger.find(AccountId(id)), index.find(AccountId(id))])
 }
 
 // Where the first offer is found, and whether it stands there.
 fn found_offer(alloc: Global) -> Option<(u32, bool)> {
-    let ledger = read_state(alloc, &state_bytes()).ok()?;
+    let ledger = read_state(alloc, &two_offers()).ok()?;
     let offer = first_offer()?;
     let place = ledger.find_offer(&offer.key())?;
     if place >= ledger.offers() {
@@ -118,7 +79,7 @@ fn a_state_is_read(rt: HostRuntime) {
 
 // The state and its length once it was read, copied, taken apart and put together.
 fn written(alloc: Global) -> Option<(Writer, u32)> {
-    let ledger = read_state(alloc, &state_bytes()).ok()?;
+    let ledger = read_state(alloc, &two_offers()).ok()?;
     let again = Ledger::of(ledger.copy().ok()?.into_parts());
     let mut to = Writer::new(alloc);
     write_state(&mut to, &again).ok()?;
@@ -128,7 +89,7 @@ fn written(alloc: Global) -> Option<(Writer, u32)> {
 #[test]
 fn a_state_is_written(rt: HostRuntime) -> Result<(), Fail> {
     let (to, length) = written(rt.alloc()).ok_or("memory")?;
-    assert_eq!(rt; to.bytes(), state_bytes().as_slice());
+    assert_eq!(rt; to.bytes(), two_offers().as_slice());
     assert_eq!(rt; length, 182);
     state_laws();
     Ok(())
@@ -136,7 +97,7 @@ fn a_state_is_written(rt: HostRuntime) -> Result<(), Fail> {
 
 #[test]
 fn prices_are_read(rt: HostRuntime) -> Result<(), Fail> {
-    let bytes = state_bytes();
+    let bytes = two_offers();
     let mut from = Reader::new(&bytes);
     from.raw(10)?;
     let prices = read_prices(rt.alloc(), &mut from, 2).ok().ok_or("prices")?;
@@ -151,7 +112,7 @@ fn prices_are_read(rt: HostRuntime) -> Result<(), Fail> {
 
 // What the state is refused with once one byte of it is another.
 fn refusal(alloc: Global, place: usize, byte: u8) -> Option<ReadError> {
-    let mut payload = state_bytes();
+    let mut payload = two_offers();
     *payload.get_mut(place)? = byte;
     read_state(alloc, &payload).err()
 }
@@ -218,7 +179,7 @@ fn kinds() -> Option<[Kind; 4]> {
 // The places of the payment and of the cancellation, by account 1, with the account looked for at a
 // place first.
 fn placed(alloc: Global, near: u32) -> Option<[Result<Places, Static>; 2]> {
-    let ledger = read_state(alloc, &state_bytes()).ok()?;
+    let ledger = read_state(alloc, &two_offers()).ok()?;
     let index = ledger.index().ok()?;
     let account = AccountId(1);
     let seq = Seq::new(8).ok()?;
@@ -252,9 +213,7 @@ fn places_are_found(rt: HostRuntime) {
 
 #[test]
 fn transactions_pass(rt: HostRuntime) -> Result<(), Fail> {
-    let ledger = read_state(rt.alloc(), &state_bytes())
-        .ok()
-        .ok_or("a state")?;
+    let ledger = read_state(rt.alloc(), &two_offers()).ok().ok_or("a state")?;
     let account = AccountId(1);
     let (open, used) = (Seq::new(8)?, Seq::new(7)?);
     for kind in kinds().ok_or("kinds")? {

@@ -3,25 +3,12 @@
 ghost use Rattle.std.specs.Prelude.{◌≤◌, length};
 ghost use Rattle.sx_tx.specs.Transactions.{most_transactions};
 
-use crate::workers::two_accounts;
+use crate::markets::{pay, two_accounts};
 use std::alloc::Global;
 use std::thread::Threads;
-use sx_base::{AccountId, Amount, AssetId, Seq};
 use sx_filter::filter;
 use sx_state::read_state;
-use sx_tx::{Kind, Tx};
-
-fn pay(from: u64, seq: u64, to: u64, amount: u64) -> Option<Tx> {
-    Some(Tx {
-        account: AccountId(from),
-        seq: Seq::new(seq).ok()?,
-        kind: Kind::Pay {
-            to: AccountId(to),
-            asset: AssetId::new(0).ok()?,
-            amount: Amount::new(amount).ok()?,
-        },
-    })
-}
+use sx_tx::Tx;
 
 // Two payments of 60 out of 100 units, and one of 5 by another account.
 fn payments() -> Option<[Tx; 3]> {

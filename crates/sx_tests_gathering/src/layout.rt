@@ -2,67 +2,25 @@
 
 ghost use Rattle.std.specs.Prelude.{◌≡◌, IfSome};
 
+use crate::markets::{create, three_accounts};
 use std::alloc::Global;
 use std::test::Fail;
-use sx_base::{AccountId, AssetId, Seq};
+use sx_base::{AccountId, AssetId};
 use sx_layout::{Layout, Spot, closing_law, layout_laws};
 use sx_state::read_state;
-use sx_tx::{Kind, Tx};
-
-// Two assets, three accounts, and one offer of the first account.
-#[rattlefmt::skip]
-fn state_payload() -> [u8; 180] {
-    [
-        1,
-        0, 0, 0, 0, 0, 0, 0, 0,
-        2,
-        0, 0, 0, 0, 1, 0, 0, 0,
-        0, 0, 0, 0, 1, 0, 0, 0,
-        0, 0, 0, 0, 0, 0, 0, 0,
-        0, 0, 0, 0, 0, 0, 0, 0,
-        0, 0, 0, 3,
-        0, 0, 0, 0, 0, 0, 0, 1,
-        0, 0, 0, 0, 0, 0, 0, 3,
-        0, 0, 0, 0, 0, 0, 0, 10,
-        0, 0, 0, 0, 0, 0, 0, 20,
-        0, 0, 0, 0, 0, 0, 0, 2,
-        0, 0, 0, 0, 0, 0, 0, 0,
-        0, 0, 0, 0, 0, 0, 0, 30,
-        0, 0, 0, 0, 0, 0, 0, 0,
-        0, 0, 0, 0, 0, 0, 0, 3,
-        0, 0, 0, 0, 0, 0, 0, 0,
-        0, 0, 0, 0, 0, 0, 0, 40,
-        0, 0, 0, 0, 0, 0, 0, 50,
-        0, 0, 0, 1,
-        0,
-        1,
-        0, 0, 0, 0, 1, 0, 0, 0,
-        0, 0, 0, 0, 0, 0, 0, 1,
-        0, 0, 0, 0, 0, 0, 0, 3,
-        0, 0, 0, 0, 0, 0, 0, 40,
-    ]
-}
-
-fn creation(id: u64) -> Option<Tx> {
-    Some(Tx {
-        account: AccountId(1),
-        seq: Seq::new(4).ok()?,
-        kind: Kind::Create { id: AccountId(id) },
-    })
-}
 
 // The layout for candidates that create accounts 11, 9 and 11.
 fn layout_of(alloc: Global) -> Option<Layout>
     ensures { IfSome result (λ layout. layout.shards ≡ 2) }
 {
-    let ledger = read_state(alloc, &state_payload()).ok()?;
-    let candidates = [creation(11)?, creation(9)?, creation(11)?];
+    let ledger = read_state(alloc, &three_accounts()).ok()?;
+    let candidates = [create(1, 4, 11)?, create(1, 4, 9)?, create(1, 4, 11)?];
     Layout::new(alloc, &ledger, candidates.as_slice(), 2).ok()
 }
 
 // The spots of the last balance, the last account's sequence numbers and the offer.
 fn spots(alloc: Global) -> Option<([Spot; 3], u32)> {
-    let ledger = read_state(alloc, &state_payload()).ok()?;
+    let ledger = read_state(alloc, &three_accounts()).ok()?;
     if ledger.accounts() != 3 || ledger.offers() != 1 || ledger.assets() != 2 {
         return None;
     }

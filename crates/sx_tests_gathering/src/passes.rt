@@ -5,7 +5,8 @@ ghost use Rattle.sx_gather.specs.Passes.{IsPassOf};
 ghost use Rattle.sx_layout.specs.Gathering.{IsGathered};
 ghost use Rattle.sx_workers.specs.Passing.{CanDecide, DecidesRest};
 
-use crate::workers::{are_allowed, debits, two_accounts};
+use crate::markets::two_accounts;
+use crate::workers::{are_allowed, debits};
 use std::alloc::Global;
 use std::test::Fail;
 use std::thread::{Threads, join_mut};

@@ -3,15 +3,14 @@
 ghost use Rattle.std.specs.Prelude.{◌≤◌, length};
 ghost use Rattle.sx_tx.specs.Transactions.{most_transactions};
 
+use crate::markets::{cancel, create, one_offer, pay, two_accounts};
 use std::alloc::Global;
 use std::sync::atomic::{AtomicBool, Ordering};
 use std::test::Fail;
 use std::thread::Threads;
-use sx_base::{AccountId, Amount, AssetId, Seq};
 use sx_layout::Outcome;
-use sx_price::Limit;
 use sx_state::read_state;
-use sx_tx::{Kind, Tx, TxList};
+use sx_tx::{Tx, TxList};
 use sx_workers::{Gate, NoGate, gather_all, gather_list};
 
 // How often each gathering is repeated.
@@ -22,76 +21,21 @@ const LOOKS: u32 = 100_000_000;
 
 const SHARDS: u32 = 2;
 
-// One asset. Account 1 has 100 units, account 2 has 5.
-#[rattlefmt::skip]
-pub fn two_accounts() -> [u8; 82] {
-    [
-        1, 0, 0, 0, 0, 0, 0, 0, 0, 1, 0, 0, 0, 0, 1, 0, 0, 0, 0, 0, 0, 0, 0, 0, 0, 0, 0, 0, 0, 2,
-        0, 0, 0, 0, 0, 0, 0, 1, 0, 0, 0, 0, 0, 0, 0, 0, 0, 0, 0, 0, 0, 0, 0, 100,
-        0, 0, 0, 0, 0, 0, 0, 2, 0, 0, 0, 0, 0, 0, 0, 0, 0, 0, 0, 0, 0, 0, 0, 5, 0, 0, 0, 0,
-    ]
-}
-
-// Two assets. Accounts 1 to 3 have 100 units of the first, and account 1 has used the numbers up to 3, the
-// last for an offer.
-#[rattlefmt::skip]
-fn one_offer() -> [u8; 180] {
-    [
-        1, 0, 0, 0, 0, 0, 0, 0, 0, 2, 0, 0, 0, 0, 1, 0, 0, 0, 0, 0, 0, 0, 1, 0, 0, 0, 0, 0, 0, 0, 0, 0, 0, 0,
-        0, 0, 0, 0, 0, 0, 0, 0, 0, 0, 0, 3, 0, 0, 0, 0, 0, 0, 0, 1, 0, 0, 0, 0, 0, 0, 0, 3, 0, 0, 0, 0, 0, 0,
-        0, 100, 0, 0, 0, 0, 0, 0, 0, 0, 0, 0, 0, 0, 0, 0, 0, 2, 0, 0, 0, 0, 0, 0, 0, 0, 0, 0, 0, 0, 0, 0, 0,
-        100, 0, 0, 0, 0, 0, 0, 0, 0, 0, 0, 0, 0, 0, 0, 0, 3, 0, 0, 0, 0, 0, 0, 0, 0, 0, 0, 0, 0, 0, 0, 0, 100,
-        0, 0, 0, 0, 0, 0, 0, 0, 0, 0, 0, 1, 0, 1, 0, 0, 0, 0, 1, 0, 0, 0, 0, 0, 0, 0, 0, 0, 0, 1, 0, 0, 0, 0,
-        0, 0, 0, 3, 0, 0, 0, 0, 0, 0, 0, 40,
-    ]
-}
-
-fn tx(account: u64, seq: u64, kind: Kind) -> Option<Tx> {
-    Some(Tx {
-        account: AccountId(account),
-        seq: Seq::new(seq).ok()?,
-        kind,
-    })
-}
-
-fn pay(account: u64, seq: u64, amount: u64) -> Option<Tx> {
-    let kind = Kind::Pay {
-        to: AccountId(2),
-        asset: AssetId::new(0).ok()?,
-        amount: Amount::new(amount).ok()?,
-    };
-    tx(account, seq, kind)
-}
-
-fn cancel(seq: u64) -> Option<Tx> {
-    let kind = Kind::Cancel {
-        sell: AssetId::new(0).ok()?,
-        buy: AssetId::new(1).ok()?,
-        limit: Limit::new(1 << 24).ok()?,
-        seq: Seq::new(3).ok()?,
-    };
-    tx(1, seq, kind)
-}
-
-fn create(account: u64, seq: u64) -> Option<Tx> {
-    tx(account, seq, Kind::Create { id: AccountId(9) })
-}
-
 pub fn debits() -> Option<[Tx; 2]> {
-    Some([pay(1, 1, 60)?, pay(1, 2, 60)?])
+    Some([pay(1, 1, 2, 60)?, pay(1, 2, 2, 60)?])
 }
 
 // Each of the first four excludes the one four places after it, which another of four workers has.
 fn pairs() -> Option<[Tx; 8]> {
     Some([
-        pay(2, 1, 60)?,
+        pay(2, 1, 2, 60)?,
         cancel(4)?,
-        create(1, 6)?,
-        pay(3, 2, 101)?,
-        pay(2, 2, 60)?,
+        create(1, 6, 9)?,
+        pay(3, 2, 2, 101)?,
+        pay(2, 2, 2, 60)?,
         cancel(5)?,
-        create(3, 1)?,
-        pay(3, 2, 5)?,
+        create(3, 1, 9)?,
+        pay(3, 2, 2, 5)?,
     ])
 }
 

@@ -2,11 +2,11 @@
 
 ghost use Rattle.std.specs.Prelude.{◌≤◌};
 
-use crate::chain::{chain, chain_after};
 use crate::counting::run;
+use crate::markets::{chain, chain_after};
+use crate::streams::{sink_of, source_of, words_of};
 use std::alloc::Global;
 use std::thread::Threads;
-use sx_base::{MemSink, MemSource};
 use sx_price::{Price, value};
 use sx_run::Status;
 
@@ -14,10 +14,9 @@ use sx_run::Status;
 fn replayed<R: Threads + Sync>(rt: &R, alloc: Global, piece: usize) -> Option<(Status, bool)>
     requires { 1 ≤ piece }
 {
-    let mut words = Vec::new(alloc);
-    words.push(String::from_str(alloc, "replay").ok()?).ok()?;
-    let mut source = MemSource::new(chain(alloc).ok()?, piece, Vec::new(alloc));
-    let mut sink = MemSink::new(vec![in alloc; 0; 300].ok()?, piece, Vec::new(alloc));
+    let words = words_of(alloc, &["replay"])?;
+    let mut source = source_of(alloc, chain(alloc).ok()?, piece, &[])?;
+    let mut sink = sink_of(alloc, 300, piece, &[])?;
     let status = run(rt, alloc, &words, &mut source, &mut sink);
     Some((status, sink.written() == chain_after().as_slice()))
 }

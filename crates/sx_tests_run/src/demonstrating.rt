@@ -2,20 +2,12 @@
 
 use crate::counting::run_at;
 use crate::meeting::Meeting;
+use crate::streams::{sink_of, source_of, words_of};
 use std::alloc::Global;
 use std::test::Fail;
 use std::thread::Threads;
-use sx_base::{MemSink, MemSource};
 use sx_run::Status;
 use sx_workers::Gate;
-
-fn words(alloc: Global) -> Option<Vec<String>> {
-    let mut words = Vec::new(alloc);
-    for word in ["demo", "1", "--workers", "2"] {
-        words.push(String::from_str(alloc, word).ok()?).ok()?;
-    }
-    Some(words)
-}
 
 // How a demonstration by two workers ends, with this gate before each candidate, and how many bytes are
 // written. The source fails at its first call.
@@ -24,10 +16,9 @@ fn demonstrated<R: Threads + Sync, G: Gate + Sync>(
     alloc: Global,
     gate: &G,
 ) -> Option<(Status, usize)> {
-    let words = words(alloc)?;
-    let fails = Vec::from_slice(alloc, &[0]).ok()?;
-    let mut source = MemSource::new(Vec::from_slice(alloc, &[9]).ok()?, 7, fails);
-    let mut sink = MemSink::new(vec![in alloc; 0; 300].ok()?, 7, Vec::new(alloc));
+    let words = words_of(alloc, &["demo", "1", "--workers", "2"])?;
+    let mut source = source_of(alloc, Vec::from_slice(alloc, &[9]).ok()?, 7, &[0])?;
+    let mut sink = sink_of(alloc, 300, 7, &[])?;
     let status = run_at(rt, alloc, &words, &mut source, &mut sink, gate);
     Some((status, sink.written().len()))
 }

@@ -1,10 +1,11 @@
 //! Each take and each put of every command but `seal`, made to fail.
 
 use crate::counting::run;
-use crate::payment::{block, state};
+use crate::markets::{payment_block, payment_state};
+use crate::streams::{sink_of, source_of, words_of};
 use std::alloc::Global;
 use std::thread::Threads;
-use sx_base::{MemSink, MemSource};
+use sx_base::MemSink;
 use sx_run::Status;
 
 // The records of no candidate, and of a script of 3 actors with two turns.
@@ -41,23 +42,14 @@ fn proof(alloc: Global) -> Option<Vec<u8>> {
     Some(proof)
 }
 
-fn words(alloc: Global, command: &str) -> Option<Vec<String>> {
-    let mut words = Vec::new(alloc);
-    words.push(String::from_str(alloc, command).ok()?).ok()?;
-    if command == "demo" || command == "prove" {
-        words.push(String::from_str(alloc, "1").ok()?).ok()?;
-    }
-    Some(words)
-}
-
 // The records that the command reads: a proof, or a state and what comes after it.
 fn input(alloc: Global, command: &str) -> Option<Vec<u8>> {
     if command == "verify" {
         return proof(alloc);
     }
-    let mut input = Vec::from_slice(alloc, &state()).ok()?;
+    let mut input = Vec::from_slice(alloc, &payment_state()).ok()?;
     match command {
-        "check" | "replay" | "follow" => input.extend_from_slice(&block()).ok()?,
+        "check" | "replay" | "follow" => input.extend_from_slice(&payment_block()).ok()?,
         "interleave" => input.extend_from_slice(&script()).ok()?,
         "filter" => input.extend_from_slice(&candidate()).ok()?,
         _ => {}
@@ -65,19 +57,17 @@ fn input(alloc: Global, command: &str) -> Option<Vec<u8>> {
     Some(input)
 }
 
-// They come in pieces of 7 bytes, from a source that fails at these calls.
-fn source(alloc: Global, command: &str, fails: &[u32]) -> Option<MemSource> {
-    let fails = Vec::from_slice(alloc, fails).ok()?;
-    Some(MemSource::new(input(alloc, command)?, 7, fails))
+// The command, with the number that it needs.
+fn words(alloc: Global, command: &str) -> Option<Vec<String>> {
+    if command == "demo" || command == "prove" {
+        words_of(alloc, &[command, "1"])
+    } else {
+        words_of(alloc, &[command])
+    }
 }
 
-// A sink that takes pieces of 7 bytes and fails at these calls.
-fn sink(alloc: Global, fails: &[u32]) -> Option<MemSink> {
-    let room = vec![in alloc; 0; 600].ok()?;
-    Some(MemSink::new(room, 7, Vec::from_slice(alloc, fails).ok()?))
-}
-
-// How the command ends, and what it was written to.
+// How the command ends over a source and a sink that take and give pieces of 7 bytes and fail at these calls, and what
+// it was written to.
 fn ended<R: Threads + Sync>(
     rt: &R,
     alloc: Global,
@@ -86,8 +76,8 @@ fn ended<R: Threads + Sync>(
     sink_fails: &[u32],
 ) -> Option<(Status, MemSink)> {
     let words = words(alloc, command)?;
-    let mut source = source(alloc, command, source_fails)?;
-    let mut sink = sink(alloc, sink_fails)?;
+    let mut source = source_of(alloc, input(alloc, command)?, 7, source_fails)?;
+    let mut sink = sink_of(alloc, 600, 7, sink_fails)?;
     let status = run(rt, alloc, &words, &mut source, &mut sink);
     Some((status, sink))
 }

@@ -1,9 +1,9 @@
 //! A state of more than 1 MiB, whose digest is made on a thread of its own while it is decoded.
 
 use crate::counting::run;
+use crate::streams::{sink_of, source_of, words_of};
 use std::alloc::Global;
 use std::thread::Threads;
-use sx_base::{MemSink, MemSource};
 use sx_bytes::{NoMemory, Writer};
 use sx_run::{Status, status_line};
 
@@ -57,11 +57,10 @@ fn input(alloc: Global) -> Result<Writer, NoMemory> {
 
 // How a replay ends, and how much it writes.
 fn replayed<R: Threads + Sync>(rt: &R, alloc: Global) -> Option<(Status, usize)> {
-    let mut words = Vec::new(alloc);
-    words.push(String::from_str(alloc, "replay").ok()?).ok()?;
+    let words = words_of(alloc, &["replay"])?;
     let bytes = Vec::from_slice(alloc, input(alloc).ok()?.bytes()).ok()?;
-    let mut source = MemSource::new(bytes, 100_000, Vec::new(alloc));
-    let mut sink = MemSink::new(Vec::new(alloc), 1, Vec::new(alloc));
+    let mut source = source_of(alloc, bytes, 100_000, &[])?;
+    let mut sink = sink_of(alloc, 0, 1, &[])?;
     let status = run(rt, alloc, &words, &mut source, &mut sink);
     Some((status, sink.written().len()))
 }

@@ -3,37 +3,19 @@
 ghost use Rattle.std.specs.Prelude.{◌≤◌};
 
 use crate::counting::run;
-use crate::payment::{input, state_after};
+use crate::markets::{payment, payment_after};
 use crate::recovering::{RecoveringSink, RecoveringSource};
+use crate::streams::{sink_of, source_of, words_of};
 use std::alloc::Global;
 use std::thread::Threads;
-use sx_base::{MemSink, MemSource, Sink, Source};
+use sx_base::{MemSource, Sink, Source};
 use sx_run::Status;
-
-// This word, this many times.
-fn words(alloc: Global, word: &str, times: usize) -> Option<Vec<String>> {
-    let mut words = Vec::new(alloc);
-    for _ in 0..times {
-        words.push(String::from_str(alloc, word).ok()?).ok()?;
-    }
-    Some(words)
-}
 
 // The input in pieces of this many bytes, from a source that fails at these calls.
 fn source(alloc: Global, piece: usize, fails: &[u32]) -> Option<MemSource>
     requires { 1 ≤ piece }
 {
-    let fails = Vec::from_slice(alloc, fails).ok()?;
-    Some(MemSource::new(input(alloc).ok()?, piece, fails))
-}
-
-// A sink with room for this many bytes, in such pieces, that fails at these calls.
-fn sink(alloc: Global, room: usize, piece: usize, fails: &[u32]) -> Option<MemSink>
-    requires { 1 ≤ piece }
-{
-    let fails = Vec::from_slice(alloc, fails).ok()?;
-    let room = vec![in alloc; 0; room].ok()?;
-    Some(MemSink::new(room, piece, fails))
+    source_of(alloc, payment(alloc).ok()?, piece, fails)
 }
 
 fn replay<R: Threads + Sync, S: Source, K: Sink>(
@@ -42,13 +24,15 @@ fn replay<R: Threads + Sync, S: Source, K: Sink>(
     source: &mut S,
     sink: &mut K,
 ) -> Option<Status> {
-    let words = words(alloc, "replay", 1)?;
+    let words = words_of(alloc, &["replay"])?;
     Some(run(rt, alloc, &words, source, sink))
 }
 
 // How many bytes were written, if they are a prefix of the state after the block.
 fn prefix(written: &[u8]) -> Option<usize> {
-    state_after().starts_with(written).then_some(written.len())
+    payment_after()
+        .starts_with(written)
+        .then_some(written.len())
 }
 
 // How a replay in pieces of this many bytes ends, and how many bytes of the right state are written.
@@ -63,7 +47,7 @@ fn replayed<R: Threads + Sync>(
     requires { 1 ≤ piece }
 {
     let mut source = source(alloc, piece, source_fails)?;
-    let mut sink = sink(alloc, room, piece, sink_fails)?;
+    let mut sink = sink_of(alloc, room, piece, sink_fails)?;
     let status = replay(rt, alloc, &mut source, &mut sink)?;
     Some((status, prefix(sink.written())?))
 }
@@ -107,24 +91,27 @@ fn a_failed_put_is_a_write_fault(rt: HostRuntime) {
 }
 
 // How many bytes of the source are left after words that are no command.
-fn left_at_usage<R: Threads + Sync>(rt: &R, alloc: Global, times: usize) -> Option<usize> {
-    let words = words(alloc, "replay", times)?;
+fn left_at_usage<R: Threads + Sync>(rt: &R, alloc: Global, words: &[&str]) -> Option<usize> {
+    let words = words_of(alloc, words)?;
     let mut source = source(alloc, 7, &[])?;
-    let mut sink = sink(alloc, 100, 7, &[])?;
+    let mut sink = sink_of(alloc, 100, 7, &[])?;
     let status = run(rt, alloc, &words, &mut source, &mut sink);
     (status == Status::Usage).then_some(source.left().len())
 }
 
 #[test]
 fn nothing_is_read_at_usage(rt: HostRuntime) {
-    assert_eq!(rt; left_at_usage(&rt, rt.alloc(), 0), Some(260));
-    assert_eq!(rt; left_at_usage(&rt, rt.alloc(), 2), Some(260));
+    assert_eq!(rt; left_at_usage(&rt, rt.alloc(), &[]), Some(260));
+    assert_eq!(rt;
+        left_at_usage(&rt, rt.alloc(), &["replay", "replay"]),
+        Some(260)
+    );
 }
 
 // How a replay ends whose every call is interrupted and recovers, and whether faults were counted.
 fn recovered<R: Threads + Sync>(rt: &R, alloc: Global) -> Option<(Status, usize, bool)> {
     let mut source = RecoveringSource::new(source(alloc, 7, &[])?);
-    let mut sink = RecoveringSink::new(sink(alloc, 100, 7, &[])?);
+    let mut sink = RecoveringSink::new(sink_of(alloc, 100, 7, &[])?);
     let status = replay(rt, alloc, &mut source, &mut sink)?;
     let counted = source.faults() == 41 && sink.faults() == 13;
     Some((status, prefix(sink.written())?, counted))
@@ -138,9 +125,9 @@ fn an_interruption_that_is_overcome_is_no_failure(rt: HostRuntime) {
 
 // Whether a check of the payment ends well and writes its line.
 fn is_told_valid<R: Threads + Sync>(rt: &R, alloc: Global) -> Option<bool> {
-    let words = words(alloc, "check", 1)?;
+    let words = words_of(alloc, &["check"])?;
     let mut source = source(alloc, 7, &[])?;
-    let mut sink = sink(alloc, 100, 7, &[])?;
+    let mut sink = sink_of(alloc, 100, 7, &[])?;
     let status = run(rt, alloc, &words, &mut source, &mut sink);
     Some(
         status == Status::Done

@@ -1,51 +1,23 @@
 //! Seals over a source and a sink in memory, and whether its workers run at the same time.
 
 use crate::counting::{run, run_at};
+use crate::markets::two_offers;
 use crate::meeting::Meeting;
+use crate::streams::{sink_of, source_of, words_of};
 use std::alloc::Global;
 use std::test::Fail;
 use std::thread::Threads;
-use sx_base::{MemSink, MemSource};
+use sx_base::MemSource;
 use sx_run::Status;
 use sx_workers::Gate;
 
-// Two assets at the price 1. Account 1 offers 100 units of the first for the second, account 2 offers 60 of the
-// second for the first, which have to trade: the records of the state and of these two candidates.
-#[rattlefmt::skip]
-fn market() -> [u8; 198] {
-    [
-        1, 0, 0, 0, 114, 1, 0, 0, 0, 0, 0, 0, 0, 0, 2, 0, 0, 0, 0, 1, 0, 0, 0, 0, 0, 0, 0, 1, 0, 0, 0, 0,
-        0, 0, 0, 0, 0, 0, 0, 0, 0, 0, 0, 0, 0, 0, 0, 0, 0, 0, 2, 0, 0, 0, 0, 0, 0, 0, 1, 0, 0, 0, 0, 0,
-        0, 0, 0, 0, 0, 0, 0, 0, 0, 0, 100, 0, 0, 0, 0, 0, 0, 0, 0, 0, 0, 0, 0, 0, 0, 0, 2, 0, 0, 0, 0, 0,
-        0, 0, 0, 0, 0, 0, 0, 0, 0, 0, 0, 0, 0, 0, 0, 0, 0, 0, 60, 0, 0, 0, 0, 2, 0, 0, 0, 74, 0, 0, 0, 2,
-        0, 0, 0, 0, 0, 0, 0, 1, 0, 0, 0, 0, 0, 0, 0, 1, 3, 0, 1, 0, 0, 0, 0, 1, 0, 0, 0, 0, 0, 0, 0, 0,
-        0, 0, 100, 0, 0, 0, 0, 0, 0, 0, 2, 0, 0, 0, 0, 0, 0, 0, 1, 3, 1, 0, 0, 0, 0, 0, 0, 128, 0, 0, 0, 0,
-        0, 0, 0, 0, 0, 60,
-    ]
-}
-
-// The words of a seal by so many workers, at the prices of the ledger.
-fn words(alloc: Global, workers: &str) -> Option<Vec<String>> {
-    let mut words = Vec::new(alloc);
-    for word in ["seal", "--rounds", "0", "--workers", workers] {
-        words.push(String::from_str(alloc, word).ok()?).ok()?;
-    }
-    Some(words)
-}
-
 // The input in pieces of 7 bytes, from a source that fails at these calls.
 fn source(alloc: Global, fails: &[u32]) -> Option<MemSource> {
-    let bytes = Vec::from_slice(alloc, &market()).ok()?;
-    Some(MemSource::new(bytes, 7, Vec::from_slice(alloc, fails).ok()?))
+    let bytes = Vec::from_slice(alloc, &two_offers()).ok()?;
+    source_of(alloc, bytes, 7, fails)
 }
 
-// A sink with room for this many bytes, in pieces of 7, that fails at these calls.
-fn sink(alloc: Global, room: usize, fails: &[u32]) -> Option<MemSink> {
-    let room = vec![in alloc; 0; room].ok()?;
-    Some(MemSink::new(room, 7, Vec::from_slice(alloc, fails).ok()?))
-}
-
-// How a seal ends, and how many bytes are written.
+// How a seal at the prices of the ledger ends, and how many bytes are written.
 fn sealed<R: Threads + Sync>(
     rt: &R,
     alloc: Global,
@@ -53,9 +25,9 @@ fn sealed<R: Threads + Sync>(
     room: usize,
     sink_fails: &[u32],
 ) -> Option<(Status, usize)> {
-    let words = words(alloc, "1")?;
+    let words = words_of(alloc, &["seal", "--rounds", "0", "--workers", "1"])?;
     let mut source = source(alloc, source_fails)?;
-    let mut sink = sink(alloc, room, sink_fails)?;
+    let mut sink = sink_of(alloc, room, 7, sink_fails)?;
     let status = run(rt, alloc, &words, &mut source, &mut sink);
     Some((status, sink.written().len()))
 }
@@ -107,9 +79,9 @@ fn sealed_by_two<R: Threads + Sync, G: Gate + Sync>(
     alloc: Global,
     gate: &G,
 ) -> Option<Status> {
-    let words = words(alloc, "2")?;
+    let words = words_of(alloc, &["seal", "--rounds", "0", "--workers", "2"])?;
     let mut source = source(alloc, &[])?;
-    let mut sink = sink(alloc, 300, &[])?;
+    let mut sink = sink_of(alloc, 300, 7, &[])?;
     Some(run_at(rt, alloc, &words, &mut source, &mut sink, gate))
 }
 

@@ -4,26 +4,14 @@ ghost use Rattle.std.specs.Prelude.{◌≤◌, ◌^◌, All};
 ghost use Rattle.std.specs.Bool.{OnTrue};
 ghost use Rattle.sx_curve.specs.Curves.{IsAmong};
 
+use crate::markets::{ONE, quote};
 use std::alloc::Global;
 use std::test::Fail;
-use sx_base::{Amount, AssetId};
+use sx_base::AssetId;
 use sx_curve::*;
-use sx_price::Limit;
-
-// The limit 1.
-const ONE: u64 = 1 << 24;
 
 // Eight amounts of at most this have 2^62 in all.
 const MOST: u64 = 1 << 59;
-
-fn quote(sell: u8, buy: u8, limit: u64, amount: u64) -> Option<Quote> {
-    Some(Quote {
-        sell: AssetId::new(sell).ok()?,
-        buy: AssetId::new(buy).ok()?,
-        limit: Limit::new(limit).ok()?,
-        amount: Amount::new(amount).ok()?,
-    })
-}
 
 // Whether a quote is of two of three assets and has a small amount.
 fn is_small(quote: &Quote) -> bool

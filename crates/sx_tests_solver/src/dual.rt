@@ -1,35 +1,10 @@
-ghost use Rattle.std.specs.Prelude.{ℕ, ◌≡◌, ◌*◌, ◌<◌, ◌≤◌, EachIndex, IfSome, IsTrue, length, slice_index};
-ghost use Rattle.sx_dual.specs.Tables.{IsTable, entry_at};
+ghost use Rattle.std.specs.Prelude.{◌≡◌, IfSome, length};
 
+use crate::spans::{is_ordered, is_table};
 use std::alloc::Global;
 use std::test::Fail;
 use sx_base::AssetId;
 use sx_dual::*;
-
-// The greatest entry.
-const MOST: u128 = 1 << 102;
-
-fn has_zero_diagonal(assets: u32, entries: &[u128]) -> bool
-    requires few { assets ≤ 32 }
-    requires full { length entries.now ≡ assets * assets }
-    ensures { IsTrue result → (asset : ℕ) → asset < assets → entry_at assets entries.now asset asset ≡ 0 }
-{
-    for asset in 0..assets as usize {
-        if entries[asset * assets as usize + asset] != 0 {
-            return false;
-        }
-    }
-    true
-}
-
-fn is_table(assets: u32, entries: &[u128]) -> bool
-    requires { assets ≤ 32 }
-    ensures { IsTrue result → IsTable assets entries.now }
-{
-    entries.len() == assets as usize * assets as usize
-        && entries.iter().all(|entry| *entry <= MOST)
-        && has_zero_diagonal(assets, entries)
-}
 
 // The flow among three assets, where these are the entries of one.
 fn flow_of(alloc: Global, entries: &[u128]) -> Option<Flow>
@@ -40,13 +15,6 @@ fn flow_of(alloc: Global, entries: &[u128]) -> Option<Flow>
     } else {
         None
     }
-}
-
-fn is_ordered(low: &[u128], high: &[u128]) -> bool
-    requires { length low.now ≡ length high.now }
-    ensures { IsTrue result → EachIndex low.now (λ k. slice_index low.now k ≤ slice_index high.now k) }
-{
-    low.iter().zip(high).all(|(l, h)| l <= h)
 }
 
 // The bounds of three assets, where these are the entries of such.

@@ -1,42 +1,25 @@
 //! Markets that are worked out by hand: one of two quotes, and one of so many that threads share its pairs.
 
-ghost use Rattle.std.specs.Prelude.{◌≡◌, ◌≢◌, ◌<◌, ◌≤◌, ◌^◌, IfOk, IfSome, length};
+ghost use Rattle.std.specs.Prelude.{◌≡◌, ◌≤◌, ◌^◌, IfOk, IfSome, length};
 ghost use Rattle.sx_curve.specs.Curves.{IsAmong};
 
+use crate::markets::{ONE, quote};
 use std::alloc::Global;
 use std::test::Fail;
-use sx_base::{Amount, AssetId};
+use sx_base::AssetId;
 use sx_bytes::NoMemory;
 use sx_curve::{Curves, Quote};
 use sx_demand::excess;
-use sx_price::{Limit, Mu, Price, Prices};
+use sx_price::{Mu, Price, Prices};
 use sx_search::*;
-
-// The price 1.
-const ONE: u64 = 1 << 24;
-
-// A quote of two of three assets at the limit one half.
-fn quote(sell: u8, buy: u8, amount: u64) -> Option<Quote>
-    requires sell { sell < 3 }
-    requires buy { buy < 3 }
-    requires different { sell ≢ buy }
-    requires small { amount ≤ 2 ^ 59 }
-    ensures among { IfSome result (IsAmong 3) }
-    ensures amount { IfSome result (λ quote. quote.amount ≡ amount) }
-{
-    Some(Quote {
-        sell: AssetId::new(sell).ok()?,
-        buy: AssetId::new(buy).ok()?,
-        limit: Limit::new(ONE / 2).ok()?,
-        amount: Amount::new(amount).ok()?,
-    })
-}
 
 // 100 of the first asset for the second, and 50 back.
 fn halves(alloc: Global) -> Option<Curves>
     ensures { IfSome result (λ curves. curves.assets ≡ 3) }
 {
-    let quotes = [quote(0, 1, 100)?, quote(1, 0, 50)?].to_vec(alloc).ok()?;
+    let quotes = [quote(0, 1, ONE / 2, 100)?, quote(1, 0, ONE / 2, 50)?]
+        .to_vec(alloc)
+        .ok()?;
     Curves::build(alloc, 3, quotes).ok()
 }
 
@@ -93,7 +76,7 @@ fn many_ones(alloc: Global) -> Option<Prices>
 
 #[test]
 fn threads_share_many_quotes(rt: HostRuntime) -> Result<(), Fail> {
-    let quote = quote(0, 1, 1).ok_or("quote")?;
+    let quote = quote(0, 1, ONE / 2, 1).ok_or("quote")?;
     let curves = alike(rt.alloc(), quote, 1 << 20)?;
     let ones = many_ones(rt.alloc()).ok_or("prices")?;
     let found = excess(&rt, rt.alloc(), &curves, &ones, Mu::new(10)?)?;

@@ -157,8 +157,8 @@ fn has_zero_diagonal(assets: u32, entries: &[u128]) -> bool
     true
 }
 
-// Whether these are entries of this many assets.
-fn is_table(assets: u32, entries: &[u128]) -> bool
+/// Whether these are entries of this many assets.
+pub fn is_table(assets: u32, entries: &[u128]) -> bool
     requires { assets ≤ 32 }
     ensures { IsTrue result → IsTable assets entries.now }
 {
@@ -167,7 +167,8 @@ fn is_table(assets: u32, entries: &[u128]) -> bool
         && has_zero_diagonal(assets, entries)
 }
 
-fn is_ordered(low: &[u128], high: &[u128]) -> bool
+/// Whether each lower bound is at most the upper one at its place.
+pub fn is_ordered(low: &[u128], high: &[u128]) -> bool
     requires { length low.now ≡ length high.now }
     ensures { IsTrue result → EachIndex low.now (λ k. slice_index low.now k ≤ slice_index high.now k) }
 {

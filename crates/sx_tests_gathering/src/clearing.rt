@@ -8,7 +8,7 @@ ghost use Rattle.sx_ledger.specs.Body.{IsAdmissible};
 ghost use Rattle.sx_ledger.specs.Ledger.{assets_of, most_height};
 ghost use Rattle.sx_tx.specs.Transactions.{most_transactions};
 
-use crate::{dropped, worked};
+use crate::markets;
 use std::alloc::Global;
 use std::marker::Brand;
 use std::sync::ledger::{self, Blank};
@@ -26,7 +26,7 @@ use sx_net::Steps;
 use sx_state::read_state;
 use sx_tx::TxList;
 
-// A state and a valid block after it, both in `worked` or `dropped`.
+// A state and a valid block after it, both in `markets`.
 #[derive(Clone, Copy, Debug)]
 enum Case {
     PartialFill,
@@ -69,26 +69,30 @@ fn pair_of(alloc: Global, case: Case) -> Option<Pair>
     match case {
         Case::PartialFill => read(
             alloc,
-            &worked::partial_fill_state(),
-            &worked::partial_fill_block(),
+            &markets::partial_fill_state(),
+            &markets::partial_fill_block(),
         ),
-        Case::Dropped => read(alloc, &dropped::state(), &dropped::payload()),
-        Case::Ring => read(alloc, &worked::ring_state(), &worked::ring_block()),
+        Case::Dropped => read(alloc, &markets::dropped_state(), &markets::dropped_block()),
+        Case::Ring => read(alloc, &markets::ring_state(), &markets::ring_block()),
         Case::RingAndPair => read(
             alloc,
-            &worked::ring_and_pair_state(),
-            &worked::ring_and_pair_block(),
+            &markets::ring_and_pair_state(),
+            &markets::ring_and_pair_block(),
         ),
         Case::EqualLimits => read(
             alloc,
-            &worked::equal_limits_state(),
-            &worked::equal_limits_block(),
+            &markets::equal_limits_state(),
+            &markets::equal_limits_block(),
         ),
-        Case::KeptPrices => read(alloc, &worked::offers_state(), &worked::kept_prices_block()),
+        Case::KeptPrices => read(
+            alloc,
+            &markets::offers_state(),
+            &markets::kept_prices_block(),
+        ),
         Case::SearchedPrices => read(
             alloc,
-            &worked::offers_state(),
-            &worked::searched_prices_block(),
+            &markets::offers_state(),
+            &markets::searched_prices_block(),
         ),
     }
 }

@@ -1,4 +1,4 @@
-use Rattle.sx_tests.proofs.dropped.can_apply.Goals as goal
+use Rattle.sx_tests_gathering.proofs.dropped.can_apply.Goals as goal
 
 pub returns : goal.returns
 returns c =

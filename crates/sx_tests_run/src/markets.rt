@@ -1,12 +1,67 @@
-//! The bytes of a replay of three blocks: a state, blocks of all kinds of transaction, outcomes, and the state
-//! after them. `examples/cases/replay_chain_of_three_blocks` holds the same.
+//! Records that the tests read: a payment; a chain of three blocks with all kinds of transaction, which
+//! `examples/cases/replay_chain_of_three_blocks` holds too; and a market of two offers.
 
 use std::alloc::{AllocError, Global};
+
+// The record of the state: one asset at the price 1; account 1 has 100, and account 2 has 5.
+#[rattlefmt::skip]
+pub fn payment_state() -> [u8; 87] {
+    [
+        1, 0, 0, 0, 82, 1, 0, 0, 0, 0, 0, 0, 0, 0, 1, 0, 0, 0, 0, 1, 0, 0, 0, 0, 0, 0, 0, 0, 0, 0, 0, 0,
+        0, 0, 2, 0, 0, 0, 0, 0, 0, 0, 1, 0, 0, 0, 0, 0, 0, 0, 0, 0, 0, 0, 0, 0, 0, 0, 100, 0, 0, 0, 0, 0,
+        0, 0, 2, 0, 0, 0, 0, 0, 0, 0, 0, 0, 0, 0, 0, 0, 0, 0, 5, 0, 0, 0, 0,
+    ]
+}
+
+// The record of a block of one payment: 30 of account 1 to account 2.
+#[rattlefmt::skip]
+pub fn payment_block() -> [u8; 173] {
+    [
+        3, 0, 0, 0, 168, 1, 0, 0, 0, 0, 0, 0, 0, 1, 188, 209, 180, 111, 105, 91, 212, 8, 216, 157, 179, 83, 255, 4, 21, 173, 28, 222,
+        51, 214, 176, 91, 51, 68, 1, 250, 250, 24, 141, 89, 213, 236, 78, 151, 237, 57, 5, 142, 109, 49, 163, 8, 131, 98, 80, 165, 23, 198, 208, 120,
+        179, 167, 126, 222, 158, 104, 193, 42, 176, 106, 212, 64, 194, 172, 10, 1, 0, 0, 0, 0, 1, 0, 0, 0, 0, 0, 0, 0, 0, 0, 0, 0,
+        0, 0, 0, 0, 0, 0, 0, 18, 176, 135, 223, 151, 231, 162, 251, 71, 148, 177, 112, 226, 55, 121, 158, 178, 114, 100, 185, 71, 133, 152, 226, 213,
+        74, 131, 26, 113, 28, 102, 143, 0, 0, 0, 1, 0, 0, 0, 0, 0, 0, 0, 1, 0, 0, 0, 0, 0, 0, 0, 1, 1, 0, 0, 0, 0,
+        0, 0, 0, 2, 0, 0, 0, 0, 0, 0, 0, 0, 30,
+    ]
+}
+
+// The record of the state after it.
+#[rattlefmt::skip]
+pub fn payment_after() -> [u8; 87] {
+    [
+        1, 0, 0, 0, 82, 1, 0, 0, 0, 0, 0, 0, 0, 1, 1, 0, 0, 0, 0, 1, 0, 0, 0, 0, 0, 0, 0, 0, 0, 0, 0, 0,
+        0, 0, 2, 0, 0, 0, 0, 0, 0, 0, 1, 0, 0, 0, 0, 0, 0, 0, 1, 0, 0, 0, 0, 0, 0, 0, 70, 0, 0, 0, 0, 0,
+        0, 0, 2, 0, 0, 0, 0, 0, 0, 0, 0, 0, 0, 0, 0, 0, 0, 0, 35, 0, 0, 0, 0,
+    ]
+}
+
+// The records of the state and of the block.
+pub fn payment(alloc: Global) -> Result<Vec<u8>, AllocError> {
+    let mut input = Vec::from_slice(alloc, &payment_state())?;
+    input.extend_from_slice(&payment_block())?;
+    Ok(input)
+}
+
+// Two assets at the price 1. Account 1 offers 100 units of the first for the second, account 2 offers 60 of the
+// second for the first, which have to trade: the records of the state and of these two candidates.
+#[rattlefmt::skip]
+pub fn two_offers() -> [u8; 198] {
+    [
+        1, 0, 0, 0, 114, 1, 0, 0, 0, 0, 0, 0, 0, 0, 2, 0, 0, 0, 0, 1, 0, 0, 0, 0, 0, 0, 0, 1, 0, 0, 0, 0,
+        0, 0, 0, 0, 0, 0, 0, 0, 0, 0, 0, 0, 0, 0, 0, 0, 0, 0, 2, 0, 0, 0, 0, 0, 0, 0, 1, 0, 0, 0, 0, 0,
+        0, 0, 0, 0, 0, 0, 0, 0, 0, 0, 100, 0, 0, 0, 0, 0, 0, 0, 0, 0, 0, 0, 0, 0, 0, 0, 2, 0, 0, 0, 0, 0,
+        0, 0, 0, 0, 0, 0, 0, 0, 0, 0, 0, 0, 0, 0, 0, 0, 0, 0, 60, 0, 0, 0, 0, 2, 0, 0, 0, 74, 0, 0, 0, 2,
+        0, 0, 0, 0, 0, 0, 0, 1, 0, 0, 0, 0, 0, 0, 0, 1, 3, 0, 1, 0, 0, 0, 0, 1, 0, 0, 0, 0, 0, 0, 0, 0,
+        0, 0, 100, 0, 0, 0, 0, 0, 0, 0, 2, 0, 0, 0, 0, 0, 0, 0, 1, 3, 1, 0, 0, 0, 0, 0, 0, 128, 0, 0, 0, 0,
+        0, 0, 0, 0, 0, 60,
+    ]
+}
 
 // The record of the state: two assets at the price 1; account 1 has 100 of the first, account 2 has 60 of
 // the second, and account 3 has 5 of each.
 #[rattlefmt::skip]
-fn state() -> [u8; 151] {
+fn chain_state() -> [u8; 151] {
     [
         1, 0, 0, 0, 146, 1, 0, 0, 0, 0, 0, 0, 0, 0, 2, 0, 0, 0, 0, 1, 0, 0, 0, 0, 0, 0, 0, 1, 0, 0, 0, 0, 0,
         0, 0, 0, 0, 0, 0, 0, 0, 0, 0, 0, 0, 0, 0, 0, 0, 0, 3, 0, 0, 0, 0, 0, 0, 0, 1, 0, 0, 0, 0, 0, 0, 0, 0,
@@ -18,7 +73,7 @@ fn state() -> [u8; 151] {
 
 // Account 1 offers 100 of the first asset, and account 2 offers 60 of the second, all of which trade.
 #[rattlefmt::skip]
-fn first() -> [u8; 265] {
+fn first_of_chain() -> [u8; 265] {
     [
         3, 0, 0, 1, 4, 1, 0, 0, 0, 0, 0, 0, 0, 1, 221, 106, 214, 187, 170, 43, 134, 59, 250, 165, 192, 111,
         181, 230, 20, 177, 55, 7, 226, 58, 99, 2, 164, 78, 63, 174, 119, 193, 130, 85, 43, 31, 203, 173, 135,
@@ -35,7 +90,7 @@ fn first() -> [u8; 265] {
 
 // The outcomes of these two.
 #[rattlefmt::skip]
-fn outcomes() -> [u8; 11] {
+fn outcomes_of_chain() -> [u8; 11] {
     [
         4, 0, 0, 0, 6, 0, 0, 0, 2, 0, 0,
     ]
@@ -43,7 +98,7 @@ fn outcomes() -> [u8; 11] {
 
 // Account 1 cancels what is left of its offer, and creates account 9.
 #[rattlefmt::skip]
-fn second() -> [u8; 219] {
+fn second_of_chain() -> [u8; 219] {
     [
         3, 0, 0, 0, 214, 1, 0, 0, 0, 0, 0, 0, 0, 2, 242, 145, 139, 60, 136, 144, 108, 176, 151, 129, 194, 246,
         159, 54, 162, 116, 125, 253, 51, 73, 190, 123, 170, 5, 22, 182, 229, 46, 208, 160, 147, 199, 96, 103,
@@ -58,7 +113,7 @@ fn second() -> [u8; 219] {
 
 // It pays 40 of the first asset to account 9, and account 3 pays it 5 of the second.
 #[rattlefmt::skip]
-fn third() -> [u8; 227] {
+fn third_of_chain() -> [u8; 227] {
     [
         3, 0, 0, 0, 222, 1, 0, 0, 0, 0, 0, 0, 0, 3, 69, 49, 7, 77, 7, 106, 27, 210, 240, 234, 206, 80, 234,
         254, 124, 202, 59, 184, 223, 39, 45, 204, 106, 59, 5, 78, 245, 71, 144, 2, 206, 147, 32, 214, 36, 243,
@@ -94,13 +149,13 @@ pub fn chain_after() -> [u8; 183] {
     ]
 }
 
-// All records, one after the other.
+// All records of the chain, one after the other.
 pub fn chain(alloc: Global) -> Result<Vec<u8>, AllocError> {
-    let mut input = Vec::from_slice(alloc, &state())?;
-    input.extend_from_slice(&first())?;
-    input.extend_from_slice(&outcomes())?;
-    input.extend_from_slice(&second())?;
-    input.extend_from_slice(&third())?;
+    let mut input = Vec::from_slice(alloc, &chain_state())?;
+    input.extend_from_slice(&first_of_chain())?;
+    input.extend_from_slice(&outcomes_of_chain())?;
+    input.extend_from_slice(&second_of_chain())?;
+    input.extend_from_slice(&third_of_chain())?;
     input.extend_from_slice(&no_outcomes())?;
     Ok(input)
 }

@@ -3,6 +3,7 @@
 ghost use Rattle.std.specs.Prelude.{◌≤◌};
 ghost use Rattle.sx_text.specs.Shown.{IsShowable};
 
+use crate::markets::{two_accounts, two_accounts_of_version_2, two_payments};
 use std::alloc::{AllocError, Global};
 use std::test::Fail;
 use std::thread::Threads;
@@ -17,41 +18,6 @@ use sx_ledger::{Account, Static};
 use sx_state::read_state;
 use sx_text::{Shown, Status, check_line, par_show, proof_line, show, status_line};
 use sx_tx::{Window, read_candidates};
-
-// One asset. Account 1 has 100 units and account 2 has 5.
-#[rattlefmt::skip]
-fn state() -> [u8; 82] {
-    [
-        1, 0, 0, 0, 0, 0, 0, 0, 0, 1, 0, 0, 0, 0, 1, 0, 0, 0, 0, 0, 0, 0, 0, 0, 0, 0, 0, 0, 0, 2, 0, 0, 0, 0, 0,
-        0, 0, 1, 0, 0, 0, 0, 0, 0, 0, 0, 0, 0, 0, 0, 0, 0, 0, 100, 0, 0, 0, 0, 0, 0, 0, 2, 0, 0, 0, 0, 0, 0, 0,
-        0, 0, 0, 0, 0, 0, 0, 0, 5, 0, 0, 0, 0,
-    ]
-}
-
-// The same in version 2.
-#[rattlefmt::skip]
-fn state_of_version_2() -> [u8; 98] {
-    [
-        2, 0, 0, 0, 0, 0, 0, 0, 0, 1, 0, 0, 0, 0, 1, 0, 0, 0, 0, 0, 0, 0, 0, 0, 0, 0, 0, 0, 0, 2, 0, 0, 0, 0, 0,
-        0, 0, 1, 0, 0, 0, 0, 0, 0, 0, 0, 0, 0, 0, 0, 0, 0, 0, 0, 0, 0, 0, 0, 0, 0, 0, 100, 0, 0, 0, 0, 0, 0, 0,
-        2, 0, 0, 0, 0, 0, 0, 0, 0, 0, 0, 0, 0, 0, 0, 0, 0, 0, 0, 0, 0, 0, 0, 0, 5, 0, 0, 0, 0,
-    ]
-}
-
-// Account 1 pays 30 to account 2, and account 2 pays 20 to account 1.
-#[rattlefmt::skip]
-fn block() -> [u8; 202] {
-    [
-        2, 0, 0, 0, 0, 0, 0, 0, 1, 188, 209, 180, 111, 105, 91, 212, 8, 216, 157, 179, 83, 255, 4, 21, 173, 28,
-        222, 51, 214, 176, 91, 51, 68, 1, 250, 250, 24, 141, 89, 213, 236, 137, 25, 32, 113, 252, 23, 73, 102,
-        51, 77, 192, 93, 237, 105, 53, 190, 6, 140, 148, 127, 105, 180, 210, 59, 168, 58, 170, 197, 51, 221, 3,
-        33, 10, 1, 0, 0, 0, 0, 1, 0, 0, 0, 0, 0, 0, 0, 0, 0, 0, 0, 0, 0, 0, 0, 0, 0, 0, 246, 90, 125, 46, 47,
-        73, 31, 152, 226, 166, 16, 69, 95, 1, 73, 149, 198, 52, 143, 83, 53, 57, 167, 189, 50, 137, 242, 51,
-        116, 70, 95, 122, 0, 0, 0, 2, 0, 0, 0, 0, 0, 0, 0, 1, 0, 0, 0, 0, 0, 0, 0, 1, 1, 0, 0, 0, 0, 0, 0, 0, 2,
-        0, 0, 0, 0, 0, 0, 0, 0, 30, 0, 0, 0, 0, 0, 0, 0, 2, 0, 0, 0, 0, 0, 0, 0, 1, 1, 0, 0, 0, 0, 0, 0, 0, 1,
-        0, 0, 0, 0, 0, 0, 0, 0, 20,
-    ]
-}
 
 // The text of these lines.
 fn text_of(alloc: Global, lines: &[&str]) -> Result<String, AllocError> {
@@ -76,7 +42,7 @@ fn shows(alloc: Global, shown: &Shown, lines: &[&str]) -> bool
 #[test]
 fn states_are_shown_line_by_line(rt: HostRuntime) -> Result<(), Fail> {
     let alloc = rt.alloc();
-    let first = Shown::State(read_state(alloc, state().as_slice())?);
+    let first = Shown::State(read_state(alloc, two_accounts().as_slice())?);
     let lines = [
         "state version 1 height 0 assets 1",
         "asset 0 price 16777216 rounding 0",
@@ -84,7 +50,7 @@ fn states_are_shown_line_by_line(rt: HostRuntime) -> Result<(), Fail> {
         "account 2 last 0 balances 5",
     ];
     assert!(rt; shows(alloc, &first, lines.as_slice()));
-    let second = Shown::State(read_state(alloc, state_of_version_2().as_slice())?);
+    let second = Shown::State(read_state(alloc, two_accounts_of_version_2().as_slice())?);
     let lines = [
         "state version 2 height 0 assets 1",
         "asset 0 price 16777216 rounding 0",
@@ -168,7 +134,7 @@ fn threads_show_accounts_in_their_order(rt: HostRuntime) -> Result<(), Fail> {
 #[test]
 fn a_block_and_candidates_are_shown_line_by_line(rt: HostRuntime) -> Result<(), Fail> {
     let alloc = rt.alloc();
-    let payload = block();
+    let payload = two_payments();
     let block = Shown::Block(read_block(alloc, payload.as_slice())?);
     let lines = [
         "block version 2 height 1 mu 10 assets 1",

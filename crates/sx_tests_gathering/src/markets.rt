@@ -1,6 +1,178 @@
-//! States and valid blocks after them, one pair for each case that was worked out by hand. The folders
-//! `examples/cases/check_*` hold the same bytes, and `examples/records.py`, which is written apart from the
-//! program, makes the same digests and roundings of them.
+//! Transactions, states, and valid blocks after states, one pair for each case that was worked out by hand. The folders
+//! `examples/cases/check_*` hold the same bytes as the blocks and their states, and `examples/records.py`, which is
+//! written apart from the program, makes the same digests and roundings of them.
+
+use sx_base::{AccountId, Amount, AssetId, Seq};
+use sx_price::Limit;
+use sx_tx::{Kind, Tx};
+
+// A transaction of an account under a sequence number.
+fn tx(account: u64, seq: u64, kind: Kind) -> Option<Tx> {
+    Some(Tx {
+        account: AccountId(account),
+        seq: Seq::new(seq).ok()?,
+        kind,
+    })
+}
+
+// A payment of units of the first asset.
+pub fn pay(account: u64, seq: u64, to: u64, amount: u64) -> Option<Tx> {
+    let kind = Kind::Pay {
+        to: AccountId(to),
+        asset: AssetId::new(0).ok()?,
+        amount: Amount::new(amount).ok()?,
+    };
+    tx(account, seq, kind)
+}
+
+// The creation of an account.
+pub fn create(account: u64, seq: u64, id: u64) -> Option<Tx> {
+    tx(account, seq, Kind::Create { id: AccountId(id) })
+}
+
+// The cancellation of the offer of `one_offer`.
+pub fn cancel(seq: u64) -> Option<Tx> {
+    let kind = Kind::Cancel {
+        sell: AssetId::new(0).ok()?,
+        buy: AssetId::new(1).ok()?,
+        limit: Limit::new(1 << 24).ok()?,
+        seq: Seq::new(3).ok()?,
+    };
+    tx(1, seq, kind)
+}
+
+// One asset. Account 1 has 100 units, account 2 has 5.
+#[rattlefmt::skip]
+pub fn two_accounts() -> [u8; 82] {
+    [
+        1, 0, 0, 0, 0, 0, 0, 0, 0, 1, 0, 0, 0, 0, 1, 0, 0, 0, 0, 0, 0, 0, 0, 0, 0, 0, 0, 0, 0, 2,
+        0, 0, 0, 0, 0, 0, 0, 1, 0, 0, 0, 0, 0, 0, 0, 0, 0, 0, 0, 0, 0, 0, 0, 100,
+        0, 0, 0, 0, 0, 0, 0, 2, 0, 0, 0, 0, 0, 0, 0, 0, 0, 0, 0, 0, 0, 0, 0, 5, 0, 0, 0, 0,
+    ]
+}
+
+// Two assets. Accounts 1 to 3 have 100 units of the first, and account 1 has used the numbers up to 3, the
+// last for an offer.
+#[rattlefmt::skip]
+pub fn one_offer() -> [u8; 180] {
+    [
+        1, 0, 0, 0, 0, 0, 0, 0, 0, 2, 0, 0, 0, 0, 1, 0, 0, 0, 0, 0, 0, 0, 1, 0, 0, 0, 0, 0, 0, 0, 0, 0, 0, 0,
+        0, 0, 0, 0, 0, 0, 0, 0, 0, 0, 0, 3, 0, 0, 0, 0, 0, 0, 0, 1, 0, 0, 0, 0, 0, 0, 0, 3, 0, 0, 0, 0, 0, 0,
+        0, 100, 0, 0, 0, 0, 0, 0, 0, 0, 0, 0, 0, 0, 0, 0, 0, 2, 0, 0, 0, 0, 0, 0, 0, 0, 0, 0, 0, 0, 0, 0, 0,
+        100, 0, 0, 0, 0, 0, 0, 0, 0, 0, 0, 0, 0, 0, 0, 0, 3, 0, 0, 0, 0, 0, 0, 0, 0, 0, 0, 0, 0, 0, 0, 0, 100,
+        0, 0, 0, 0, 0, 0, 0, 0, 0, 0, 0, 1, 0, 1, 0, 0, 0, 0, 1, 0, 0, 0, 0, 0, 0, 0, 0, 0, 0, 1, 0, 0, 0, 0,
+        0, 0, 0, 3, 0, 0, 0, 0, 0, 0, 0, 40,
+    ]
+}
+
+// Two assets, three accounts, and one offer of the first account.
+#[rattlefmt::skip]
+pub fn three_accounts() -> [u8; 180] {
+    [
+        1,
+        0, 0, 0, 0, 0, 0, 0, 0,
+        2,
+        0, 0, 0, 0, 1, 0, 0, 0,
+        0, 0, 0, 0, 1, 0, 0, 0,
+        0, 0, 0, 0, 0, 0, 0, 0,
+        0, 0, 0, 0, 0, 0, 0, 0,
+        0, 0, 0, 3,
+        0, 0, 0, 0, 0, 0, 0, 1,
+        0, 0, 0, 0, 0, 0, 0, 3,
+        0, 0, 0, 0, 0, 0, 0, 10,
+        0, 0, 0, 0, 0, 0, 0, 20,
+        0, 0, 0, 0, 0, 0, 0, 2,
+        0, 0, 0, 0, 0, 0, 0, 0,
+        0, 0, 0, 0, 0, 0, 0, 30,
+        0, 0, 0, 0, 0, 0, 0, 0,
+        0, 0, 0, 0, 0, 0, 0, 3,
+        0, 0, 0, 0, 0, 0, 0, 0,
+        0, 0, 0, 0, 0, 0, 0, 40,
+        0, 0, 0, 0, 0, 0, 0, 50,
+        0, 0, 0, 1,
+        0,
+        1,
+        0, 0, 0, 0, 1, 0, 0, 0,
+        0, 0, 0, 0, 0, 0, 0, 1,
+        0, 0, 0, 0, 0, 0, 0, 3,
+        0, 0, 0, 0, 0, 0, 0, 40,
+    ]
+}
+
+// Two assets, and five accounts that hold nothing.
+#[rattlefmt::skip]
+pub fn five_accounts() -> [u8; 210] {
+    [
+        1,
+        0, 0, 0, 0, 0, 0, 0, 0,
+        2,
+        0, 0, 0, 0, 1, 0, 0, 0,
+        0, 0, 0, 0, 1, 0, 0, 0,
+        0, 0, 0, 0, 0, 0, 0, 0,
+        0, 0, 0, 0, 0, 0, 0, 0,
+        0, 0, 0, 5,
+        0, 0, 0, 0, 0, 0, 0, 1, 0, 0, 0, 0, 0, 0, 0, 0, 0, 0, 0, 0, 0, 0, 0, 0, 0, 0, 0, 0, 0, 0, 0, 0,
+        0, 0, 0, 0, 0, 0, 0, 2, 0, 0, 0, 0, 0, 0, 0, 0, 0, 0, 0, 0, 0, 0, 0, 0, 0, 0, 0, 0, 0, 0, 0, 0,
+        0, 0, 0, 0, 0, 0, 0, 3, 0, 0, 0, 0, 0, 0, 0, 0, 0, 0, 0, 0, 0, 0, 0, 0, 0, 0, 0, 0, 0, 0, 0, 0,
+        0, 0, 0, 0, 0, 0, 0, 4, 0, 0, 0, 0, 0, 0, 0, 0, 0, 0, 0, 0, 0, 0, 0, 0, 0, 0, 0, 0, 0, 0, 0, 0,
+        0, 0, 0, 0, 0, 0, 0, 5, 0, 0, 0, 0, 0, 0, 0, 0, 0, 0, 0, 0, 0, 0, 0, 0, 0, 0, 0, 0, 0, 0, 0, 0,
+        0, 0, 0, 0,
+    ]
+}
+
+// Two assets at 3 to 2. Account 1 has 5 units of the first, account 2 has 8 of the second.
+#[rattlefmt::skip]
+pub fn dropped_state() -> [u8; 114] {
+    [
+        1,
+        0, 0, 0, 0, 0, 0, 0, 0,
+        2,
+        0, 0, 0, 0, 0, 48, 0, 0, 0, 0, 0, 0, 0, 32, 0, 0,
+        0, 0, 0, 0, 0, 0, 0, 0, 0, 0, 0, 0, 0, 0, 0, 0,
+        0, 0, 0, 2,
+        0, 0, 0, 0, 0, 0, 0, 1, 0, 0, 0, 0, 0, 0, 0, 0,
+        0, 0, 0, 0, 0, 0, 0, 5, 0, 0, 0, 0, 0, 0, 0, 0,
+        0, 0, 0, 0, 0, 0, 0, 2, 0, 0, 0, 0, 0, 0, 0, 0,
+        0, 0, 0, 0, 0, 0, 0, 0, 0, 0, 0, 0, 0, 0, 0, 8,
+        0, 0, 0, 0,
+    ]
+}
+
+// The block of height 1 in which both accounts offer all that they have. The lower bounds, 15 and 16
+// in units of 2^-4, cannot both be kept: 15 trades each way, and the cut is the first asset alone.
+#[rattlefmt::skip]
+pub fn dropped_block() -> [u8; 264] {
+    [
+        1,
+        0, 0, 0, 0, 0, 0, 0, 1,
+        116, 169, 200, 81, 185, 204, 176, 109, 118, 228, 135, 70, 56, 22, 40, 216,
+        189, 147, 15, 242, 192, 120, 236, 64, 48, 112, 181, 167, 186, 121, 164, 33,
+        131, 92, 206, 46, 192, 181, 139, 229, 253, 220, 244, 252, 221, 193, 255, 146,
+        120, 116, 157, 242, 104, 63, 184, 63, 243, 197, 229, 69, 44, 24, 106, 117,
+        10,
+        2,
+        0, 0, 0, 0, 0, 48, 0, 0,
+        0, 0, 0, 0, 0, 32, 0, 0,
+        0, 2,
+        0, 1, 0, 0, 0, 0, 0, 0, 0, 0, 0, 0, 0, 0, 0, 240,
+        0, 0,
+        1, 0, 0, 0, 0, 0, 0, 0, 0, 0, 0, 0, 0, 0, 0, 240,
+        0, 0,
+        1,
+        0, 0, 0, 1,
+        0, 0, 0, 1, 0, 0, 0, 0,
+        0, 0, 0, 0, 0, 0, 0, 0, 0, 0, 0, 0, 0, 0, 0, 1,
+        188, 86, 53, 101, 120, 213, 86, 195, 14, 59, 50, 27, 24, 0, 166, 107,
+        88, 40, 182, 98, 130, 140, 241, 152, 83, 20, 35, 79, 246, 38, 254, 190,
+        0, 0, 0, 2,
+        0, 0, 0, 0, 0, 0, 0, 1, 0, 0, 0, 0, 0, 0, 0, 1,
+        3, 0, 1, 0, 0, 0, 0, 0, 64, 0, 0, 0, 0, 0, 0, 0,
+        0, 0, 5,
+        0, 0, 0, 0, 0, 0, 0, 2, 0, 0, 0, 0, 0, 0, 0, 1,
+        3, 1, 0, 0, 0, 0, 0, 0, 64, 0, 0, 0, 0, 0, 0, 0,
+        0, 0, 8,
+    ]
+}
 
 // Two assets at the price 1. Account 1 has 100 units of the first, account 2 has 60 of the second.
 #[rattlefmt::skip]

@@ -1,7 +1,7 @@
 use Rattle.std.proofs.Common.{ℕ, subst}
 use Rattle.sx_block.specs.Rule as rule
 use Rattle.sx_ledger.specs.Body.{IsAdmissibleIn}
-use Rattle.sx_tests.proofs.clearing.can_clear.Goals as goal
+use Rattle.sx_tests_gathering.proofs.clearing.can_clear.Goals as goal
 
 pub returns : goal.returns
 returns c =

@@ -8,6 +8,7 @@ ghost use Rattle.sx_block.specs.Validity.{IsValid};
 ghost use Rattle.sx_ledger.specs.Body.{IsAdmissibleIn, body_after};
 ghost use Rattle.sx_ledger.specs.Ledger.{most_height};
 
+use crate::markets::{dropped_block, dropped_state};
 use std::alloc::Global;
 use std::test::Fail;
 use sx_apply::{apply_body, apply_laws, trade};
@@ -17,69 +18,15 @@ use sx_check::{CheckFault, Checked, check};
 use sx_ledger::Ledger;
 use sx_state::read_state;
 
-// Two assets at 3 to 2. Account 1 has 5 units of the first, account 2 has 8 of the second.
-#[rattlefmt::skip]
-pub fn state() -> [u8; 114] {
-    [
-        1,
-        0, 0, 0, 0, 0, 0, 0, 0,
-        2,
-        0, 0, 0, 0, 0, 48, 0, 0, 0, 0, 0, 0, 0, 32, 0, 0,
-        0, 0, 0, 0, 0, 0, 0, 0, 0, 0, 0, 0, 0, 0, 0, 0,
-        0, 0, 0, 2,
-        0, 0, 0, 0, 0, 0, 0, 1, 0, 0, 0, 0, 0, 0, 0, 0,
-        0, 0, 0, 0, 0, 0, 0, 5, 0, 0, 0, 0, 0, 0, 0, 0,
-        0, 0, 0, 0, 0, 0, 0, 2, 0, 0, 0, 0, 0, 0, 0, 0,
-        0, 0, 0, 0, 0, 0, 0, 0, 0, 0, 0, 0, 0, 0, 0, 8,
-        0, 0, 0, 0,
-    ]
-}
-
-// The block of height 1 in which both accounts offer all that they have. The lower bounds, 15 and 16
-// in units of 2^-4, cannot both be kept: 15 trades each way, and the cut is the first asset alone.
-#[rattlefmt::skip]
-pub fn payload() -> [u8; 264] {
-    [
-        1,
-        0, 0, 0, 0, 0, 0, 0, 1,
-        116, 169, 200, 81, 185, 204, 176, 109, 118, 228, 135, 70, 56, 22, 40, 216,
-        189, 147, 15, 242, 192, 120, 236, 64, 48, 112, 181, 167, 186, 121, 164, 33,
-        131, 92, 206, 46, 192, 181, 139, 229, 253, 220, 244, 252, 221, 193, 255, 146,
-        120, 116, 157, 242, 104, 63, 184, 63, 243, 197, 229, 69, 44, 24, 106, 117,
-        10,
-        2,
-        0, 0, 0, 0, 0, 48, 0, 0,
-        0, 0, 0, 0, 0, 32, 0, 0,
-        0, 2,
-        0, 1, 0, 0, 0, 0, 0, 0, 0, 0, 0, 0, 0, 0, 0, 240,
-        0, 0,
-        1, 0, 0, 0, 0, 0, 0, 0, 0, 0, 0, 0, 0, 0, 0, 240,
-        0, 0,
-        1,
-        0, 0, 0, 1,
-        0, 0, 0, 1, 0, 0, 0, 0,
-        0, 0, 0, 0, 0, 0, 0, 0, 0, 0, 0, 0, 0, 0, 0, 1,
-        188, 86, 53, 101, 120, 213, 86, 195, 14, 59, 50, 27, 24, 0, 166, 107,
-        88, 40, 182, 98, 130, 140, 241, 152, 83, 20, 35, 79, 246, 38, 254, 190,
-        0, 0, 0, 2,
-        0, 0, 0, 0, 0, 0, 0, 1, 0, 0, 0, 0, 0, 0, 0, 1,
-        3, 0, 1, 0, 0, 0, 0, 0, 64, 0, 0, 0, 0, 0, 0, 0,
-        0, 0, 5,
-        0, 0, 0, 0, 0, 0, 0, 2, 0, 0, 0, 0, 0, 0, 0, 1,
-        3, 1, 0, 0, 0, 0, 0, 0, 64, 0, 0, 0, 0, 0, 0, 0,
-        0, 0, 8,
-    ]
-}
-
 fn opening(alloc: Global) -> Option<Ledger> {
-    read_state(alloc, state().as_slice()).ok()
+    read_state(alloc, dropped_state().as_slice()).ok()
 }
 
 // The block once the byte at a place is this one.
 fn block_with(alloc: Global, place: usize, byte: u8) -> Option<Block>
     ensures { IfSome result IsBlock }
 {
-    let mut bytes = payload();
+    let mut bytes = dropped_block();
     *bytes.get_mut(place)? = byte;
     read_block(alloc, bytes.as_slice()).ok()
 }

@@ -1,0 +1,49 @@
+//! What a tally tells where all amounts together do not fit 8 bytes.
+
+use crate::markets::{five_accounts, pay};
+use std::alloc::Global;
+use sx_base::{AccountId, AssetId};
+use sx_body::{Overdraft, precheck};
+use sx_state::read_state;
+use sx_tx::Tx;
+
+// First 256 payments of one unit: 64 by each of the accounts 1 to 4 to the next of them. Then six payments of 2^62
+// units by account 5 to account 1, whose sums have to keep what they were.
+fn payments(alloc: Global) -> Option<Vec<Tx>> {
+    let mut txs = Vec::new(alloc);
+    for seq in 1..65 {
+        for from in 1..5 {
+            txs.push(pay(from, seq, from % 4 + 1, 1)?).ok()?;
+        }
+    }
+    for seq in 1..7 {
+        txs.push(pay(5, seq, 1, 1 << 62)?).ok()?;
+    }
+    Some(txs)
+}
+
+// The first overdraft of these payments by the rule of a version.
+fn overdraft(alloc: Global, version: u8) -> Option<Overdraft> {
+    let ledger = read_state(alloc, &five_accounts()).ok()?;
+    let txs = payments(alloc)?;
+    let tally = precheck(alloc, &ledger, &txs).ok()?;
+    tally.first_overdraft(&ledger, version)
+}
+
+// The overdraft of an account that holds nothing of the first asset.
+fn first_asset(account: u64, credits: u128, debits: u128) -> Option<Overdraft> {
+    Some(Overdraft {
+        account: AccountId(account),
+        asset: AssetId::new(0).ok()?,
+        opening: 0,
+        credits,
+        debits,
+    })
+}
+
+#[test]
+fn sums_are_exact_below_and_above_8_bytes(rt: HostRuntime) {
+    let great = 6 << 62;
+    assert_eq!(rt; overdraft(rt.alloc(), 1), first_asset(1, great + 64, 64));
+    assert_eq!(rt; overdraft(rt.alloc(), 2), first_asset(5, 0, great));
+}
