@@ -222,7 +222,8 @@ def flow():
     rest, taken, said = lines(it.after, "offer")[0], len(lines(it.block, "tx")), it.line.split()[0]
     below = [
         (SOFT, width, "Block", [f"{taken} transactions, prices,", "trades, potentials,", "roundings, digests"]),
-        (GREEN, width, "Check by sums", ["nothing is searched:", f"{said}, value {decimal(total, 2)},", f"bounds {kept}"]),
+        (GREEN, width, "Check by sums",
+         ["nothing is searched:", f"{said}, value {decimal(total, 2)},", f"bounds {kept}"]),
         (GREEN, 2 * width + gap, f"Replay: the state at height {heads['after'][4]}",
          [f"account 1 has {after[1][1]} B, account 2 has {after[2][0]} A,",
           f"account 3 has {after[3][0]} A, account 4 has {after[4][1]} B,",
