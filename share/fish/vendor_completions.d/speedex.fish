@@ -1,6 +1,8 @@
 # fish completion for speedex: the commands, and the options of each
 
 complete -c speedex -f
+complete -c speedex -n __fish_use_subcommand -l help -d 'the commands'
+complete -c speedex -n __fish_use_subcommand -l version -d 'what is installed'
 complete -c speedex -n __fish_use_subcommand -a check -d 'whether a block is valid for a state'
 complete -c speedex -n __fish_use_subcommand -a demo -d 'a summary of a market that is made of a number'
 complete -c speedex -n __fish_use_subcommand -a filter -d 'candidates that may all stand in one block'
