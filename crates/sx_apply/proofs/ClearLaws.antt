@@ -2,7 +2,7 @@
 use Rattle.std.proofs.Common.{◌∙◌}
 use Rattle.sx_apply.specs.Laws.{ValidCanApply}
 use Rattle.sx_block.specs.Rule as rule
-use Rattle.sx_laws.proofs.Rules.{sound_fits, sound_is_tradable, valid_is_sound, widely_admissible}
+use Rattle.sx_block.proofs.Rules.{sound_fits, sound_is_tradable, valid_is_sound, widely_admissible}
 
 pub valid_can_apply : ValidCanApply
 valid_can_apply parts block valid =

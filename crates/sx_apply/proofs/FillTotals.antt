@@ -6,8 +6,8 @@ use Rattle.sx_apply.specs.FillSums.{given_by, got_by}
 use Rattle.sx_apply.specs.Trading.{CanTrade}
 use Rattle.sx_apply.proofs.FillPlaces.{given_is, gives_within, got_is, places_are}
 use Rattle.sx_fill.specs.AllFills.{all_fills}
-use Rattle.sx_laws.proofs.FillLaws.{gives_has, never_negative, price_above}
-use Rattle.sx_laws.proofs.TradeTotals.{given_there}
+use Rattle.sx_block.proofs.FillLaws.{gives_has, never_negative, price_above}
+use Rattle.sx_block.proofs.TradeTotals.{given_there}
 use Rattle.sx_ledger.specs.declared.fill.Fill.{Fill}
 use Rattle.sx_ledger.specs.declared.offer.Offer.{Offer}
 use Rattle.sx_ledger.specs.Fills.{Flow, given, got}

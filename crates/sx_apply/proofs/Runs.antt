@@ -12,7 +12,7 @@ use Rattle.sx_fill.specs.AllFills.{fill_of}
 use Rattle.sx_fill.specs.PairFills.{pair_fill, trading}
 use Rattle.sx_fill.proofs.PairValues.{theirs}
 use Rattle.sx_fill.proofs.Trading.{trading-append, trading-same}
-use Rattle.sx_laws.proofs.PairFills.{in_pair}
+use Rattle.sx_block.proofs.PairFills.{in_pair}
 use Rattle.sx_ledger.specs.declared.fill.Fill.{Fill}
 use Rattle.sx_ledger.specs.declared.offer.Offer.{Offer}
 use Rattle.sx_ledger.specs.Bounds.{pair_of, price_of}

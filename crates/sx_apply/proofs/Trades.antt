@@ -17,10 +17,10 @@ use Rattle.sx_dual.specs.declared.cut.Cut.{Cut}
 use Rattle.sx_dual.specs.Sums.{EachPair}
 use Rattle.sx_dual.specs.Tables.{value_of as flow_of}
 use Rattle.sx_fill.specs.AllFills.{all_fills}
-use Rattle.sx_laws.proofs.FillLaws.{gets_less, gives_more, price_above}
-use Rattle.sx_laws.proofs.LimitLaws.{must_in_full, only_within_limit}
-use Rattle.sx_laws.proofs.TradeKeeps.{trade_keeps_ledger}
-use Rattle.sx_laws.proofs.TradeTotals.{added_at, added_length}
+use Rattle.sx_block.proofs.FillLaws.{gets_less, gives_more, price_above}
+use Rattle.sx_block.proofs.LimitLaws.{must_in_full, only_within_limit}
+use Rattle.sx_block.proofs.TradeKeeps.{trade_keeps_ledger}
+use Rattle.sx_block.proofs.TradeTotals.{added_at, added_length}
 use Rattle.sx_ledger.specs.declared.account.Account.{Account}
 use Rattle.sx_ledger.specs.declared.fill.Fill.{Fill}
 use Rattle.sx_ledger.specs.declared.offer.Offer.{Offer}

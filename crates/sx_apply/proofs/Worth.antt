@@ -6,8 +6,8 @@ use Rattle.sx_block.specs.Effects.{IsTradable}
 use Rattle.sx_dual.specs.Circulation.{bought}
 use Rattle.sx_dual.specs.Sums.{between, sum_below}
 use Rattle.sx_dual.proofs.SumLaws.{between-other}
-use Rattle.sx_laws.proofs.FillLaws.{bought_within}
-use Rattle.sx_laws.proofs.TradeTotals.{given_there}
+use Rattle.sx_block.proofs.FillLaws.{bought_within}
+use Rattle.sx_block.proofs.TradeTotals.{given_there}
 use Rattle.sx_ledger.specs.declared.parts.Parts.{Parts}
 use Rattle.sx_ledger.specs.Bounds.{price_of}
 use Rattle.sx_ledger.specs.Fills.{given}

@@ -3,10 +3,10 @@ use Rattle.std.specs.Prelude.{◌≡◌, List}
 use Rattle.sx_apply.specs.declared.effects.Effects.{Effects}
 use Rattle.sx_block.specs.declared.header.Block.{Block}
 use Rattle.sx_block.specs.Validity.{flow_of_block, offers_of}
-use Rattle.sx_after.specs.declared.offers.OfferChange.{OfferChange}
-use Rattle.sx_body.specs.declared.tally.Tally.{Tally}
-use Rattle.sx_after.specs.OfferChanges.{changed_by}
-use Rattle.sx_body.specs.Tally.{IsTally}
+use Rattle.sx_tally.specs.declared.after.offers.OfferChange.{OfferChange}
+use Rattle.sx_tally.specs.declared.tally.Tally.{Tally}
+use Rattle.sx_tally.specs.OfferChanges.{changed_by}
+use Rattle.sx_tally.specs.Tally.{IsTally}
 use Rattle.sx_fill.specs.AllFills.{all_fills}
 use Rattle.sx_ledger.specs.declared.parts.Parts.{Parts}
 use Rattle.sx_ledger.specs.Body.{IsAdmissibleIn, offers_after}

@@ -9,10 +9,10 @@ use crate::effects::Effects;
 use crate::tallying::tally_of;
 use crate::trading::execute;
 use std::alloc::Global;
-use sx_after::{apply_accounts, offers_after};
 use sx_block::{Block, Header};
 use sx_bytes::NoMemory;
 use sx_ledger::Ledger;
+use sx_tally::{apply_accounts, offers_after};
 use sx_tx::Tx;
 
 /// The ledger after the body of a block, before anything trades. The transactions are a body for the

@@ -39,11 +39,11 @@ fn split_pair<'a>(offers: &'a [Offer], first: &Offer) -> (&'a [Offer], &'a [Offe
     offers.split_at(count_pair(offers, first))
 }
 
-/// The fills of all offers that trade at these prices a value above 0, where each pair trades what the
-/// flow says: by strictly rising place in the whole list of offers, which are those of a ledger. The
-/// flow can trade: each pair has at most the value of its offers that may trade, and of each asset as
-/// much is sold as is bought. It goes over the offers that trade, and finds where each pair ends by halving
-/// the offers that are left. It takes memory for as many fills as there are offers that may trade.
+/// The fills of all offers that trade at these prices a value above 0, if each pair trades what the flow
+/// says: by strictly rising place in the whole list of offers, which are those of a ledger. The flow can
+/// trade: each pair has at most the value of its offers that may trade, and of each asset as much is sold
+/// as is bought. It goes over the offers that trade, and finds where each pair ends by halving the offers
+/// that are left. It takes memory for as many fills as there are offers that may trade.
 pub fn fills_of(
     alloc: Global,
     offers: &[Offer],

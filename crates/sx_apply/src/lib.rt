@@ -14,7 +14,7 @@
 //! finds by halving the offers that are left. [`par_tally_of`] answers the same as [`tally_of`], with threads that look
 //! accounts and offers up. By [`apply_laws`] a valid block has what the calls ask for.
 //!
-//! Not here: whether a block is valid, what pairs may trade (`sx_bounds`), and how its prices and its flow are found.
+//! Not here: whether a block is valid, what pairs may trade (`sx_fill`), and how its prices and its flow are found.
 #![tactic(auto)]
 
 mod applying;

@@ -1,14 +1,14 @@
 //! What a body does to the accounts and offers of a ledger.
 
 ghost use Rattle.std.specs.Prelude.{◌≤◌, IfOk};
-ghost use Rattle.sx_body.specs.Tally.{IsTally};
+ghost use Rattle.sx_tally.specs.Tally.{IsTally};
 ghost use Rattle.sx_ledger.specs.Body.{IsAdmissibleIn};
 
 use std::alloc::Global;
 use std::thread::Threads;
-use sx_body::{PrecheckFault, Tally, par_precheck, precheck};
 use sx_bytes::NoMemory;
 use sx_ledger::Ledger;
+use sx_tally::{PrecheckFault, Tally, par_precheck, precheck};
 use sx_tx::Tx;
 
 /// What the transactions of a body do, found in one pass over them. The ledger refuses none of them, so
@@ -24,7 +24,7 @@ pub fn tally_of(alloc: Global, ledger: &Ledger, txs: &[Tx]) -> Result<Tally, NoM
     }
 }
 
-/// The same as [`tally_of`], with at most so many threads that look up where what the transactions name stands.
+/// The same as [`tally_of`], with at most so many threads that look up the places of what the transactions name.
 /// The answer is the same for every number of workers, and with one, or for few transactions, no thread is started.
 pub fn par_tally_of<R: Threads + Sync>(
     rt: &R,

@@ -43,10 +43,10 @@ fn with_rounding(rounding: Balances, more: &[u64]) -> Balances
     Balances::of(numbers)
 }
 
-/// The ledger after trading at these prices, with this rounding, where the sellers are credited already
-/// ([`pay_sellers`](crate::pay_sellers)) and it is known what each offer trades: offers lose what they give, and
-/// those with nothing left are gone; the rounding is kept, the prices are the ledger's, and the height rises by
-/// one. Offers change in place.
+/// The ledger after trading at these prices, with this rounding, from what each offer trades, if the sellers are
+/// credited already ([`pay_sellers`](crate::pay_sellers)): offers lose what they give, and those with nothing
+/// left are gone; the rounding is kept, the prices are the ledger's, and the height rises by one. Offers change
+/// in place.
 pub fn settle(
     alloc: Global,
     parts: Parts,
@@ -68,10 +68,10 @@ pub fn settle(
     }))
 }
 
-/// The ledger after trading at these prices, with this rounding, where it is known what each offer trades:
-/// these are the fills of all its offers, for some flow that can trade. Offers lose what they give, and
-/// those with nothing left are gone; sellers are credited with what they get; the rounding is kept, the
-/// prices are the ledger's, and the height rises by one. Accounts and offers change in place.
+/// The ledger after trading at these prices, with this rounding, from what each offer trades: these are
+/// the fills of all its offers, for some flow that can trade. Offers lose what they give, and those with
+/// nothing left are gone; sellers are credited with what they get; the rounding is kept, the prices are
+/// the ledger's, and the height rises by one. Accounts and offers change in place.
 pub fn execute(
     alloc: Global,
     ledger: Ledger,

@@ -7,3 +7,12 @@ pub mod Laws
 pub mod Rule
 pub mod Validity
 pub mod Effects
+pub mod EffectLaws
+pub mod ValidityLaws
+pub mod Invalid
+pub mod Checked
+pub mod Refusals
+pub mod RefusalLaws
+pub mod Dropping
+pub mod ChainLaws
+pub mod Chain

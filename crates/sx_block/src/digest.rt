@@ -1,8 +1,10 @@
 //! A digest of 32 bytes.
 
 ghost use Rattle.std.specs.Prelude.{◌≡◌};
+ghost use Rattle.sha2.specs.Sha256.{sha256};
 ghost use Rattle.sx_block.specs.Digest.{IsDigest};
 
+use sha2::{Digest as Hasher, Sha256};
 use std::marker::Model;
 use sx_bytes::ListOf;
 
@@ -40,4 +42,12 @@ impl Digest {
     {
         &self.bytes
     }
+}
+
+/// SHA-256 of these bytes. It takes no memory.
+pub fn digest_of(bytes: &[u8]) -> Digest
+    ensures hash { result ≡ sha256 bytes.now }
+    ensures digest { IsDigest result }
+{
+    Digest::of(Sha256::digest(bytes))
 }

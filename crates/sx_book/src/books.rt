@@ -108,7 +108,7 @@ impl Books {
         self.store.first(sell, buy)
     }
 
-    /// The offer of a key, or `None` where there is none.
+    /// The offer of a key, or `None` if there is none.
     pub fn get(&self, key: &Key) -> Option<&Offer>
         ensures offer { IfSome result (λ offer. Contains self.now.offers offer.now) }
         ensures key { IfSome result (λ offer. key_of offer.now ≡ key.now) }

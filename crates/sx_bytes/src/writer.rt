@@ -40,7 +40,7 @@ impl Writer {
         Writer { written }
     }
 
-    /// Takes the memory for so many bytes more at once, where it is not there yet. What was written stays as it is.
+    /// Takes the memory for so many bytes more at once, if it is not there yet. What was written stays as it is.
     pub fn reserve(&mut self, more: usize) -> Result<(), NoMemory>
         ensures { self.new ≡ self.old }
     {

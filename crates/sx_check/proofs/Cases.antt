@@ -2,11 +2,12 @@
 use Rattle.std.proofs.Common.{◌≡◌, ℕ, zero, suc, ◌<◌, ◌≤◌, List, [], ◌∷◌, length, inl, inr, refl, arith}
 use Rattle.sx_block.specs.declared.header.Block.{Block}
 use Rattle.sx_check.specs.declared.fault.CheckFault.TheVariants as check_fault
-use Rattle.sx_check.specs.declared.invalid.Invalid.TheVariants.{WrongAfter}
-use Rattle.sx_check.specs.Refusals.{ExplainsEarly, IsCrowded, IsMisrounded}
-use Rattle.sx_laws.proofs.ValidCase.{before, block}
+use Rattle.sx_block.specs.declared.invalid.Invalid.TheVariants.{WrongAfter}
+use Rattle.sx_block.specs.Refusals.{IsCrowded, IsMisrounded}
+use Rattle.sx_check.specs.Explanations.{ExplainsEarly}
+use Rattle.sx_block.proofs.ValidCase.{before, block}
 use Rattle.sx_ledger.specs.declared.parts.Parts.{Parts}
-use Rattle.sx_postings.specs.Repeats.{IsFirstRepeat, Repeats, creates}
+use Rattle.sx_ledger.specs.Repeats.{IsFirstRepeat, Repeats, creates}
 use Rattle.sx_tx.specs.declared.kind.Kind.TheVariants as kind
 use Rattle.sx_tx.specs.declared.tx.Tx.{Tx}
 

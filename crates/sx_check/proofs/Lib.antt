@@ -1,10 +1,5 @@
-pub mod Steps
 pub mod Counting
-pub mod RepeatLaws
-pub mod SameReason
-pub mod ReasonLaws
-pub mod MarketLaws
 pub mod OfferLaws
-pub mod Searches
-pub mod Judgement
 pub mod Cases
+pub mod Named
+pub mod BoundLaws

@@ -7,12 +7,12 @@ use Rattle.sx_block.specs.declared.header.Block.{Block}
 use Rattle.sx_block.specs.Block.{IsBlock}
 use Rattle.sx_block.specs.Rule as rule
 use Rattle.sx_block.specs.Validity.{HoldsButParent, Rounds, flow_of_block, high_in, offers_of, undropped_low_in}
-use Rattle.sx_bounds.specs.Bounds.{AreOffers, HasBounds}
-use Rattle.sx_bounds.proofs.BoundLaws.{ledger_offers}
-use Rattle.sx_check.specs.Refusals.{IsMisrounded}
+use Rattle.sx_fill.specs.Bounds.{AreOffers, HasBounds}
+use Rattle.sx_fill.proofs.BoundLaws.{ledger_offers}
+use Rattle.sx_block.specs.Refusals.{IsMisrounded}
 use Rattle.sx_dual.specs.Tables.{BoundsTable}
 use Rattle.sx_fill.specs.AllFills.{all_fills}
-use Rattle.sx_laws.proofs.Rules.{body_is_admissible, rules_trade}
+use Rattle.sx_block.proofs.Rules.{body_is_admissible, rules_trade}
 use Rattle.sx_ledger.specs.declared.fill.Fill.{Fill}
 use Rattle.sx_ledger.specs.declared.offer.Offer.{Offer}
 use Rattle.sx_ledger.specs.declared.parts.Parts.{Parts}

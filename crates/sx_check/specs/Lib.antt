@@ -1,5 +1,3 @@
-pub mod Invalid
-pub mod Refusals
-pub mod Checked
-pub mod Laws
 pub mod Surveys
+pub mod Judged
+pub mod Explanations

@@ -1,9 +1,9 @@
 -- What is found of the transactions of a block before its header is looked at.
 use Rattle.std.specs.Prelude.{List, Result, IfErr, IfOk}
 use Rattle.sx_apply.specs.Effects.{IsChangeTo}
-use Rattle.sx_body.specs.declared.prechecking.PrecheckFault.{PrecheckFault}
-use Rattle.sx_body.specs.Refusal.{IsPrecheckFault}
-use Rattle.sx_body.specs.Tally.{IsTally}
+use Rattle.sx_tally.specs.declared.prechecking.PrecheckFault.{PrecheckFault}
+use Rattle.sx_tally.specs.Prechecks.{IsPrecheckFault}
+use Rattle.sx_tally.specs.Tally.{IsTally}
 use Rattle.sx_check.specs.declared.survey.Survey.{Survey}
 use Rattle.sx_ledger.specs.declared.parts.Parts.{Parts}
 use Rattle.sx_tx.specs.declared.tx.Tx.{Tx}

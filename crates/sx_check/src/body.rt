@@ -4,18 +4,18 @@ ghost use Rattle.std.specs.Prelude.{◌≤◌, IfErr, IfNone, IfOk, IfSome, OnOk
 ghost use Rattle.sx_block.specs.Block.{IsBlock};
 ghost use Rattle.sx_block.specs.Rule as rule;
 ghost use Rattle.sx_block.specs.Validity.{HoldsButParent};
-ghost use Rattle.sx_body.specs.Overdraft.{IsFirstOverdrawn, NoneOverdrawn};
-ghost use Rattle.sx_body.specs.Tally.{IsTally};
-ghost use Rattle.sx_check.specs.Refusals.{ExplainsButParent, RefusesButParent};
+ghost use Rattle.sx_ledger.specs.Overdraft.{IsFirstOverdrawn, NoneOverdrawn};
+ghost use Rattle.sx_tally.specs.Tally.{IsTally};
+ghost use Rattle.sx_block.specs.Refusals.{RefusesButParent};
+ghost use Rattle.sx_check.specs.Explanations.{ExplainsButParent};
 ghost use Rattle.sx_check.specs.Surveys.{IsSurvey, IsSurveyed};
 
 use crate::fault::CheckFault;
-use crate::invalid::Invalid;
 use crate::survey::Survey;
 use std::thread::Threads;
-use sx_block::Block;
-use sx_body::{Overdraft, PrecheckFault, Tally};
-use sx_ledger::Ledger;
+use sx_block::{Block, Invalid};
+use sx_ledger::{Ledger, Overdraft};
+use sx_tally::{PrecheckFault, Tally};
 
 // The ledger refuses no transaction by itself. It answers the survey of them.
 fn check_each(

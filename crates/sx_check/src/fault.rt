@@ -3,8 +3,8 @@
 ghost use Rattle.std.specs.Prelude.{◌≡◌};
 ghost use Rattle.sx_check.specs.declared.fault.CheckFault.TheVariants as check_fault;
 
-use crate::invalid::Invalid;
 use std::alloc::{AllocError, AllocFailed};
+use sx_block::Invalid;
 use sx_bytes::NoMemory;
 use thiserror::Error;
 

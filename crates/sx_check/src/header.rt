@@ -5,13 +5,12 @@ ghost use Rattle.sha2.specs.Sha256.{sha256};
 ghost use Rattle.sx_block.specs.Block.{IsBlock};
 ghost use Rattle.sx_block.specs.Rule as rule;
 ghost use Rattle.sx_block.specs.Validity.{HoldsBefore, HoldsButParent, digest_of_ledger};
-ghost use Rattle.sx_check.specs.Checked.{IsWrongParent};
-ghost use Rattle.sx_check.specs.Refusals.{RefusesButParent, RefusesEarly};
+ghost use Rattle.sx_block.specs.Checked.{IsWrongParent};
+ghost use Rattle.sx_block.specs.Refusals.{RefusesButParent, RefusesEarly};
 ghost use Rattle.sx_ledger.specs.Ledger.{IsLedger};
 ghost use Rattle.sx_tx.specs.Transactions.{list_bytes};
 
-use crate::invalid::Invalid;
-use sx_block::{Block, Digest, Header};
+use sx_block::{Block, Digest, Header, Invalid};
 use sx_ledger::Ledger;
 
 // The block has the next height. The reasons here come before the one on the digest of the ledger.

@@ -5,28 +5,29 @@ ghost use Rattle.sha2.specs.Sha256.{sha256};
 ghost use Rattle.sx_block.specs.Block.{IsBlock};
 ghost use Rattle.sx_block.specs.Rule as rule;
 ghost use Rattle.sx_block.specs.Validity.{HoldsButParent, IsSound, IsValid, digest_of_ledger, ledger_after};
-ghost use Rattle.sx_check.specs.Checked.{CanBeApplied, IsJudged, IsWrongAfter, checked_of};
-ghost use Rattle.sx_check.specs.Refusals.{Explains, ExplainsButParent, ExplainsEarly, Refuses};
-ghost use Rattle.sx_check.specs.Refusals.{RefusesButParent, RefusesEarly};
+ghost use Rattle.sx_block.specs.Checked.{IsWrongAfter, checked_of};
+ghost use Rattle.sx_check.specs.Judged.{CanBeApplied, IsJudged};
+ghost use Rattle.sx_block.specs.Refusals.{Refuses};
+ghost use Rattle.sx_check.specs.Explanations.{Explains, ExplainsButParent, ExplainsEarly};
+ghost use Rattle.sx_block.specs.Refusals.{RefusesButParent, RefusesEarly};
 ghost use Rattle.sx_check.specs.Surveys.{IsSurvey, IsSurveyed};
 ghost use Rattle.sx_ledger.specs.Ledger.{IsLedger};
 ghost use Rattle.sx_tx.specs.Transactions.{list_bytes};
 
 use crate::body::{check_body, par_check_body};
-use crate::checked::{Checked, Judged};
 use crate::fault::CheckFault;
 use crate::header::{check_header, check_height, check_parent, named};
-use crate::invalid::Invalid;
+use crate::judged::Judged;
 use crate::market::check_market;
 use crate::rounding::check_rounding;
 use crate::survey::{Survey, survey_of};
 use std::alloc::Global;
 use std::thread::Threads;
 use sx_apply::{Effects, apply};
-use sx_block::{Block, Digest, Header};
-use sx_body::PrecheckFault;
+use sx_block::{Block, Checked, Digest, Header, Invalid};
 use sx_digests::{body_digest, ledger_digest};
 use sx_ledger::Ledger;
+use sx_tally::PrecheckFault;
 
 // What is told of a valid block.
 fn checked(block: &Block) -> Checked

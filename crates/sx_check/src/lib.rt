@@ -1,8 +1,8 @@
 //! Whether a block is valid for a ledger, by sums over plain lists.
 //!
 //! [`check`] answers Ok exactly where a block is valid for a ledger, and else the first of seventeen
-//! reasons, [`Invalid`], in the order of their numbers, but that the last stands in the place
-//! of the tenth where the block is of version 2. [`check_laws`] says that each block is valid or has one first
+//! reasons, [`Invalid`](sx_block::Invalid), in the order of their numbers, but that the last stands in the place
+//! of the tenth where the block is of version 2. [`check_laws`](sx_block::check_laws) says that each block is valid or has one first
 //! reason, and never both.
 //!
 //! A caller that applies blocks does the same in steps. [`judge`] is all of it but `WrongAfter`, with the effects that
@@ -16,27 +16,24 @@
 //! A header needs not be trusted: that no circulation trades more value follows from its potentials,
 //! and that lower bounds could not be kept from its cut. No solver, book or curve is used.
 //!
-//! `sx_block` has the rules in their order, and `specs/Refusals` the reasons: the rules before that of a
-//! reason hold, and its own is broken.
+//! `sx_block` has the rules in their order, the reasons, and when each is the first: the rules before that of a reason hold,
+//! and its own is broken.
 //!
 //! Not here: how blocks are made, and running many of them.
 #![tactic(auto)]
 
 mod body;
-mod checked;
 mod fault;
 mod header;
-mod invalid;
+mod judged;
 mod judging;
-mod laws;
 mod market;
 mod rounding;
 mod survey;
 
-pub use checked::{Checked, Judged};
 pub use fault::CheckFault;
 pub use header::named;
-pub use invalid::Invalid;
+pub use judged::Judged;
 pub use judging::{check, close, first_reason, judge, judge_applicable};
-pub use laws::check_laws;
 pub use survey::{Survey, par_survey_of, survey_of};
+pub use sx_block::{Checked, Invalid, check_laws};

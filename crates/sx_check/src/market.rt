@@ -4,16 +4,16 @@ ghost use Rattle.std.specs.Prelude.{◌≡◌, Some, None, IfErr, OnOk};
 ghost use Rattle.sx_block.specs.Block.{IsBlock};
 ghost use Rattle.sx_block.specs.Rule as rule;
 ghost use Rattle.sx_block.specs.Validity.{HoldsButParent, high_in, low_in, offers_of, undropped_low_in};
-ghost use Rattle.sx_bounds.specs.Bounds.{HasBounds};
-ghost use Rattle.sx_check.specs.Refusals.{ExplainsButParent, RefusesButParent};
+ghost use Rattle.sx_fill.specs.Bounds.{HasBounds};
+ghost use Rattle.sx_block.specs.Refusals.{RefusesButParent};
+ghost use Rattle.sx_check.specs.Explanations.{ExplainsButParent};
 ghost use Rattle.sx_ledger.specs.Ledger.{IsLedger, assets_of};
 
 use crate::fault::CheckFault;
-use crate::invalid::Invalid;
 use std::alloc::Global;
-use sx_block::Block;
-use sx_bounds::{bounds_of, without_low};
+use sx_block::{Block, Invalid};
 use sx_dual::{Bounds, Cut, cuts, fits};
+use sx_fill::{bounds_of, without_low};
 use sx_ledger::{Ledger, Offer};
 
 // The flow and the potentials fit the bounds.

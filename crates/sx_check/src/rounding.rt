@@ -4,16 +4,16 @@ ghost use Rattle.std.specs.Prelude.{◌≡◌, ◌≢◌, ℕ, ◌<◌, length, 
 ghost use Rattle.sx_block.specs.Block.{IsBlock};
 ghost use Rattle.sx_block.specs.Rule as rule;
 ghost use Rattle.sx_block.specs.Validity.{HoldsButParent, IsApplicable, Rounds, flow_of_block, offers_of};
-ghost use Rattle.sx_check.specs.Refusals.{ExplainsButParent, RefusesButParent};
+ghost use Rattle.sx_block.specs.Refusals.{RefusesButParent};
+ghost use Rattle.sx_check.specs.Explanations.{ExplainsButParent};
 ghost use Rattle.sx_fill.specs.AllFills.{all_fills};
 ghost use Rattle.sx_ledger.specs.Ledger.{assets_of};
 
 use crate::fault::CheckFault;
-use crate::invalid::Invalid;
 use std::alloc::Global;
 use sx_apply::{fills_of, rounding_of};
 use sx_base::AssetId;
-use sx_block::Block;
+use sx_block::{Block, Invalid};
 use sx_ledger::{Fills, Ledger, Offer};
 
 // The first place at which two lists of as many numbers differ.

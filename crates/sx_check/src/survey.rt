@@ -1,14 +1,13 @@
 //! What the transactions of a block do to a ledger, whatever its header says.
 
 ghost use Rattle.std.specs.Prelude.{◌≤◌, IfErr, IfOk};
-ghost use Rattle.sx_body.specs.Refusal.{IsPrecheckFault};
+ghost use Rattle.sx_tally.specs.Prechecks.{IsPrecheckFault};
 ghost use Rattle.sx_check.specs.Surveys.{IsSurvey};
 
 use std::alloc::Global;
 use std::thread::Threads;
-use sx_after::{OfferChange, offers_after};
-use sx_body::{PrecheckFault, Tally, par_precheck, precheck};
 use sx_ledger::Ledger;
+use sx_tally::{OfferChange, PrecheckFault, Tally, offers_after, par_precheck, precheck};
 use sx_tx::Tx;
 
 /// What transactions do to a ledger, as a judgement and an execution need it.
@@ -33,7 +32,7 @@ pub fn survey_of(alloc: Global, ledger: &Ledger, txs: &[Tx]) -> Result<Survey, P
     Ok(Survey { tally, offers })
 }
 
-/// The same as [`survey_of`], with at most so many threads that look up where what the transactions name stands.
+/// The same as [`survey_of`], with at most so many threads that look up the places of what the transactions name.
 /// The answer is the same for every number of workers, and with one, or for few transactions, no thread is started.
 pub fn par_survey_of<R: Threads + Sync>(
     rt: &R,

@@ -7,16 +7,16 @@ use Rattle.sx_base.specs.Ranges.{most_amount}
 use Rattle.sx_block.specs.declared.header.Block.{Block}
 use Rattle.sx_block.specs.Effects.{IsRounded, IsTradable}
 use Rattle.sx_block.specs.Validity.{IsValid, flow_of_block, high_in, offers_of, undropped_low_in}
-use Rattle.sx_trade.specs.declared.trade.Trade.{Trade}
-use Rattle.sx_clear.specs.Dropping.{DropsExactly}
+use Rattle.sx_clear.specs.declared.trade.Trade.{Trade}
+use Rattle.sx_block.specs.Dropping.{DropsExactly}
 use Rattle.sx_clear.specs.Traded.{IsTradeAt}
 use Rattle.sx_dual.specs.declared.cut.Cut.{Cut}
 use Rattle.sx_dual.specs.Circulation.{HaveNoCirculation, IsCirculation}
 use Rattle.sx_dual.specs.Tables.{value_of}
-use Rattle.sx_laws.proofs.Rules.{sound_fits, valid_is_sound}
-use Rattle.sx_laws.proofs.TradeKeeps.{trade_keeps_ledger}
-use Rattle.sx_laws.proofs.TradeTotals.{added_at, added_length}
-use Rattle.sx_laws.proofs.ValidBlocks.{drops_the_impossible}
+use Rattle.sx_block.proofs.Rules.{sound_fits, valid_is_sound}
+use Rattle.sx_block.proofs.TradeKeeps.{trade_keeps_ledger}
+use Rattle.sx_block.proofs.TradeTotals.{added_at, added_length}
+use Rattle.sx_block.proofs.ValidBlocks.{drops_the_impossible}
 use Rattle.sx_ledger.specs.declared.offer.Offer.{Offer}
 use Rattle.sx_ledger.specs.declared.parts.Parts.{Parts}
 use Rattle.sx_ledger.specs.Body.{body_after}

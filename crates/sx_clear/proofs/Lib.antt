@@ -1,3 +1,9 @@
 pub mod BlockLaws
 pub mod Tradings
 pub mod SearchCases
+pub mod TradeLaws
+pub mod SearchCounts
+pub mod OfferLaws
+pub mod CurveBounds
+pub mod PriceLaws
+pub mod LedgersLeft

@@ -1,14 +1,14 @@
 -- What a body trades, and what follows of its block.
 use Rattle.std.proofs.Common.{◌≡◌, ℕ, ◌+◌, ◌*◌, ◌<◌, ◌≤◌, false, List, length, Result, Ok, Err, ap, subst, ◌∙◌}
 use Rattle.std.specs.Prelude.{All, IfOk, slice_index}
-use Rattle.sx_bounds.specs.Bounds.{HasBounds}
+use Rattle.sx_fill.specs.Bounds.{HasBounds}
 use Rattle.sx_apply.specs.Trading.{CanExecute}
 use Rattle.sx_block.specs.declared.header.Block.{Block}
 use Rattle.sx_block.specs.Validity.{digest_of_ledger}
-use Rattle.sx_discovery.specs.declared.body.Body.{Body}
+use Rattle.sx_clear.specs.declared.prices.body.Body.{Body}
 use Rattle.sx_clear.specs.declared.clearing.Trading.{Trading}
 use Rattle.sx_clear.specs.declared.heading.Terms.{Terms}
-use Rattle.sx_discovery.specs.Found.{CanLeave, HasBoundsAt, IsBodyOf}
+use Rattle.sx_clear.specs.Found.{CanLeave, HasBoundsAt, IsBodyOf}
 use Rattle.sx_clear.specs.Searches.{IsCounted}
 use Rattle.sx_clear.specs.Terms.{AreTerms}
 use Rattle.sx_clear.specs.Traded.{IsTradeAt}
@@ -25,8 +25,8 @@ use Rattle.sx_ledger.specs.Ledger.{IsLedger, assets_of}
 use Rattle.sx_ledger.specs.Trade.{traded}
 use Rattle.sx_level.specs.Solved.{HaveDigits, most_searches}
 use Rattle.sx_price.specs.Limits.{IsPrice}
-use Rattle.sx_trade.specs.declared.trade.Trade.{Trade}
-use Rattle.sx_trade.specs.Traded.{IsTrade}
+use Rattle.sx_clear.specs.declared.trade.Trade.{Trade}
+use Rattle.sx_clear.specs.TradedWithin.{IsTrade}
 use Rattle.sx_tx.specs.declared.tx.Tx.{Tx}
 
 module _ (parts : Parts) (txs : List Tx) (body : Body) (prices : List ℕ) (j : ℕ) (trading : Trading)

@@ -1,5 +1,9 @@
-pub mod Dropping
 pub mod Traded
 pub mod Searches
 pub mod Terms
 pub mod Trading
+pub mod TradedWithin
+pub mod TradeSearches
+pub mod Bounding
+pub mod Digests
+pub mod Found

@@ -1,9 +1,9 @@
 -- What a body trades at given prices.
 use Rattle.std.specs.Prelude.{◌≡◌, ℕ, ◌+◌, ◌*◌, ◌≤◌, List}
 use Rattle.sx_block.specs.Effects.{IsRounded}
-use Rattle.sx_discovery.specs.declared.body.Body.{Body}
+use Rattle.sx_clear.specs.declared.prices.body.Body.{Body}
 use Rattle.sx_clear.specs.declared.clearing.Trading.{Trading}
-use Rattle.sx_discovery.specs.Found.{CanLeave}
+use Rattle.sx_clear.specs.Found.{CanLeave}
 use Rattle.sx_clear.specs.Traded.{IsTradeAt}
 use Rattle.sx_dual.specs.Tables.{value_of}
 use Rattle.sx_fill.specs.AllFills.{all_fills}

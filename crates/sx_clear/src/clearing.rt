@@ -2,37 +2,37 @@
 
 ghost use Rattle.std.specs.Prelude.{◌≡◌, ◌+◌, ◌<◌, ◌≤◌, All, IfOk, length};
 ghost use Rattle.sx_block.specs.Validity.{IsValid, flow_of_block, high_in, low_in};
-ghost use Rattle.sx_clear.specs.Dropping.{DropsExactly};
-ghost use Rattle.sx_discovery.specs.Found.{HasBoundsAt, IsBodyOf};
-ghost use Rattle.sx_discovery.specs.Quotes.{imbalance_at, posted_at, searched_at};
+ghost use Rattle.sx_block.specs.Dropping.{DropsExactly};
+ghost use Rattle.sx_clear.specs.Found.{HasBoundsAt, IsBodyOf};
+ghost use Rattle.sx_multi.specs.Quotes.{imbalance_at, posted_at, searched_at};
 ghost use Rattle.sx_clear.specs.Searches.{IsCounted};
 ghost use Rattle.sx_clear.specs.Trading.{IsCountedAt, IsTrading};
 ghost use Rattle.sx_dual.specs.Circulation.{IsGreatest};
 ghost use Rattle.sx_ledger.specs.Body.{IsAdmissible};
 ghost use Rattle.sx_ledger.specs.Ledger.{IsLedger, assets_of, most_height};
 ghost use Rattle.sx_price.specs.Limits.{IsPrice};
-ghost use Rattle.sx_trade.specs.Searches.{most_clearing_searches};
+ghost use Rattle.sx_clear.specs.TradeSearches.{most_clearing_searches};
 ghost use Rattle.sx_tx.specs.Transactions.{most_transactions};
 
 use crate::filling::{Filled, fill};
 use crate::heading::{Terms, block_of};
+use crate::leaving::{digest_left, digests_around};
+use crate::prices::{
+    Body, Digests, Opened, Search, digest_and_prices, digest_of_body, digest_of_parent, open_at,
+    price_ranges,
+};
+use crate::trade::{Trade, trade_within};
 use std::alloc::Global;
 use std::snapshot::Snapshot;
 use std::sync::ledger;
 use std::thread::Threads;
 use sx_block::Block;
 use sx_bytes::NoMemory;
-use sx_discovery::{
-    Body, Digests, Opened, Search, digest_and_prices, digest_of_body, digest_of_parent, open_at,
-    price_ranges,
-};
 use sx_dual::Bounds;
-use sx_leaving::{digest_left, digests_around};
 use sx_ledger::Ledger;
 use sx_multi::posted_laws;
 use sx_net::Steps;
 use sx_price::{Mu, Prices};
-use sx_trade::{Trade, trade_within};
 use sx_tx::{Tx, TxList};
 
 // What a body trades at the prices that are found, and what each offer and rounding keep of it.

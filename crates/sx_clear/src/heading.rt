@@ -3,20 +3,20 @@
 ghost use Rattle.std.specs.Prelude.{◌≡◌, ◌+◌, ◌^◌, ◌<◌, ◌≤◌, All, length};
 ghost use Rattle.sx_block.specs.Digest.{IsDigest};
 ghost use Rattle.sx_block.specs.Validity.{IsValid};
-ghost use Rattle.sx_discovery.specs.Digests.{AreDigests};
+ghost use Rattle.sx_clear.specs.Digests.{AreDigests};
 ghost use Rattle.sx_clear.specs.Terms.{AreTerms};
 ghost use Rattle.sx_ledger.specs.Body.{IsAdmissible};
 ghost use Rattle.sx_ledger.specs.Ledger.{IsLedger, most_height};
 ghost use Rattle.sx_tx.specs.Transactions.{IsTx, most_transactions};
 
+use crate::prices::Digests;
+use crate::trade::Trade;
 use std::snapshot::Snapshot;
 use sx_base::Balances;
 use sx_block::{Block, Digest, Header};
-use sx_discovery::Digests;
 use sx_dual::Potentials;
 use sx_ledger::Ledger;
 use sx_price::{Mu, Prices};
-use sx_trade::Trade;
 use sx_tx::TxList;
 
 // At which terms a body trades, and the digest of the ledger that is left.

@@ -7,16 +7,16 @@
 //! of several searches, [`clear_in_place`] does the same without a copy of the ledger, and [`clear_at`] takes prices that
 //! are given.
 //!
-//! The method: what the body does, the prices and the bounds of each pair are found first (`sx_discovery`). Then
-//! `trade_within` of `sx_trade` answers a circulation of greatest value within the bounds, with lower bounds dropped where
+//! The method: what the body does, the prices and the bounds of each pair are found first (`prices`). Then
+//! `trade_within` answers a circulation of greatest value within the bounds, with lower bounds dropped where
 //! a cut shows that none keeps them. The value is shared out among the offers of each pair in their order, rounded to
 //! whole units. What the block leaves of the ledger, or of a copy, is hashed for its header.
 //!
 //! A thread makes the digest of a large body beside the search for prices, and that of a large ledger beside a copy and
-//! its digest. In [`clear_in_place`] that thread writes the body, and others hash what it has written; the block and the
-//! body as it was written are answered. Threads also look up the accounts and offers that a large body names, but in
-//! [`clear_at`]. In [`clear_in_place`] they change the accounts too where there are many, and credit the sellers where
-//! many offers trade, each in a part of the accounts (`sx_spread`), and one encodes the offers that are left, where
+//! its digest. In [`clear_in_place`] that thread writes the body, and others hash what it has written; the block and
+//! the body as it was written are answered. Threads also look up the accounts and offers that a large body names, but
+//! in [`clear_at`]. In [`clear_in_place`] they change the accounts too where there are many, and credit the sellers
+//! where many offers trade, each in a part of the accounts (`sx_spread`), and one encodes the offers that are left if
 //! these are many, while the accounts are hashed.
 //!
 //! ```text
@@ -42,6 +42,10 @@ mod clearing;
 mod clearing_in_place;
 mod filling;
 mod heading;
+mod leaving;
+mod prices;
+mod trade;
 
 pub use clearing::{clear, clear_at, clear_many};
 pub use clearing_in_place::{Cleared, clear_in_place};
+pub use prices::curves_of;

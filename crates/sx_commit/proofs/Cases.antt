@@ -5,7 +5,7 @@ use Rattle.std.specs.List.{All}
 use Rattle.sha2.specs.Sha256.{sha256}
 use Rattle.sx_block.specs.Digest.{IsDigest}
 use Rattle.sx_commit.specs.declared.collision.Collision.{Collision}
-use Rattle.sx_commit.specs.declared.proof.Proof.{Proof}
+use Rattle.sx_block.specs.declared.proof.Proof.{Proof}
 use Rattle.sx_commit.specs.Clashes.{AreWhole, IsClash, IsProof, IsSaid}
 use Rattle.sx_commit.specs.Commitments.{IsGood, digest_at, folded, leaf_bytes, listed, place_beside, root_of}
 use Rattle.sx_commit.specs.Commitments.{siblings_of}

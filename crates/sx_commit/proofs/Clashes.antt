@@ -8,7 +8,7 @@ use Rattle.std.proofs.lemmas.Option.{slice_get_cases}
 use Rattle.sha2.specs.Sha256.{sha256}
 use Rattle.sha2.proofs.Facts256.{length-sha256}
 use Rattle.sx_block.specs.Digest.{IsDigest}
-use Rattle.sx_commit.specs.declared.proof.Proof.{Proof}
+use Rattle.sx_block.specs.declared.proof.Proof.{Proof}
 use Rattle.sx_commit.specs.Clashes.{AreWhole, IsSaid}
 use Rattle.sx_commit.specs.Commitments.{bytes_of, digest_at, folded, joined, joined_bytes, leaf_bytes, levels}
 use Rattle.sx_commit.specs.Commitments.{most_places, node_bytes, place_beside, root_of, sibling_at, siblings_of}

@@ -5,3 +5,8 @@ pub mod Clashes
 pub mod Digests
 pub mod Ranges
 pub mod Cases
+pub mod ProofLaws
+pub mod Payload
+pub mod ProofFaults
+pub mod Lengths
+pub mod FormatCases

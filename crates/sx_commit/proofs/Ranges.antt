@@ -4,7 +4,7 @@ use Rattle.std.specs.Prelude.{slice_get}
 use Rattle.std.specs.List.{All}
 use Rattle.std.proofs.lemmas.Option.{get_or_from_slice_get, slice_get_within}
 use Rattle.sx_block.specs.Digest.{IsDigest}
-use Rattle.sx_commit.specs.declared.proof.Proof.{Proof}
+use Rattle.sx_block.specs.declared.proof.Proof.{Proof}
 use Rattle.sx_commit.specs.Clashes.{IsProof}
 use Rattle.sx_commit.specs.Commitments.{levels, siblings_of}
 use Rattle.sx_commit.specs.Laws.{TrueIsClaim}

@@ -5,7 +5,7 @@ use Rattle.sha2.specs.Sha256.{sha256}
 use Rattle.sx_base.specs.Ranges.{most_assets}
 use Rattle.sx_block.specs.Digest.{IsDigest}
 use Rattle.sx_commit.specs.declared.collision.Collision.{Collision}
-use Rattle.sx_commit.specs.declared.proof.Proof.{Proof}
+use Rattle.sx_block.specs.declared.proof.Proof.{Proof}
 use Rattle.sx_commit.specs.Commitments.{bytes_of, leaf_bytes, levels, most_places}
 use Rattle.sx_ledger.specs.declared.parts.Parts.{Parts}
 use Rattle.sx_ledger.specs.Ledger.{IsAccount, most_version}

@@ -2,7 +2,7 @@
 use Rattle.std.specs.Prelude.{◌≡◌, ℕ, zero, suc, ◌+◌, ◌-◌, ◌*◌, ◌/◌, ◌%◌, ◌^◌, List, [], ◌∷◌, ◌++◌}
 use Rattle.std.specs.Prelude.{Option, Some, None, slice_get, slice_index_or, ◌==◌, if◌then◌else◌}
 use Rattle.sha2.specs.Sha256.{sha256}
-use Rattle.sx_commit.specs.declared.proof.Proof.{Proof}
+use Rattle.sx_block.specs.declared.proof.Proof.{Proof}
 use Rattle.sx_ledger.specs.declared.account.Account.{Account}
 use Rattle.sx_ledger.specs.declared.parts.Parts.{Parts}
 use Rattle.sx_state.specs.Encoding.{account_bytes}

@@ -1,6 +1,6 @@
 -- Laws of commitments.
 use Rattle.std.specs.Prelude.{◌≡◌, ℕ, ◌<◌, List, Some, slice_get}
-use Rattle.sx_commit.specs.declared.proof.Proof.{Proof}
+use Rattle.sx_block.specs.declared.proof.Proof.{Proof}
 use Rattle.sx_commit.specs.Claim.{IsClaim}
 use Rattle.sx_commit.specs.Commitments.{IsGood, most_places, root_of, siblings_of}
 use Rattle.sx_ledger.specs.declared.parts.Parts.{Parts}

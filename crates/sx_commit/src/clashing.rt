@@ -18,13 +18,11 @@ ghost use Rattle.sx_commit.specs.Commitments.{root_of};
 use crate::collision::Collision;
 use crate::committing::{LEVELS, siblings};
 use crate::hashing::{EMPTY, NODE, write_leaf};
-use crate::proof::Proof;
 use crate::verifying::join;
 use std::alloc::Global;
 use std::thread::Threads;
-use sx_block::Digest;
+use sx_block::{Digest, Proof, digest_of};
 use sx_bytes::{Bytes, NoMemory, Writer};
-use sx_digests::digest_of;
 use sx_ledger::Ledger;
 
 // The bytes of what stands at a place of the ledger.
@@ -129,9 +127,9 @@ fn collision(alloc: Global, left: &[u8], right: &[u8]) -> Result<Collision, NoMe
     Ok(Collision { left, right })
 }
 
-/// Nothing where the ledger has at the place of the proof what the proof says, and else two different byte
-/// strings with the same SHA-256. The proof is good for the root of the ledger. Workers share the digests of the ledger
-/// as at [`prove`](crate::prove). `NoMemory` is the only error.
+/// Nothing if the ledger has at the place of the proof what the proof says, and else two different byte strings with
+/// the same SHA-256. The proof is good for the root of the ledger. Workers share the digests of the ledger as at
+/// [`prove`](crate::prove). `NoMemory` is the only error.
 pub fn clash<R: Threads + Sync>(
     rt: &R,
     alloc: Global,

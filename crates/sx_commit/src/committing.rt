@@ -8,11 +8,10 @@ ghost use Rattle.sx_commit.specs.Commitments.{siblings_of};
 ghost use Rattle.sx_commit.specs.Levels.{lowest};
 
 use crate::level::{LOWEST, Level};
-use crate::proof::Proof;
 use crate::subtree::digest_over;
 use std::alloc::Global;
 use std::thread::Threads;
-use sx_block::{Digest, Digests};
+use sx_block::{Digest, Digests, Proof};
 use sx_bytes::NoMemory;
 use sx_ledger::Ledger;
 

@@ -10,9 +10,8 @@ ghost use Rattle.sx_commit.specs.Commitments.{empty_bytes, leaf_bytes, node_byte
 
 use crate::leaf::{put_bytes, put_leaf};
 use sha2::{Digest as Hasher, Sha256};
-use sx_block::Digest;
+use sx_block::{Digest, digest_of};
 use sx_bytes::{NoMemory, Writer};
-use sx_digests::digest_of;
 use sx_ledger::Account;
 use sx_state::write_account;
 

@@ -27,7 +27,16 @@
 //! each 128 accounts, and for one level more. Where there are 2,048 accounts or more, several threads make a part of
 //! level 7 each. They are started and joined once.
 //!
-//! Not here: the bytes of a proof (`sx_proof`), and that nobody finds such a collision, for which SHA-256 is trusted.
+//! [`read_proof`] answers a root and a proof exactly if a payload is the encoding of both, and else the first fault from
+//! left to right; [`write_proof`] appends the one encoding. [`proof_laws`] says that no other root and proof have it and
+//! that each fits a record.
+//!
+//! ```text
+//!     root | version | number of assets | place | account | sixteen digests, the lowest first
+//! ```
+//!
+//! Not here: that nobody finds such a collision, for which SHA-256 is trusted, and the frame around a payload
+//! (`sx_record`).
 //!
 //! Source: Ralph C. Merkle, "A Digital Signature Based on a Conventional Encryption Function" (CRYPTO 1987). The
 //! bytes of the leaves and the number of levels are this project's own.
@@ -36,17 +45,22 @@
 mod clashing;
 mod collision;
 mod committing;
+mod encoding_laws;
 mod hashing;
 mod laws;
 mod leaf;
 mod level;
-mod proof;
+mod proof_reading;
+mod proof_writing;
 mod subtree;
 mod verifying;
 
 pub use clashing::clash;
 pub use collision::Collision;
 pub use committing::{LEVELS, commit, prove};
+pub use encoding_laws::proof_laws;
 pub use laws::commitment_laws;
-pub use proof::Proof;
+pub use proof_reading::read_proof;
+pub use proof_writing::write_proof;
+pub use sx_block::Proof;
 pub use verifying::{leads_to, verify};

@@ -5,8 +5,7 @@ ghost use Rattle.sx_commit.specs.Commitments.{IsGood, folded, joined, leaf_of, l
 
 use crate::committing::LEVELS;
 use crate::hashing::{leaf_digest, node_digest};
-use crate::proof::Proof;
-use sx_block::Digest;
+use sx_block::{Digest, Proof};
 
 // The digest over a digest at a place and its sibling.
 pub(crate) fn join(place: u32, digest: &Digest, sibling: &Digest) -> Digest

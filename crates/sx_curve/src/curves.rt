@@ -99,10 +99,10 @@ impl Curves {
         }
     }
 
-    /// The curves of these quotes, where there are 1 to 32 assets. Each quote sells an asset below
-    /// that number for another one, and the amounts that sell an asset add up to at most `2^62`.
-    /// `NoMemory` is the only error. It takes the list, of which the order is free, sorts it where it
-    /// stands unless it is in order, and goes over it: n log n for n quotes, and n for those in order.
+    /// The curves of these quotes, if there are 1 to 32 assets. Each quote sells an asset below that
+    /// number for another one, and the amounts that sell an asset add up to at most `2^62`. `NoMemory`
+    /// is the only error. It takes the list, of which the order is free, sorts it where it stands
+    /// unless it is in order, and goes over it: n log n for n quotes, and n for those in order.
     pub fn build(alloc: Global, assets: u32, quotes: Vec<Quote>) -> Result<Curves, NoMemory>
         requires { AreQuotes assets quotes.items }
         ensures assets { IfOk result (λ curves. curves.assets ≡ assets) }

@@ -89,7 +89,7 @@ impl CurvesBuilder {
         Ok(true)
     }
 
-    /// The curves of all quotes that were taken in, where there are 1 to 32 assets. Each quote sells an asset below that
+    /// The curves of all quotes that were taken in, if there are 1 to 32 assets. Each quote sells an asset below that
     /// number for another one, and the amounts that sell an asset add up to at most `2^62`. It takes no memory.
     pub fn finish(self, assets: u32) -> Curves
         requires { AreQuotes assets self }

@@ -7,13 +7,12 @@ ghost use Rattle.sha2.specs.Sha256.{sha256};
 ghost use Rattle.sx_block.specs.Digest.{IsDigest};
 ghost use Rattle.sx_tx.specs.Transactions.{list_bytes, most_transactions, tx_bytes};
 
-use crate::hashing::digest_of;
 use crate::pieces::{Encoder, TxEncoder};
 use sha2::{Digest as Hasher, Sha256};
 use std::alloc::Global;
 use std::mem::swap;
 use std::thread::Threads;
-use sx_block::Digest;
+use sx_block::{Digest, digest_of};
 use sx_bytes::{NoMemory, Writer};
 use sx_fork::fork_mut;
 use sx_tx::Tx;

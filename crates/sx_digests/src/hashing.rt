@@ -20,14 +20,6 @@ use sx_record::tag;
 use sx_state::{state_length, write_opening};
 use sx_tx::Tx;
 
-/// SHA-256 of these bytes. It takes no memory.
-pub fn digest_of(bytes: &[u8]) -> Digest
-    ensures hash { result ≡ sha256 bytes.now }
-    ensures digest { IsDigest result }
-{
-    Digest::of(Sha256::digest(bytes))
-}
-
 /// SHA-256 of the record of this tag and payload: of the tag, the length of the payload in four bytes,
 /// and the payload. It takes no memory.
 pub fn record_digest(tag: u8, payload: &[u8]) -> Digest

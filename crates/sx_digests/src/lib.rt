@@ -26,6 +26,6 @@ mod pieces;
 mod state_digest;
 
 pub use body_writing::{WrittenBody, par_written_body};
-pub use hashing::{body_digest, digest_of, ledger_digest, record_digest};
+pub use hashing::{body_digest, ledger_digest, record_digest};
 pub use hashing_in_parallel::par_ledger_digest;
 pub use state_digest::{DigestOf, StateDigest};

@@ -27,7 +27,7 @@ impl Model for Bounds {
 }
 
 impl Bounds {
-    /// The bounds of these entries, where there are 1 to 32 assets. Those of the pair that sells `sell`
+    /// The bounds of these entries, if there are 1 to 32 assets. Those of the pair that sells `sell`
     /// and buys `buy` are at place `sell * assets + buy`, the lower one at most the upper one. The
     /// entries of an asset with itself are 0.
     pub fn of(assets: u32, low: Vec<u128>, high: Vec<u128>) -> Bounds

@@ -94,7 +94,7 @@ fn crossing_of(bounds: &Bounds, cut: Cut) -> Crossing
     Crossing { into, out }
 }
 
-/// True exactly where more must go into the set than may go out of it: the lower bounds of the pairs
+/// True exactly if more must go into the set than may go out of it: the lower bounds of the pairs
 /// into it add up to more than the upper bounds of the pairs out of it. There is then no circulation
 /// within the bounds. Bits of assets that are not there do not count. It takes no memory.
 pub fn cuts(bounds: &Bounds, cut: Cut) -> bool

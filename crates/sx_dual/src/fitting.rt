@@ -153,9 +153,9 @@ fn first_slack(bounds: &Bounds, flow: &Flow, potentials: &Potentials) -> Option<
     None
 }
 
-/// Ok exactly where the flow is a circulation within the bounds and each pair keeps the rule on
-/// gains. No circulation within the same bounds then trades more value, whoever found it. Otherwise
-/// the first misfit comes: the first pair out of bounds, else the first asset that does not balance,
+/// Ok exactly if the flow is a circulation within the bounds and each pair keeps the rule on gains.
+/// No circulation within the same bounds then trades more value, whoever found it. Otherwise the
+/// first misfit comes: the first pair out of bounds, else the first asset that does not balance,
 /// else the first pair that breaks the rule. It takes no memory.
 pub fn fits(bounds: &Bounds, flow: &Flow, potentials: &Potentials) -> Result<(), Misfit>
     requires flow { flow.now.assets ≡ bounds.now.assets }

@@ -26,7 +26,7 @@ impl Model for Flow {
 }
 
 impl Flow {
-    /// The flow of these entries, where there are 1 to 32 assets. The value that `sell` trades for
+    /// The flow of these entries, if there are 1 to 32 assets. The value that `sell` trades for
     /// `buy` is at place `sell * assets + buy`, and the entry of an asset with itself is 0.
     pub fn of(assets: u32, values: Vec<u128>) -> Flow
         requires { IsFlow (record { assets = assets; values = values.items }) }

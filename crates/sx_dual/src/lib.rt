@@ -2,8 +2,8 @@
 //!
 //! [`Bounds`] say the least and the greatest value that each ordered pair of assets may trade, a
 //! [`Flow`] says the value that it trades, and [`Potentials`] give each asset a number. [`fits`]
-//! answers Ok exactly where the flow is a circulation within the bounds and keeps the rule on gains;
-//! no circulation within the same bounds then trades more value. Otherwise it answers the first
+//! answers Ok exactly if the flow is a circulation within the bounds and keeps the rule on gains; no
+//! circulation within the same bounds then trades more value. Otherwise it answers the first
 //! [`Misfit`]. A [`Cut`] is a set of assets, and [`cuts`] says whether more must go into it than may
 //! go out; no circulation then exists. Whoever found the flow, the potentials or the cut need not be
 //! trusted. No call takes memory.

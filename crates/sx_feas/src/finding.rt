@@ -84,7 +84,7 @@ fn flow_of(alloc: Global, bounds: &Bounds, net: &Net) -> Result<Flow, NoMemory>
     Ok(Flow::of(assets, values))
 }
 
-/// A circulation within the bounds, or a cut where there is none. `steps` counts its searches, and never
+/// A circulation within the bounds, or a cut if there is none. `steps` counts its searches, and never
 /// falls. It may answer `NoMemory` in place of any other answer.
 pub fn feasible<L: Ledger>(
     alloc: Global,

@@ -1,3 +1,4 @@
 pub mod PairFills
 pub mod AllFills
 pub mod Laws
+pub mod Bounds

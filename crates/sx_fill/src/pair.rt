@@ -38,8 +38,8 @@ fn got_for(traded: u128, buy: Price) -> u64
     }
 }
 
-/// Appends the fills of the offers of one pair, which stand in book order, where the sold asset has
-/// the price `sell`, the bought asset the price `buy`, and the pair trades the value `y`, in units of
+/// Appends the fills of the offers of one pair, which stand in book order, if the sold asset has the
+/// price `sell`, the bought asset the price `buy`, and the pair trades the value `y`, in units of
 /// `2^-24`. There is one fill for each offer that trades a value above 0, by strictly rising place,
 /// and `first` is the place of the first offer. `NoMemory` comes where the list cannot grow, and what
 /// stood in it then still stands before all else.
@@ -76,7 +76,7 @@ pub fn push_fills(
     Ok(())
 }
 
-/// The fills of the offers of one pair, which stand in book order, where the sold asset has the price
+/// The fills of the offers of one pair, which stand in book order, if the sold asset has the price
 /// `sell`, the bought asset the price `buy`, and the pair trades the value `y`, in units of `2^-24`:
 /// one for each offer that trades a value above 0, by strictly rising place, from place 0.
 pub fn fill_pair(

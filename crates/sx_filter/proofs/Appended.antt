@@ -3,9 +3,9 @@ use Rattle.std.proofs.Common.{◌≡◌, ◌<◌, false, List, [], ◌∷◌, �
 use Rattle.std.specs.List.{AllByRecursion}
 use Rattle.std.specs.List.Sorted.{IsSortedBy}
 use Rattle.std.proofs.lemmas.Bool.{le-ltb, ne_eqb}
-use Rattle.sx_kept.proofs.InOrder.{before, before_is, number_of}
-use Rattle.sx_sift.proofs.Sorted.{Ranked, beside, by_number, far, in_numbers, ranked}
-use Rattle.sx_layout.proofs.Totals.{In}
+use Rattle.sx_filter.proofs.InOrder.{before, before_is, number_of}
+use Rattle.sx_filter.proofs.Sorted.{Ranked, beside, by_number, far, in_numbers, ranked}
+use Rattle.sx_outcome.proofs.Totals.{In}
 use Rattle.sx_ledger.specs.Body.{tx_before}
 use Rattle.sx_tx.specs.declared.tx.Tx.{Tx}
 

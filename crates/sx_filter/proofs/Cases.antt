@@ -2,7 +2,7 @@
 use Rattle.std.proofs.Common.{◌≡◌, Ok, Err, refl}
 use Rattle.sx_filter.specs.declared.fault.FilterFault.TheVariants as fault
 use Rattle.sx_filter.specs.Fault.{IsFaultOf, fault_of}
-use Rattle.sx_layout.specs.declared.space.NoRoom.TheVariants as no_room
+use Rattle.sx_outcome.specs.declared.space.NoRoom.TheVariants as no_room
 
 ended : fault_of no_room.Ended ≡ fault.Ended
 ended = refl

@@ -7,21 +7,21 @@ use Rattle.std.proofs.lemmas.Bool.{eqb-true}
 use Rattle.std.proofs.lemmas.Grind.{flat_map-append}
 use Rattle.std.proofs.lemmas.List.{get_or-map, length-map}
 use Rattle.std.proofs.lemmas.List.Elements.{filter-append, filter_map-append}
-use Rattle.sx_kept.specs.Alone.{is_fit, is_new}
-use Rattle.sx_kept.specs.Kept.{kept_of, passes}
+use Rattle.sx_filter.specs.Alone.{is_fit, is_new}
+use Rattle.sx_filter.specs.Kept.{kept_of, passes}
 use Rattle.sx_filter.specs.Joined.{AreSiftedParts, IsJoined}
 use Rattle.sx_filter.specs.Classes.{AreClasses, AreParted}
-use Rattle.sx_ranges.specs.Ranges.{is_at}
-use Rattle.sx_sift.specs.Part.{IsPart}
-use Rattle.sx_sift.specs.Sifted.{AreSifted, IsSifted, TxVec, in_lists}
-use Rattle.sx_sift.specs.declared.sifting.Sifted.{Sifted}
-use Rattle.sx_kept.proofs.Counts.{filter_twice, in_filter}
-use Rattle.sx_kept.proofs.KeptAlone.{alone_is_fit_and_new}
+use Rattle.sx_filter.specs.Ranges.{is_at}
+use Rattle.sx_filter.specs.Part.{IsPart}
+use Rattle.sx_filter.specs.Sifted.{AreSifted, IsSifted, TxVec, in_lists}
+use Rattle.sx_filter.specs.declared.sift.sifting.Sifted.{Sifted}
+use Rattle.sx_filter.proofs.Counts.{filter_twice, in_filter}
+use Rattle.sx_filter.proofs.KeptAlone.{alone_is_fit_and_new}
 use Rattle.sx_filter.proofs.Locals.{each_fit}
-use Rattle.sx_sift.proofs.NamedAgain.{never_created}
-use Rattle.sx_sift.proofs.Picking.{element}
+use Rattle.sx_filter.proofs.NamedAgain.{never_created}
+use Rattle.sx_filter.proofs.Picking.{element}
 use Rattle.sx_filter.proofs.Parted.{among, filter_all, part_kept, parted_whole}
-use Rattle.sx_layout.proofs.Totals.{In}
+use Rattle.sx_outcome.proofs.Totals.{In}
 use Rattle.sx_ledger.specs.declared.parts.Parts.{Parts}
 use Rattle.sx_ledger.specs.Body.{created, created_by}
 use Rattle.sx_tx.specs.declared.tx.Tx.{Tx}

@@ -5,14 +5,14 @@ use Rattle.std.specs.Prelude.{is_ok}
 use Rattle.std.specs.List.{filter}
 use Rattle.std.specs.List.Sorted.{IsPermutation, IsSortedBy}
 use Rattle.std.proofs.lemmas.List.Sorted.{All-permutation, IsPermutation-refl}
-use Rattle.sx_kept.specs.Alone.{is_alone}
-use Rattle.sx_kept.specs.Kept.{kept_of, passes, passing}
-use Rattle.sx_kept.proofs.InOrder.{Once, sorted_is}
-use Rattle.sx_kept.proofs.KeptAlone.{alone, kept_is}
-use Rattle.sx_kept.proofs.KeptLaws.{kept_permuted, once, refused_are_nothing}
-use Rattle.sx_sift.proofs.Picking.{all_pass}
-use Rattle.sx_sift.proofs.Sorted.{by_number, left_sorted}
-use Rattle.sx_layout.specs.Gathering.{in_tx_order}
+use Rattle.sx_filter.specs.Alone.{is_alone}
+use Rattle.sx_filter.specs.Kept.{kept_of, passes, passing}
+use Rattle.sx_filter.proofs.InOrder.{Once, sorted_is}
+use Rattle.sx_filter.proofs.KeptAlone.{alone, kept_is}
+use Rattle.sx_filter.proofs.KeptLaws.{kept_permuted, once, refused_are_nothing}
+use Rattle.sx_filter.proofs.Picking.{all_pass}
+use Rattle.sx_filter.proofs.Sorted.{by_number, left_sorted}
+use Rattle.sx_outcome.specs.Gathering.{in_tx_order}
 use Rattle.sx_ledger.specs.declared.parts.Parts.{Parts}
 use Rattle.sx_ledger.specs.Body.{tx_before}
 use Rattle.sx_ledger.specs.Static.{static_of}

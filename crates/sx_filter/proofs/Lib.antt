@@ -7,3 +7,24 @@ pub mod Locals
 pub mod KeptParts
 pub mod RangesSifted
 pub mod Pairs
+mod KeptCases
+pub mod Counts
+pub mod KeptAlone
+pub mod InOrder
+pub mod KeptLaws
+pub mod Accepting
+pub mod Few
+pub mod WholeBodies
+pub mod Ranks
+pub mod Sorted
+pub mod DebitSums
+pub mod RunSums
+pub mod Holdings
+pub mod NamedAgain
+pub mod Picking
+pub mod PartOrder
+pub mod Joined
+pub mod AdditionLaws
+pub mod Classes
+pub mod Results
+pub mod ByRanges

@@ -7,12 +7,12 @@ use Rattle.std.specs.List.{filter, flat_map}
 use Rattle.std.proofs.lemmas.Bool.{and_parts, cases_lt, eqb-true, false_from_ne_true}
 use Rattle.std.proofs.lemmas.List.Elements.{filter-append}
 use Rattle.std.proofs.lemmas.Option.{same_Some}
-use Rattle.sx_kept.specs.Alone.{is_fit, is_twice}
-use Rattle.sx_kept.specs.Kept.{both, covers, passes, same_number, same_offer}
-use Rattle.sx_kept.proofs.Counts.{count_is, total_append}
-use Rattle.sx_kept.proofs.KeptLaws.{posted_at}
-use Rattle.sx_layout.proofs.BodySums.{debits_total}
-use Rattle.sx_layout.proofs.Totals.{In, total}
+use Rattle.sx_filter.specs.Alone.{is_fit, is_twice}
+use Rattle.sx_filter.specs.Kept.{both, covers, passes, same_number, same_offer}
+use Rattle.sx_filter.proofs.Counts.{count_is, total_append}
+use Rattle.sx_filter.proofs.KeptLaws.{posted_at}
+use Rattle.sx_outcome.proofs.BodySums.{debits_total}
+use Rattle.sx_outcome.proofs.Totals.{In, total}
 use Rattle.sx_ledger.specs.declared.key.Key.{Key}
 use Rattle.sx_ledger.specs.declared.parts.Parts.{Parts}
 use Rattle.sx_ledger.specs.Body.{cancelled_by, holding_of}

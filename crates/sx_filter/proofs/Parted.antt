@@ -10,17 +10,17 @@ use Rattle.std.proofs.lemmas.List.Elements.{filter-append}
 use Rattle.std.proofs.lemmas.List.Sorted.{Contains-permutation, IsPermutation-append, IsPermutation-filter_both}
 use Rattle.std.proofs.lemmas.List.Sorted.{IsPermutation-refl, IsPermutation-sym, IsPermutation-trans}
 use Rattle.std.proofs.lemmas.List.Sums.{count_by-le-length}
-use Rattle.sx_kept.specs.Alone.{is_alone}
-use Rattle.sx_kept.specs.Kept.{kept_of, passes, passing}
+use Rattle.sx_filter.specs.Alone.{is_alone}
+use Rattle.sx_filter.specs.Kept.{kept_of, passes, passing}
 use Rattle.sx_filter.specs.Classes.{AreClasses, AreParted}
-use Rattle.sx_ranges.specs.Ranges.{is_at, range_among}
-use Rattle.sx_sift.specs.Part.{IsPart}
+use Rattle.sx_filter.specs.Ranges.{is_at, range_among}
+use Rattle.sx_filter.specs.Part.{IsPart}
 use Rattle.sx_filter.proofs.Appended.{sorted_append}
-use Rattle.sx_kept.proofs.Counts.{contains_in, count_is, filter_twice, in_contains, in_filter, times}
-use Rattle.sx_kept.proofs.KeptLaws.{kept_permuted}
+use Rattle.sx_filter.proofs.Counts.{contains_in, count_is, filter_twice, in_contains, in_filter, times}
+use Rattle.sx_filter.proofs.KeptLaws.{kept_permuted}
 use Rattle.sx_filter.proofs.KeptSorted.{kept_sorted}
-use Rattle.sx_sift.proofs.PartOrder.{passing_sorted}
-use Rattle.sx_layout.proofs.Totals.{In}
+use Rattle.sx_filter.proofs.PartOrder.{passing_sorted}
+use Rattle.sx_outcome.proofs.Totals.{In}
 use Rattle.sx_ledger.specs.declared.parts.Parts.{Parts}
 use Rattle.sx_tx.specs.declared.tx.Tx.{Tx}
 

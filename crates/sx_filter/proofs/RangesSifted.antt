@@ -5,12 +5,12 @@ use Rattle.sx_filter.specs.Joined.{AreSiftedParts}
 use Rattle.sx_filter.specs.SiftedRanges.{AreSiftedRanges}
 use Rattle.sx_filter.proofs.Parted.{ranges_are}
 use Rattle.sx_ledger.specs.declared.parts.Parts.{Parts}
-use Rattle.sx_ranges.specs.ByRange.{IsPrepared}
-use Rattle.sx_ranges.specs.Ranges.{is_in, range_among}
-use Rattle.sx_ranges.specs.declared.preparing.Prepared.{Prepared}
-use Rattle.sx_ranges.proofs.ByRanges.{pieces_are}
-use Rattle.sx_sift.specs.Sifted.{IsSifted}
-use Rattle.sx_sift.specs.declared.sifting.Sifted.{Sifted}
+use Rattle.sx_filter.specs.ByRange.{IsPrepared}
+use Rattle.sx_filter.specs.Ranges.{is_in, range_among}
+use Rattle.sx_filter.specs.declared.parts.preparing.Prepared.{Prepared}
+use Rattle.sx_filter.proofs.ByRanges.{pieces_are}
+use Rattle.sx_filter.specs.Sifted.{IsSifted}
+use Rattle.sx_filter.specs.declared.sift.sifting.Sifted.{Sifted}
 use Rattle.sx_tx.specs.declared.tx.Tx.{Tx}
 
 -- what was sifted of the ranges

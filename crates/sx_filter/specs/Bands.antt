@@ -1,7 +1,7 @@
 -- Bands of accounts: the pieces of a range.
 use Rattle.std.specs.Prelude.{ℕ, ◌-◌, ◌/◌, ◌^◌, ◌<◌, ◌≤◌, min, List}
 use Rattle.std.specs.List.{filter}
-use Rattle.sx_ranges.specs.Ranges.{is_at}
+use Rattle.sx_filter.specs.Ranges.{is_at}
 use Rattle.sx_filter.specs.declared.bands.Bands.{Bands}
 use Rattle.sx_tx.specs.declared.tx.Tx.{Tx}
 

@@ -2,8 +2,8 @@
 use Rattle.std.specs.Prelude.{ℕ, ◌<◌, List, length, slice_index_or}
 use Rattle.std.specs.List.{filter}
 use Rattle.sx_ledger.specs.declared.parts.Parts.{Parts}
-use Rattle.sx_ranges.specs.Ranges.{is_at}
-use Rattle.sx_sift.specs.Part.{IsPart}
+use Rattle.sx_filter.specs.Ranges.{is_at}
+use Rattle.sx_filter.specs.Part.{IsPart}
 use Rattle.sx_tx.specs.declared.tx.Tx.{Tx}
 
 -- accounts are of so many classes, which rise with the ids

@@ -2,8 +2,8 @@
 use Rattle.std.specs.Prelude.{◌≡◌, Result, Err}
 use Rattle.sx_filter.specs.declared.fault.FilterFault.{FilterFault}
 use Rattle.sx_filter.specs.declared.fault.FilterFault.TheVariants as fault
-use Rattle.sx_layout.specs.declared.space.NoRoom.{NoRoom}
-use Rattle.sx_layout.specs.declared.space.NoRoom.TheVariants as no_room
+use Rattle.sx_outcome.specs.declared.space.NoRoom.{NoRoom}
+use Rattle.sx_outcome.specs.declared.space.NoRoom.TheVariants as no_room
 
 -- the fault that says why there is no room
 abbrev pub fault_of : NoRoom → FilterFault

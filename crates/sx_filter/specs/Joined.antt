@@ -2,10 +2,10 @@
 use Rattle.std.specs.Prelude.{◌≡◌, ℕ, ◌<◌, List, length, slice_index_or}
 use Rattle.std.specs.List.{filter, flat_map}
 use Rattle.sx_filter.specs.Classes.{AreClasses}
-use Rattle.sx_ranges.specs.Ranges.{is_at}
+use Rattle.sx_filter.specs.Ranges.{is_at}
 use Rattle.sx_ledger.specs.declared.parts.Parts.{Parts}
-use Rattle.sx_sift.specs.Sifted.{IsSifted}
-use Rattle.sx_sift.specs.declared.sifting.Sifted.{Sifted}
+use Rattle.sx_filter.specs.Sifted.{IsSifted}
+use Rattle.sx_filter.specs.declared.sift.sifting.Sifted.{Sifted}
 use Rattle.sx_tx.specs.declared.tx.Tx.{Tx}
 
 -- what is found of the candidates in each class of accounts

@@ -4,3 +4,15 @@ pub mod Bands
 pub mod Joined
 pub mod SiftedRanges
 pub mod Indexed
+pub mod Kept
+pub mod Alone
+pub mod KeptLaws
+pub mod Cancellations
+pub mod Named
+pub mod Verdicts
+pub mod Runs
+pub mod Part
+pub mod Sifted
+pub mod Ranges
+pub mod Additions
+pub mod ByRange

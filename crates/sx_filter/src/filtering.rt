@@ -1,12 +1,12 @@
 //! The candidates that a filter keeps.
 
 ghost use Rattle.std.specs.Prelude.{◌≡◌, ◌≤◌, List, length, IfOk, IfErr, OnOk, Ok, Err};
-ghost use Rattle.sx_ranges.specs.ByRange.{IsPrepared};
+ghost use Rattle.sx_filter.specs.ByRange.{IsPrepared};
 ghost use Rattle.sx_filter.specs.Fault.{fault_of as the_fault, IsFaultOf};
-ghost use Rattle.sx_kept.specs.Kept.{kept_of};
+ghost use Rattle.sx_filter.specs.Kept.{kept_of};
 ghost use Rattle.sx_filter.specs.Joined.{AreSiftedParts};
-ghost use Rattle.sx_layout.specs.declared.space.NoRoom.{NoRoom as WhyNoRoom};
-ghost use Rattle.sx_layout.specs.Room.{room_for};
+ghost use Rattle.sx_outcome.specs.declared.space.NoRoom.{NoRoom as WhyNoRoom};
+ghost use Rattle.sx_outcome.specs.Room.{room_for};
 ghost use Rattle.sx_ledger.specs.Body.{IsAdmissible};
 ghost use Rattle.sx_ledger.specs.Ledger.{ids};
 ghost use Rattle.sx_tx.specs.declared.tx.Tx.{Tx as Transaction};
@@ -16,13 +16,13 @@ use crate::fault::FilterFault;
 use crate::indexed::IndexedLedger;
 use crate::keeping::kept_in_parts;
 use crate::parting::sifted_ranges;
+use crate::parts::{Prepared, prepared_of, room_for_parts};
+use crate::sift::Sifted;
 use std::alloc::Global;
 use std::thread::Threads;
 use sx_bytes::NoMemory;
-use sx_layout::{room, room_for_additions};
 use sx_ledger::{Ledger, LedgerIndex};
-use sx_ranges::{Prepared, prepared_of, room_for_parts};
-use sx_sift::Sifted;
+use sx_outcome::{room, room_for_additions};
 use sx_tx::{Tx, TxList, TxParts};
 
 // A copy of candidates, in one part.

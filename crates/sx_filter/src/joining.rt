@@ -3,12 +3,12 @@
 ghost use Rattle.std.specs.Prelude.{◌≡◌, ℕ, ◌<◌, IfOk, slice_index_or, vec_len};
 ghost use Rattle.sx_filter.specs.Joined.{IsJoined};
 ghost use Rattle.sx_ledger.specs.Ledger.{ids as accounts_of};
-ghost use Rattle.sx_sift.specs.Sifted.{IsSifted, TxVec};
+ghost use Rattle.sx_filter.specs.Sifted.{IsSifted, TxVec};
 
+use crate::sift::{Ids, Sifted, sift};
 use std::alloc::Global;
 use sx_bytes::NoMemory;
 use sx_ledger::{Ledger, LedgerIndex};
-use sx_sift::{Ids, Sifted, sift};
 use sx_tx::Tx;
 
 // Sifts the candidates of each list.

@@ -5,20 +5,20 @@
 
 ghost use Rattle.std.specs.Prelude.{◌≡◌, ◌≤◌, List, IfOk};
 ghost use Rattle.std.specs.List.{filter as those};
-ghost use Rattle.sx_kept.specs.Alone.{is_new};
-ghost use Rattle.sx_kept.specs.Kept.{kept_of};
-ghost use Rattle.sx_sift.specs.Named.{AreIds};
+ghost use Rattle.sx_filter.specs.Alone.{is_new};
+ghost use Rattle.sx_filter.specs.Kept.{kept_of};
+ghost use Rattle.sx_filter.specs.Named.{AreIds};
 ghost use Rattle.sx_filter.specs.Joined.{AreSiftedParts};
-ghost use Rattle.sx_sift.specs.Sifted.{in_lists};
+ghost use Rattle.sx_filter.specs.Sifted.{in_lists};
 ghost use Rattle.sx_ledger.specs.declared.parts.Parts.{Parts as Ledgers};
 ghost use Rattle.sx_tx.specs.declared.tx.Tx.{Tx as Transaction};
 
 use crate::joining::joined;
+use crate::sift::{Seen, Sifted, is_id_taken};
 use std::alloc::Global;
 use std::thread::Threads;
 use sx_bytes::NoMemory;
 use sx_fork::for_each_mut;
-use sx_sift::{Seen, Sifted, is_id_taken};
 use sx_tx::{Tx, TxList, TxParts};
 
 // Leaves those that create no account that another candidate creates, in their order. Those before the first that goes

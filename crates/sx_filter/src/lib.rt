@@ -1,7 +1,7 @@
 //! Candidates chosen without any race.
 //!
 //! [`filter`] answers which of many candidates a block may hold together, where of two that exclude each other neither is
-//! taken. Which these are, `specs/Kept` of `sx_kept` says over plain lists, and the answer is exactly that: a function of
+//! taken. Which these are, `specs/Kept` says over plain lists, and the answer is exactly that: a function of
 //! the ledger and the candidates. So it is the same for every number of workers.
 //!
 //! ```text
@@ -19,10 +19,10 @@
 //! parts too: one list, in the parts that threads found.
 //!
 //! Cost: each candidate is copied once into the list of its range of accounts, by a thread that goes over its part
-//! (`sx_ranges`). Where there is no room for what they would add, nothing more is done.
+//! (`parts`). Where there is no room for what they would add, nothing more is done.
 //!
 //! Then a thread sees to each range. It puts the candidates into lists by bands of accounts, each so short that the cache
-//! of a processor holds it, and sifts one band after the other (`sx_sift`).
+//! of a processor holds it, and sifts one band after the other (`sift`).
 //!
 //! Candidates of two bands share nothing but the accounts that they create. The ids of these are sorted, and where
 //! there are any, as many threads as there are ranges go over what is left.
@@ -31,7 +31,28 @@
 //! of yes or no for each that passes, of one band at a time in each thread. As soon as all candidates are copied, those
 //! that they were copied from go. `filter` takes memory for a copy of its candidates too, and for one list of what is kept.
 //!
-//! Not here: what is kept, and its laws (`sx_kept`). Nothing says that workers run at the same time.
+//! What is kept is a candidate that the ledger passes by itself if, among all candidates that pass, no other has its account
+//! and number, no other cancels its offer, no other creates its account, and the account holds of each asset at least as
+//! much as its candidates together debit. The last test takes in those of the account's candidates that fall out for
+//! another reason:
+//!
+//! ```text
+//!     account 1 holds 100        pays 60, number 1     falls out: 120 is more than 100
+//!                                pays 60, number 2     falls out
+//!     account 2 holds 5          pays 5, number 1      kept
+//!                                creates 9, number 2   falls out
+//!     account 3 holds 0          creates 9, number 1   falls out
+//! ```
+//!
+//! [`kept_laws`] says that the order of the candidates is of no account, that what is kept is the body of a block by the
+//! rule of version 1, and that a gathering of what is kept accepts all of it.
+//!
+//! Not here: what is kept is not the most that could be kept, since of two that exclude each other neither is. Nothing
+//! says that workers run at the same time.
+//!
+//! Source: to choose a block's transactions without any order among them is from Ramseyer, Goel and Mazières,
+//! "SPEEDEX: A Scalable, Parallelizable, and Economically Efficient Decentralized EXchange" (NSDI 2023). The
+//! tests and their bounds are this project's own.
 #![tactic(auto)]
 
 mod bands;
@@ -40,8 +61,12 @@ mod filtering;
 mod indexed;
 mod joining;
 mod keeping;
+mod keeping_laws;
 mod parting;
+mod parts;
+mod sift;
 
 pub use fault::FilterFault;
 pub use filtering::{filter, filter_list};
 pub use indexed::{IndexOf, IndexedLedger};
+pub use keeping_laws::kept_laws;

@@ -3,19 +3,19 @@
 ghost use Rattle.std.specs.Prelude.{◌≡◌, ℕ, ◌<◌, ◌++◌, IfOk, OnOk, length, slice_index_or, vec_len};
 ghost use Rattle.sx_filter.specs.Bands.{AreBands, in_band};
 ghost use Rattle.sx_filter.specs.SiftedRanges.{AreSiftedRanges};
-ghost use Rattle.sx_ranges.specs.ByRange.{piece, pieces};
-ghost use Rattle.sx_sift.specs.Sifted.{IsSifted, TxVec};
+ghost use Rattle.sx_filter.specs.ByRange.{piece, pieces};
+ghost use Rattle.sx_filter.specs.Sifted.{IsSifted, TxVec};
 ghost use Rattle.sx_ledger.specs.Ledger.{ids};
 
 use crate::bands::{Bands, bands_of};
 use crate::joining::{each_sifted, joined};
+use crate::parts::{ByRange, empty_lists, put};
+use crate::sift::Sifted;
 use std::alloc::Global;
 use std::thread::Threads;
 use sx_bytes::{NoMemory, all_of};
 use sx_fork::map_indices;
 use sx_ledger::{Ledger, LedgerIndex};
-use sx_ranges::{ByRange, empty_lists, put};
-use sx_sift::Sifted;
 use sx_tx::Tx;
 
 // The candidates of a part that are in a range.

@@ -2,10 +2,10 @@
 use Rattle.std.proofs.Common.{◌≡◌, ◌≢◌, ℕ, zero, suc, ◌+◌, List, [], ◌∷◌, refl, sym, ap, ◌∙◌, arith}
 use Rattle.sx_block.specs.declared.header.Block.{Block}
 use Rattle.sx_block.specs.Validity.{IsValid, ledger_after}
-use Rattle.sx_follow.specs.Chain.{AreValid, IsNext, ledger_after_all}
+use Rattle.sx_block.specs.Chain.{AreValid, IsNext, ledger_after_all}
 use Rattle.sx_follow.specs.Follower.{Advances, Followed}
-use Rattle.sx_follow.specs.Laws.{IsPart, OneOfEachParent}
-use Rattle.sx_follow.proofs.Chains.{one_next}
+use Rattle.sx_block.specs.ChainLaws.{IsPart, OneOfEachParent}
+use Rattle.sx_block.proofs.Chains.{one_next}
 use Rattle.sx_ledger.specs.declared.parts.Parts.{Parts}
 
 -- ---- blocks that are valid in turn

@@ -1,14 +1,14 @@
 -- Blocks that are chosen by the digests that they name, where they are valid.
 use Rattle.std.proofs.Common.{◌≡◌, ℕ, ◌+◌, List, get_or, sym, subst}
-use Rattle.sx_waiting.specs.Chosen.{IsChosen}
-use Rattle.sx_waiting.proofs.Chosen.{chosen_block}
+use Rattle.sx_follow.specs.Chosen.{IsChosen}
+use Rattle.sx_follow.proofs.Chosen.{chosen_block}
 use Rattle.sx_block.specs.declared.header.Block.{Block}
 use Rattle.sx_block.specs.Rule as rule
 use Rattle.sx_block.specs.Validity.{IsValid, digest_of_ledger}
-use Rattle.sx_follow.specs.Chain.{IsNext}
-use Rattle.sx_step.specs.declared.leaving.Leaving.{Leaving}
+use Rattle.sx_block.specs.Chain.{IsNext}
+use Rattle.sx_follow.specs.declared.leaving.Leaving.{Leaving}
 use Rattle.sx_follow.specs.Follower.{NextLeaves}
-use Rattle.sx_step.specs.Leaves.{Leaves}
+use Rattle.sx_follow.specs.Leaves.{Leaves}
 use Rattle.sx_ledger.specs.declared.parts.Parts.{Parts}
 
 -- a chosen block is next, where it is valid

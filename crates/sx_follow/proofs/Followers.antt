@@ -7,14 +7,15 @@ use Rattle.std.proofs.lemmas.List.Elements.{All-append, All-cons, All-nil}
 use Rattle.sx_block.specs.declared.header.Block.{Block}
 use Rattle.sx_block.specs.Block.{IsBlock}
 use Rattle.sx_block.specs.Validity.{IsValid, digest_of_ledger, ledger_after}
-use Rattle.sx_check.specs.Laws.{EveryBlockIsJudged, ValidIsNotRefused}
-use Rattle.sx_follow.specs.Chain.{IsChain, IsNext, NoneIsValid, ledger_after_all}
-use Rattle.sx_laws.specs.EffectLaws.{BlockKeepsLedger}
-use Rattle.sx_step.specs.declared.leaving.Leaving.{Leaving}
+use Rattle.sx_block.specs.RefusalLaws.{EveryBlockIsJudged, ValidIsNotRefused}
+use Rattle.sx_block.specs.Chain.{IsChain, IsNext, NoneIsValid, ledger_after_all}
+use Rattle.sx_block.specs.EffectLaws.{BlockKeepsLedger}
+use Rattle.sx_follow.specs.declared.leaving.Leaving.{Leaving}
 use Rattle.sx_follow.specs.Follower.{Followed, HasWholeChain, IsFollower, NextLeaves, most_blocks}
-use Rattle.sx_follow.specs.Laws.{FollowersAgree, FollowersReplay, IsPrefix, OneOfEachParent}
-use Rattle.sx_follow.proofs.Chains.{chain_grows, one_chain, part_goes_as_far}
-use Rattle.sx_follow.proofs.Existence.{every_list_has_chain, valid_are_chain}
+use Rattle.sx_block.specs.ChainLaws.{IsPrefix, OneOfEachParent}
+use Rattle.sx_follow.specs.FollowerLaws.{FollowersAgree, FollowersReplay}
+use Rattle.sx_block.proofs.Chains.{chain_grows, one_chain, part_goes_as_far}
+use Rattle.sx_block.proofs.Existence.{every_list_has_chain, valid_are_chain}
 use Rattle.sx_follow.proofs.Steps.{at_end, chain_few, steps_on}
 use Rattle.sx_ledger.specs.declared.parts.Parts.{Parts}
 use Rattle.sx_ledger.specs.Ledger.{IsLedger}

@@ -4,16 +4,16 @@ use Rattle.std.proofs.Common.{arith, drop-cons}
 use Rattle.sx_block.specs.declared.header.Block.{Block}
 use Rattle.sx_block.specs.Rule as rule
 use Rattle.sx_block.specs.Validity.{IsValid, digest_of_ledger, ledger_after}
-use Rattle.sx_follow.specs.Chain.{IsNext}
+use Rattle.sx_block.specs.Chain.{IsNext}
 use Rattle.sx_follow.specs.Follower.{IsFollower}
 use Rattle.sx_follow.specs.InTurn.{LeadsTo}
 use Rattle.sx_follow.proofs.ChosenNext.{chosen_next}
 use Rattle.sx_follow.proofs.Followers.{advanced}
 use Rattle.sx_ledger.specs.declared.parts.Parts.{Parts}
-use Rattle.sx_step.specs.declared.leaving.Leaving.{Leaving}
-use Rattle.sx_step.specs.Leaves.{Leaves}
-use Rattle.sx_waiting.specs.Chosen.{AreChosen, IsChosen}
-use Rattle.sx_waiting.proofs.Chosen.{chosen_block}
+use Rattle.sx_follow.specs.declared.leaving.Leaving.{Leaving}
+use Rattle.sx_follow.specs.Leaves.{Leaves}
+use Rattle.sx_follow.specs.Chosen.{AreChosen, IsChosen}
+use Rattle.sx_follow.proofs.Chosen.{chosen_block}
 
 -- what is left after so many of the chosen blocks, and those that are left are chosen from there on
 pub record IsUpTo (head : Parts) (blocks : List Block) (count : ℕ) (left : Leaving) (rest : List ℕ) : Type 0 where

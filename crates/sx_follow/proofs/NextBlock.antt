@@ -3,10 +3,10 @@ use Rattle.std.proofs.Common.{◌≡◌, ℕ, ◌+◌, ◌<◌, List, length, ge
 use Rattle.sx_block.specs.declared.header.Block.{Block}
 use Rattle.sx_block.specs.Rule as rule
 use Rattle.sx_block.specs.Validity.{IsValid}
-use Rattle.sx_follow.specs.Chain.{IsNext, NoneIsValid}
-use Rattle.sx_waiting.specs.Waiting.{places_of}
-use Rattle.sx_waiting.proofs.HeightPlaces.{height_stands, places_within, stands_before}
-use Rattle.sx_waiting.proofs.Places.{StandsIn}
+use Rattle.sx_block.specs.Chain.{IsNext, NoneIsValid}
+use Rattle.sx_follow.specs.Waiting.{places_of}
+use Rattle.sx_follow.proofs.HeightPlaces.{height_stands, places_within, stands_before}
+use Rattle.sx_follow.proofs.Places.{StandsIn}
 use Rattle.sx_ledger.specs.declared.parts.Parts.{Parts}
 
 -- the blocks at the first so many places are not valid

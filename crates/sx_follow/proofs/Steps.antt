@@ -6,8 +6,8 @@ use Rattle.std.proofs.lemmas.Bool.{cases_lt, cond-false, cond-true, lt-ltb, le-l
 use Rattle.sx_block.specs.declared.header.Block.{Block}
 use Rattle.sx_block.specs.Rule as rule
 use Rattle.sx_block.specs.Validity.{ledger_after}
-use Rattle.sx_follow.specs.Chain.{IsChain, IsNext, NoneIsValid, ledger_after_all}
-use Rattle.sx_follow.proofs.Chains.{not_none, one_next}
+use Rattle.sx_block.specs.Chain.{IsChain, IsNext, NoneIsValid, ledger_after_all}
+use Rattle.sx_block.proofs.Chains.{not_none, one_next}
 use Rattle.sx_ledger.specs.declared.parts.Parts.{Parts}
 
 -- ---- the ledger after some blocks of a chain

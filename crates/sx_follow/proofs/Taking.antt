@@ -5,13 +5,13 @@ use Rattle.std.proofs.lemmas.List.Elements.{All-tail}
 use Rattle.sha2.specs.Sha256.{sha256}
 use Rattle.sx_block.specs.declared.header.Block.{Block}
 use Rattle.sx_block.specs.Validity.{digest_of_ledger, ledger_after}
-use Rattle.sx_ahead.specs.Ahead.{AreAhead, IsAhead, IsRight}
-use Rattle.sx_follow.specs.Chain.{IsNext}
-use Rattle.sx_ahead.specs.declared.batch.Claim.{Claim}
+use Rattle.sx_follow.specs.Ahead.{AreAhead, IsAhead, IsRight}
+use Rattle.sx_block.specs.Chain.{IsNext}
+use Rattle.sx_follow.specs.declared.ahead.batch.Claim.{Claim}
 use Rattle.sx_follow.specs.Follower.{IsFollower}
 use Rattle.sx_follow.proofs.ChosenNext.{chosen_next}
 use Rattle.sx_follow.proofs.Followers.{advanced}
-use Rattle.sx_laws.specs.ValidityLaws.{ApplicableIsSound, SoundIsValid}
+use Rattle.sx_block.specs.ValidityLaws.{ApplicableIsSound, SoundIsValid}
 use Rattle.sx_ledger.specs.declared.parts.Parts.{Parts}
 use Rattle.sx_record.specs.Frame.{record_bytes}
 

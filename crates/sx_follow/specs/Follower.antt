@@ -4,8 +4,8 @@ use Rattle.std.specs.List.{All}
 use Rattle.sx_block.specs.declared.header.Block.{Block}
 use Rattle.sx_block.specs.Block.{IsBlock}
 use Rattle.sx_block.specs.Validity.{digest_of_ledger, ledger_after}
-use Rattle.sx_step.specs.declared.leaving.Leaving.{Leaving}
-use Rattle.sx_follow.specs.Chain.{IsChain, IsNext, ledger_after_all}
+use Rattle.sx_follow.specs.declared.leaving.Leaving.{Leaving}
+use Rattle.sx_block.specs.Chain.{IsChain, IsNext, ledger_after_all}
 use Rattle.sx_ledger.specs.declared.parts.Parts.{Parts}
 use Rattle.sx_ledger.specs.Ledger.{IsLedger}
 

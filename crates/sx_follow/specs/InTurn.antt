@@ -4,7 +4,7 @@ use Rattle.sx_block.specs.declared.header.Block.{Block}
 use Rattle.sx_block.specs.Validity.{digest_of_ledger}
 use Rattle.sx_follow.specs.Follower.{IsFollower}
 use Rattle.sx_ledger.specs.declared.parts.Parts.{Parts}
-use Rattle.sx_step.specs.declared.leaving.Leaving.{Leaving}
+use Rattle.sx_follow.specs.declared.leaving.Leaving.{Leaving}
 
 -- a follower with this head has what is left as its head after so many steps more, whatever it began with
 pub record LeadsTo (head : Parts) (blocks : List Block) (count : ℕ) (left : Leaving) : Type 0 where

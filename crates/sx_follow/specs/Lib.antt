@@ -1,4 +1,8 @@
-pub mod Chain
 pub mod Follower
-pub mod Laws
 pub mod InTurn
+pub mod Waiting
+pub mod Chosen
+pub mod Leaves
+pub mod Ahead
+pub mod Bodies
+pub mod FollowerLaws

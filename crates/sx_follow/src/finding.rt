@@ -4,16 +4,16 @@ ghost use Rattle.std.specs.Prelude.{◌≡◌, ◌+◌, IfNone, IfOk, IfSome};
 ghost use Rattle.std.specs.List.{All};
 ghost use Rattle.sx_block.specs.Block.{IsBlock};
 ghost use Rattle.sx_block.specs.Validity.{digest_of_ledger};
-ghost use Rattle.sx_follow.specs.Chain.{NoneIsValid};
+ghost use Rattle.sx_block.specs.Chain.{NoneIsValid};
 ghost use Rattle.sx_follow.specs.Follower.{NextLeaves};
-ghost use Rattle.sx_waiting.specs.Waiting.{places_of};
+ghost use Rattle.sx_follow.specs.Waiting.{places_of};
 
+use crate::leaving::{Leaving, step};
+use crate::spare::Spare;
 use std::alloc::Global;
 use sx_block::{Block, Digest};
 use sx_bytes::NoMemory;
 use sx_ledger::Ledger;
-use sx_spare::Spare;
-use sx_step::{Leaving, step};
 
 // What the first block that is valid for the head leaves, if there is one. Only those of the next height can be, and
 // these are their places.

@@ -3,26 +3,25 @@
 ghost use Rattle.std.specs.Prelude.{◌≡◌, ◌+◌, ◌++◌, ◌∷◌, [], ◌<◌, ◌≤◌, true, false, length, IfOk, IfNone, IfSome, OnErr, OnOk};
 ghost use Rattle.sx_block.specs.Block.{IsBlock};
 ghost use Rattle.sx_block.specs.Validity.{digest_of_ledger};
-ghost use Rattle.sx_follow.specs.Chain.{NoneIsValid};
+ghost use Rattle.sx_block.specs.Chain.{NoneIsValid};
 ghost use Rattle.sx_follow.specs.Follower.{Advances, HasWholeChain, IsFollower, NextLeaves, begun, most_blocks};
 ghost use Rattle.sx_follow.specs.InTurn.{LeadsTo};
-ghost use Rattle.sx_waiting.specs.Chosen.{AreChosen};
+ghost use Rattle.sx_follow.specs.Chosen.{AreChosen};
 
 mod running;
 
+use crate::choosing::choose;
 use crate::finding::find;
 use crate::in_turn::apply_in_turn;
+use crate::leaving::Leaving;
+use crate::spare::Spare;
+use crate::waiting::Waiting;
 use std::alloc::Global;
 use std::marker::Model;
 use std::mem;
-use sx_block::{Block, Digest};
+use sx_block::{Block, Digest, block_effect_laws, check_laws};
 use sx_bytes::NoMemory;
-use sx_check::check_laws;
-use sx_laws::block_effect_laws;
 use sx_ledger::Ledger;
-use sx_spare::Spare;
-use sx_step::Leaving;
-use sx_waiting::{Waiting, choose};
 
 // How many blocks change one copy of the head at most.
 const MOST_IN_TURN: u32 = 32;
@@ -44,7 +43,7 @@ impl Model for Follower {
     ghost use Rattle.std.specs.Prelude.{◌≡◌};
     ghost use Rattle.sx_block.specs.Validity.{digest_of_ledger};
     ghost use Rattle.sx_follow.specs.Follower.{Followed, IsFollower};
-    ghost use Rattle.sx_waiting.specs.Waiting.{AreWaiting};
+    ghost use Rattle.sx_follow.specs.Waiting.{AreWaiting};
 
     ghost Value = { Followed };
 

@@ -5,14 +5,14 @@ ghost use Rattle.std.specs.List.{All};
 ghost use Rattle.sx_block.specs.Block.{IsBlock};
 ghost use Rattle.sx_block.specs.Validity.{digest_of_ledger};
 ghost use Rattle.sx_follow.specs.InTurn.{LeadsTo};
-ghost use Rattle.sx_waiting.specs.Chosen.{AreChosen};
+ghost use Rattle.sx_follow.specs.Chosen.{AreChosen};
 
+use crate::leaving::{Leaving, step_in_place};
+use crate::spare::Spare;
 use std::alloc::Global;
 use sx_block::{Block, Digest};
 use sx_bytes::NoMemory;
 use sx_ledger::Ledger;
-use sx_spare::Spare;
-use sx_step::{Leaving, step_in_place};
 
 // What the blocks at these places leave, each of which is applied to what the one before it leaves. Where one of them is
 // refused, it is how many stand before it. All change one copy of the head, which is spare where one is refused.

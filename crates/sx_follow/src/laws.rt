@@ -2,19 +2,11 @@
 
 ghost use Rattle.std.specs.Prelude.{◌≡◌};
 ghost use Rattle.sx_follow.specs.Follower.{most_blocks};
-ghost use Rattle.sx_follow.specs.Laws.{
-  ChainGrows,
-  EveryListHasChain,
-  FollowersAgree,
-  FollowersReplay,
-  OneChain,
-  PartGoesAsFar,
-  ValidAreChain,
-};
+ghost use Rattle.sx_block.specs.ChainLaws.{ChainGrows, EveryListHasChain, OneChain, PartGoesAsFar, ValidAreChain};
+ghost use Rattle.sx_follow.specs.FollowerLaws.{FollowersAgree, FollowersReplay};
 
 use crate::follower::Follower;
-use sx_check::check_laws;
-use sx_laws::block_effect_laws;
+use sx_block::{block_effect_laws, check_laws};
 
 /// Each list of blocks has one chain from a ledger on. Blocks that come behind leave it as it was up to its
 /// end. Where no two different blocks have one parent, the chain of a part of them is the beginning of the

@@ -14,7 +14,7 @@
 //! ```
 //!
 //! A block that comes too early waits; one that was refused is looked at again where the head has its parent. So the
-//! head is what the first blocks of the chain leave, by `IsChain` in `specs/Chain`: the first block of the list that is
+//! head is what the first blocks of the chain leave, by `IsChain` of `sx_block`: the first block of the list that is
 //! valid for the opening ledger, then the first that is valid for what this leaves, and so on.
 //! [`follow_laws`] says that there is one such chain, that blocks that come later only make it longer, that
 //! followers of the same blocks agree where no two different ones have one parent, and that blocks in their order
@@ -23,15 +23,15 @@
 //! Cost: the places of all blocks stand in a map by height, and only those of the next height can be valid. An
 //! advance compares the parent of each of these with the head's digest, and judges those that have it, in their
 //! order, up to the first that is valid. So where advances come after all blocks were taken, each block is compared
-//! for one head alone, whatever the order in which they came (`sx_waiting`). A block that is judged to its end is
-//! applied to a copy of the ledger (`sx_step`), which is written over the one of the block before, and takes no fresh
+//! for one head alone, whatever the order in which they came (`waiting`). A block that is judged to its end is
+//! applied to a copy of the ledger (`leaving`), which is written over the one of the block before, and takes no fresh
 //! memory where it is as long.
 //!
 //! [`Follower::advance_all`] applies up to 32 blocks that go on from the head by the digests that they name to one copy of
 //! it, one after the other. Where one of them is refused, those before it are applied once more, to another copy.
 //!
 //! [`Follower::par_advance_all`] applies blocks ahead, up to 32 on one thread, before it is known whether the ledgers
-//! before them have the digests that they name, while other threads hash what earlier ones left (`sx_ahead`). Where all
+//! before them have the digests that they name, while other threads hash what earlier ones left (`ahead`). Where all
 //! digests are the named ones, these blocks are steps of the follower, and the ledger that the last of them left is the
 //! head. It ends where [`Follower::advance_all`] does.
 //!
@@ -45,10 +45,17 @@
 //! parent the one that came first counts, and nothing says which of them others take.
 #![tactic(auto)]
 
+mod ahead;
+mod choosing;
 mod finding;
 mod follower;
 mod in_turn;
 mod laws;
+mod leaving;
+mod refilling;
+mod spare;
+mod spreading;
+mod waiting;
 
 pub use follower::Follower;
 pub use laws::follow_laws;

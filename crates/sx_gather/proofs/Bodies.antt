@@ -3,11 +3,11 @@ use Rattle.std.proofs.Common.{◌≡◌, Bool, true, cond, ◌&&◌, List, [], �
 use Rattle.std.proofs.Common.{map, Some, None, refl, sym, ap, subst, ◌∙◌, append-nil}
 use Rattle.std.specs.List.Sorted.{IsPermutation, IsSortedBy}
 use Rattle.std.proofs.lemmas.List.Sorted.{IsPermutation-sym, IsPermutation-trans, sorted_far}
-use Rattle.sx_postings.proofs.SameOrder.{one_list, put_all_moves}
+use Rattle.sx_tally.proofs.SameOrder.{one_list, put_all_moves}
 use Rattle.sx_bytes.specs.Grammar.{in_order}
-use Rattle.sx_layout.specs.Gathering.{Decision, accepted, body_of, in_tx_order, put_tx}
-use Rattle.sx_layout.proofs.TxOrder.{before, before_is, before_through, is_before, key, not_itself, same, same_is}
-use Rattle.sx_layout.proofs.TxOrder.{same_self, tx_order}
+use Rattle.sx_outcome.specs.Gathering.{Decision, accepted, body_of, in_tx_order, put_tx}
+use Rattle.sx_outcome.proofs.TxOrder.{before, before_is, before_through, is_before, key, not_itself, same, same_is}
+use Rattle.sx_outcome.proofs.TxOrder.{same_self, tx_order}
 use Rattle.sx_ledger.proofs.Insertion.{put, put_all}
 use Rattle.sx_ledger.specs.Body.{tx_before}
 use Rattle.sx_tx.specs.declared.tx.Tx.{Tx}

@@ -6,8 +6,8 @@ use Rattle.sx_event.specs.declared.marks.Note.{Note}
 use Rattle.sx_event.specs.declared.marks.Note.TheVariants.{Low, Set}
 use Rattle.sx_event.specs.View.{View, opened, spent}
 use Rattle.sx_layout.specs.declared.asked.Wanted.TheVariants as wanted
-use Rattle.sx_layout.specs.declared.outcome.Outcome.TheVariants as outcome
-use Rattle.sx_layout.specs.declared.space.NoRoom.TheVariants as no_room
+use Rattle.sx_outcome.specs.declared.outcome.Outcome.TheVariants as outcome
+use Rattle.sx_outcome.specs.declared.space.NoRoom.TheVariants as no_room
 use Rattle.sx_layout.specs.declared.spot.Spot.{Spot}
 use Rattle.sx_layout.specs.Plan.{Plan}
 use Rattle.sx_ledger.specs.declared.parts.Parts.{Parts}

@@ -5,8 +5,8 @@ use Rattle.std.specs.Prelude.{slice_get, if◌then◌else◌}
 use Rattle.std.proofs.lemmas.Bool.{cases_Bool}
 use Rattle.std.proofs.lemmas.List.{drop-drop, drop_more, length-drop, length-take, take_more}
 use Rattle.std.proofs.lemmas.Option.{get_or_from_slice_get, slice_get_within}
-use Rattle.sx_layout.specs.declared.outcome.Outcome.{Outcome}
-use Rattle.sx_layout.specs.Gathering.{Decision, accepted, decisions, is_accepted}
+use Rattle.sx_outcome.specs.declared.outcome.Outcome.{Outcome}
+use Rattle.sx_outcome.specs.Gathering.{Decision, accepted, decisions, is_accepted}
 use Rattle.sx_tx.specs.declared.tx.Tx.{Tx}
 
 pub decided_none : (txs : List Tx) → decisions txs [] ≡ []

@@ -7,12 +7,12 @@ use Rattle.std.proofs.lemmas.List.Elements.{All-append, All-nil, All-weaker, Con
 use Rattle.std.proofs.lemmas.List.Elements.{Contains-append_right}
 use Rattle.sx_event.specs.declared.marks.Claim.{Claim}
 use Rattle.sx_event.specs.View.{View, opened}
-use Rattle.sx_layout.specs.declared.outcome.Outcome.{Outcome}
-use Rattle.sx_layout.specs.Gathering.{Decision}
+use Rattle.sx_outcome.specs.declared.outcome.Outcome.{Outcome}
+use Rattle.sx_outcome.specs.Gathering.{Decision}
 use Rattle.sx_layout.specs.Marks.{marks}
 use Rattle.sx_layout.specs.Plan.{plan_of}
 use Rattle.sx_layout.specs.PlanLaws.{IsLaidOut}
-use Rattle.sx_layout.specs.Room.{room_for}
+use Rattle.sx_outcome.specs.Room.{room_for}
 use Rattle.sx_layout.specs.Setting.{Setting}
 use Rattle.sx_layout.proofs.MarksLaws.{marks_join}
 use Rattle.sx_ledger.specs.declared.parts.Parts.{Parts}

@@ -4,8 +4,8 @@ use Rattle.std.proofs.Common.{drop, set, take, Some, sym, ap, ◌∙◌, refl, a
 use Rattle.std.specs.Prelude.{slice_get, if◌then◌else◌}
 use Rattle.std.proofs.lemmas.List.{append-nil, drop-drop, drop-set-lt, drop_more, length-set, take_more_set}
 use Rattle.std.proofs.lemmas.Option.{slice_get_read}
-use Rattle.sx_layout.specs.declared.outcome.Outcome.{Outcome}
-use Rattle.sx_layout.specs.Gathering.{accepted, decisions, is_accepted}
+use Rattle.sx_outcome.specs.declared.outcome.Outcome.{Outcome}
+use Rattle.sx_outcome.specs.Gathering.{accepted, decisions, is_accepted}
 use Rattle.sx_tx.specs.declared.tx.Tx.{Tx}
 use Rattle.sx_gather.proofs.Decided.{accepted_more}
 use Rattle.sx_gather.proofs.Seats.{entry}

@@ -14,10 +14,10 @@ use Rattle.sx_event.specs.Rule.{BitsAddUp, LowFits, PursesAddUp, SetFits, debits
 use Rattle.sx_event.specs.View.{View}
 use Rattle.sx_layout.specs.declared.asked.Wanted.{Wanted}
 use Rattle.sx_layout.specs.declared.asked.Wanted.TheVariants as wanted
-use Rattle.sx_layout.specs.declared.outcome.Outcome.{Outcome}
-use Rattle.sx_layout.specs.declared.outcome.Outcome.TheVariants as outcome
+use Rattle.sx_outcome.specs.declared.outcome.Outcome.{Outcome}
+use Rattle.sx_outcome.specs.declared.outcome.Outcome.TheVariants as outcome
 use Rattle.sx_layout.specs.Asked.{number_spot, wanted_of}
-use Rattle.sx_layout.specs.Gathering.{Decision, IsGathered, accepted, decisions}
+use Rattle.sx_outcome.specs.Gathering.{Decision, IsGathered, accepted, decisions}
 use Rattle.sx_layout.specs.Marks.{Closes, IsClosing, IsGone, IsMissed, marks}
 use Rattle.sx_layout.specs.Plan.{Plan, plan_of, words_of}
 use Rattle.sx_layout.proofs.ClosingLaw.{closing_gathers}

@@ -4,8 +4,8 @@ use Rattle.std.specs.Prelude.{Result, Option, IfErr, IfSome, OnErr, OnOk, slice_
 use Rattle.sx_event.specs.declared.marks.Claim.TheVariants.{Debit}
 use Rattle.sx_event.specs.declared.marks.Note.TheVariants.{Low, Set}
 use Rattle.sx_layout.specs.declared.asked.Wanted.TheVariants as wanted
-use Rattle.sx_layout.specs.declared.outcome.Outcome.{Outcome}
-use Rattle.sx_layout.specs.declared.outcome.Outcome.TheVariants as outcome
+use Rattle.sx_outcome.specs.declared.outcome.Outcome.{Outcome}
+use Rattle.sx_outcome.specs.declared.outcome.Outcome.TheVariants as outcome
 use Rattle.sx_layout.specs.declared.spot.Spot.{Spot}
 use Rattle.sx_layout.specs.Asked.{number_spot, wanted_of}
 use Rattle.sx_layout.specs.Deciding.{too_late}

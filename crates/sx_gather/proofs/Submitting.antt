@@ -11,11 +11,11 @@ use Rattle.sx_event.specs.declared.marks.Note.TheVariants.{Low, Set}
 use Rattle.sx_event.specs.View.{View}
 use Rattle.sx_layout.specs.declared.asked.Wanted.{Wanted}
 use Rattle.sx_layout.specs.declared.asked.Wanted.TheVariants as wanted
-use Rattle.sx_layout.specs.declared.outcome.Outcome.{Outcome}
-use Rattle.sx_layout.specs.declared.outcome.Outcome.TheVariants as outcome
+use Rattle.sx_outcome.specs.declared.outcome.Outcome.{Outcome}
+use Rattle.sx_outcome.specs.declared.outcome.Outcome.TheVariants as outcome
 use Rattle.sx_layout.specs.declared.spot.Spot.{Spot}
 use Rattle.sx_layout.specs.Asked.{number_spot, wanted_of}
-use Rattle.sx_layout.specs.Gathering.{Decision}
+use Rattle.sx_outcome.specs.Gathering.{Decision}
 use Rattle.sx_layout.specs.Marks.{marks, marks_of}
 use Rattle.sx_layout.specs.Plan.{Plan}
 use Rattle.sx_layout.proofs.MarksLaws.{marks_grow}

@@ -6,16 +6,16 @@ use Rattle.sx_event.specs.declared.marks.Note.TheVariants.{Low, Set}
 use Rattle.sx_event.specs.View.{View, spent}
 use Rattle.sx_layout.specs.declared.asked.Wanted.{Wanted}
 use Rattle.sx_layout.specs.declared.asked.Wanted.TheVariants as wanted
-use Rattle.sx_layout.specs.declared.outcome.Outcome.{Outcome}
-use Rattle.sx_layout.specs.declared.outcome.Outcome.TheVariants as outcome
+use Rattle.sx_outcome.specs.declared.outcome.Outcome.{Outcome}
+use Rattle.sx_outcome.specs.declared.outcome.Outcome.TheVariants as outcome
 use Rattle.sx_layout.specs.declared.spot.Spot.{Spot}
 use Rattle.sx_layout.specs.Asked.{number_spot, wanted_of}
 use Rattle.sx_layout.specs.Deciding.{too_late}
-use Rattle.sx_layout.specs.Gathering.{Decision, decisions}
+use Rattle.sx_outcome.specs.Gathering.{Decision, decisions}
 use Rattle.sx_layout.specs.Marks.{marks}
 use Rattle.sx_layout.specs.Plan.{Plan, plan_of, words_of}
 use Rattle.sx_layout.specs.PlanLaws.{IsLaidOut}
-use Rattle.sx_layout.specs.Room.{room_for}
+use Rattle.sx_outcome.specs.Room.{room_for}
 use Rattle.sx_ledger.specs.declared.parts.Parts.{Parts}
 use Rattle.sx_ledger.specs.Static.{static_of}
 use Rattle.sx_shard.specs.Models.{Shown, Seated, IsOf}

@@ -3,8 +3,8 @@ use Rattle.std.specs.Prelude.{◌≡◌, ℕ, ◌<◌, List, length, slice_get, 
 use Rattle.sx_event.specs.View.{opened}
 use Rattle.sx_gather.specs.declared.fault.GatherFault.{GatherFault}
 use Rattle.sx_gather.specs.declared.fault.GatherFault.TheVariants as fault
-use Rattle.sx_layout.specs.declared.space.NoRoom.{NoRoom}
-use Rattle.sx_layout.specs.declared.space.NoRoom.TheVariants as no_room
+use Rattle.sx_outcome.specs.declared.space.NoRoom.{NoRoom}
+use Rattle.sx_outcome.specs.declared.space.NoRoom.TheVariants as no_room
 use Rattle.sx_layout.specs.Plan.{words_of}
 use Rattle.sx_layout.specs.Setting.{Setting}
 use Rattle.sx_shard.specs.Models.{IsOf, Seated, Shown}

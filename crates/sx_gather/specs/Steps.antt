@@ -3,11 +3,11 @@ use Rattle.std.specs.Prelude.{◌≡◌, ℕ, List, [], ◌∷◌, map, ◌==◌
 use Rattle.sx_event.specs.declared.marks.Note.{Note}
 use Rattle.sx_event.specs.declared.marks.Note.TheVariants.{Low, Set}
 use Rattle.sx_layout.specs.declared.asked.Wanted.{Wanted}
-use Rattle.sx_layout.specs.declared.outcome.Outcome.{Outcome}
-use Rattle.sx_layout.specs.declared.outcome.Outcome.TheVariants as outcome
+use Rattle.sx_outcome.specs.declared.outcome.Outcome.{Outcome}
+use Rattle.sx_outcome.specs.declared.outcome.Outcome.TheVariants as outcome
 use Rattle.sx_layout.specs.declared.spot.Spot.{Spot}
 use Rattle.sx_layout.specs.Deciding.{too_late}
-use Rattle.sx_layout.specs.Gathering.{is_accepted}
+use Rattle.sx_outcome.specs.Gathering.{is_accepted}
 use Rattle.sx_layout.specs.Marks.{bit_mark, debit_mark, wanted_mark}
 use Rattle.sx_shard.specs.Models.{Seated}
 use Rattle.sx_tx.specs.declared.kind.Kind.{Kind}

@@ -6,7 +6,7 @@ ghost use Rattle.sx_gather.specs.Start.{fault_of as the_fault};
 
 use std::alloc::{AllocError, AllocFailed};
 use sx_bytes::NoMemory;
-use sx_layout::NoRoom;
+use sx_outcome::NoRoom;
 use thiserror::Error;
 
 /// Why a gathering does not start.

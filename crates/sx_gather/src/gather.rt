@@ -3,8 +3,8 @@
 ghost use Rattle.std.specs.Prelude.{◌≡◌, ◌≤◌, [], length, IfOk, IfErr, Err};
 ghost use Rattle.sx_gather.specs.Passes.{IsPassOf};
 ghost use Rattle.sx_gather.specs.Start.{fault_of as the_fault, IsFaultOf, StartsAll};
-ghost use Rattle.sx_layout.specs.declared.space.NoRoom.{NoRoom as WhyNoRoom};
-ghost use Rattle.sx_layout.specs.Room.{room_for};
+ghost use Rattle.sx_outcome.specs.declared.space.NoRoom.{NoRoom as WhyNoRoom};
+ghost use Rattle.sx_outcome.specs.Room.{room_for};
 ghost use Rattle.sx_tx.specs.Transactions.{most_transactions};
 
 use crate::fault::GatherFault;
@@ -13,8 +13,9 @@ use crate::seat::PassSeat;
 use std::alloc::Global;
 use std::marker::Model;
 use sx_bytes::NoMemory;
-use sx_layout::{OutcomeLog, Setting, room};
+use sx_layout::Setting;
 use sx_ledger::Ledger;
+use sx_outcome::{OutcomeLog, room};
 use sx_shard::Shard;
 use sx_tx::Tx;
 

@@ -4,7 +4,7 @@ ghost use Rattle.std.specs.Prelude.{◌≡◌};
 
 use crate::seat::PassSeat;
 use std::marker::Model;
-use sx_layout::OutcomeLog;
+use sx_outcome::OutcomeLog;
 
 /// A range of candidates, the outcomes of those that are decided, and a seat at each shard. Contracts
 /// see a `Passing`.

@@ -3,7 +3,7 @@
 ghost use Rattle.std.specs.Prelude.{◌≡◌, length, IfOk};
 ghost use Rattle.sx_gather.specs.Passes.{AreSeats, IsPassOf};
 ghost use Rattle.sx_gather.specs.Seal.{HaveAll, HaveEnded, IsBodyOnceSorted};
-ghost use Rattle.sx_layout.specs.Gathering.{IsGathered, accepted as all_accepted, decisions};
+ghost use Rattle.sx_outcome.specs.Gathering.{IsGathered, accepted as all_accepted, decisions};
 ghost use Rattle.sx_ledger.specs.declared.parts.Parts.{Parts};
 
 use crate::gather::Gather;
@@ -11,7 +11,7 @@ use crate::pass::Pass;
 use crate::seat::PassSeat;
 use std::thread::Threads;
 use sx_bytes::NoMemory;
-use sx_layout::{PackedOutcomes, par_sort_txs, sort_txs};
+use sx_outcome::{PackedOutcomes, par_sort_txs, sort_txs};
 use sx_shard::Shard;
 use sx_tx::{Tx, TxList};
 

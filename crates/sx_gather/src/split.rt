@@ -10,7 +10,7 @@ use crate::gather::Gather;
 use crate::pass::Pass;
 use crate::seat::PassSeat;
 use sx_bytes::NoMemory;
-use sx_layout::OutcomeLog;
+use sx_outcome::OutcomeLog;
 
 impl<'a> Gather<'a> {
     // Splits the seat at a shard.

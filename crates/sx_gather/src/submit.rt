@@ -11,7 +11,8 @@ ghost use Rattle.sx_ledger.specs.Static.{static_of};
 use crate::gather::Gather;
 use crate::pass::Pass;
 use crate::seat::PassSeat;
-use sx_layout::{Asked, Outcome, Spot, Wanted};
+use sx_layout::{Asked, Spot, Wanted};
+use sx_outcome::Outcome;
 use sx_shard::{Held, Overdraft};
 use sx_tx::{Kind, Tx};
 

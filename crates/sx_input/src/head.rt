@@ -11,7 +11,7 @@ use sx_ledger::Ledger;
 use sx_record::{FRAME_BYTES, tag, write_frame};
 use sx_state::{state_length, write_state};
 
-/// A ledger, its record, where that was written, and its digest, which is that of the record and which a thread may
+/// A ledger, its record if that was written, and its digest, which is that of the record and which a thread may
 /// still be making.
 #[derive(Drop)]
 pub struct Head {
@@ -21,7 +21,7 @@ pub struct Head {
 }
 
 impl Head {
-    /// The record of the ledger, which is written now where it was not before.
+    /// The record of the ledger, which is written now if it was not before.
     pub fn into_state(self, alloc: Global) -> Result<Writer, NoMemory>
         requires { IsHead self }
         ensures { IfOk result (λ written. written ≡ state_record self.ledger) }

@@ -22,13 +22,12 @@ use crate::stream::{Taken, end_of, required};
 use std::alloc::Global;
 use std::thread::Threads;
 use sx_base::Source;
-use sx_block::{Block, Digest, header_length};
-use sx_body::PrecheckFault;
+use sx_block::{Block, Digest, digest_of, header_length};
 use sx_check::{Survey, par_survey_of};
-use sx_digests::digest_of;
 use sx_fork::fork;
 use sx_ledger::Ledger;
 use sx_record::{Record, tag};
+use sx_tally::PrecheckFault;
 
 // From how many bytes on transactions are hashed on a thread of their own. Hashing takes a millisecond there, and to
 // start a thread a small part of one.

@@ -3,8 +3,8 @@
 ghost use Rattle.std.specs.Prelude.{◌≡◌};
 ghost use Rattle.sx_input.specs.declared.stop.Stop.TheVariants as stop;
 
+use sx_block::Invalid;
 use sx_bytes::{FormFault, NoMemory};
-use sx_check::Invalid;
 
 /// Why a command stops.
 #[derive(Clone, Copy, Debug, PartialEq, Eq)]

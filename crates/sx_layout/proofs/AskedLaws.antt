@@ -12,7 +12,7 @@ use Rattle.sx_layout.proofs.AskedThings.{Asks, asks, has_id, named_is, number_cl
 use Rattle.sx_layout.proofs.DebitPlaces.{debit_at}
 use Rattle.sx_layout.proofs.MarkedThings.{named_by}
 use Rattle.sx_layout.proofs.PlanLaws.{bits_are_there, purses_are_there}
-use Rattle.sx_layout.proofs.Totals.{found}
+use Rattle.sx_outcome.proofs.Totals.{found}
 use Rattle.sx_ledger.specs.declared.account.Account.{Account}
 use Rattle.sx_ledger.specs.declared.key.Key.{Key}
 use Rattle.sx_ledger.specs.declared.parts.Parts.{Parts}

@@ -16,7 +16,7 @@ use Rattle.sx_layout.specs.Plan.{account_place, offer_place, place_in, plan_of}
 use Rattle.sx_layout.specs.PlanLaws.{Thing, AnOffer, AName, IsThing, opening_of}
 use Rattle.sx_layout.proofs.MarkedThings.{named, named_by}
 use Rattle.sx_layout.proofs.RisingNumbers.{has, has_each_once}
-use Rattle.sx_layout.proofs.Totals.{found}
+use Rattle.sx_outcome.proofs.Totals.{found}
 use Rattle.sx_ledger.specs.declared.account.Account.{Account}
 use Rattle.sx_ledger.specs.declared.key.Key.{Key}
 use Rattle.sx_ledger.specs.declared.offer.Offer.{Offer}

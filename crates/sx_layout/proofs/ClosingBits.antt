@@ -6,20 +6,20 @@ use Rattle.std.specs.Int.{bit_at}
 use Rattle.std.proofs.lemmas.Bool.{cases_order}
 use Rattle.std.proofs.lemmas.Nat.Bits.{bit_at-zero, bit_at-lt}
 use Rattle.std.proofs.lemmas.Option.{same_Some}
-use Rattle.sx_layout.specs.declared.outcome.Outcome.{Outcome}
-use Rattle.sx_layout.specs.declared.outcome.Outcome.TheVariants as outcome
-use Rattle.sx_layout.specs.Gathering.{Decision, decisions, keeps_number, NumbersOnce}
+use Rattle.sx_outcome.specs.declared.outcome.Outcome.{Outcome}
+use Rattle.sx_outcome.specs.declared.outcome.Outcome.TheVariants as outcome
+use Rattle.sx_outcome.specs.Gathering.{Decision, decisions, keeps_number, NumbersOnce}
 use Rattle.sx_layout.specs.Asked.{number_of}
 use Rattle.sx_layout.specs.Marks.{Closes, IsClosing, IsSet}
 use Rattle.sx_layout.specs.Plan.{Plan, account_place, plan_of, words_of}
 use Rattle.sx_layout.specs.PlanLaws.{Thing, Number, AnOffer, AName, IsThing, opening_of, spot_of}
 use Rattle.sx_layout.proofs.AskedThings.{Asks, asks, named_is, number_clear, number_is}
-use Rattle.sx_layout.proofs.BodyOrder.{kept}
+use Rattle.sx_outcome.proofs.BodyOrder.{kept}
 use Rattle.sx_layout.proofs.MarkedThings.{named_by, things}
 use Rattle.sx_layout.proofs.MarkCounts.{hits, hits_itself, hits_same, number_in, thing_of, times_all}
 use Rattle.sx_layout.proofs.SpotLaws.{bits_are_apart}
 use Rattle.sx_layout.proofs.PlanLaws.{bits_are_there}
-use Rattle.sx_layout.proofs.Totals.{total, two_places, some_place, In, in_counts, counts_in}
+use Rattle.sx_outcome.proofs.Totals.{total, two_places, some_place, In, in_counts, counts_in}
 use Rattle.sx_ledger.specs.declared.parts.Parts.{Parts}
 use Rattle.sx_ledger.specs.Static.{static_of, window_of}
 use Rattle.sx_tx.specs.declared.kind.Kind.{Kind}

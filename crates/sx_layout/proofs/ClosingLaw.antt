@@ -4,22 +4,22 @@ use Rattle.std.proofs.Common.{Option, Some, None, Result, Ok, Err, inl, inr, ref
 use Rattle.std.specs.Prelude.{slice_get, nat_eq, nat_lt, if◌then◌else◌, ◌==◌}
 use Rattle.std.proofs.lemmas.Bool.{cases_Bool, cases_lt, eqb-true, eq-eqb, lt-ltb}
 use Rattle.std.proofs.lemmas.List.Elements.{All-from_recursion}
-use Rattle.sx_layout.specs.declared.outcome.Outcome.{Outcome}
-use Rattle.sx_layout.specs.declared.outcome.Outcome.TheVariants as outcome
-use Rattle.sx_layout.specs.declared.space.NoRoom.{NoRoom}
-use Rattle.sx_layout.specs.declared.space.NoRoom.TheVariants as no_room
-use Rattle.sx_layout.specs.Gathering.{Decision, decisions, is_accepted, body_of}
-use Rattle.sx_layout.specs.Gathering.{IsGathered, IsOverdrawn, Shows}
+use Rattle.sx_outcome.specs.declared.outcome.Outcome.{Outcome}
+use Rattle.sx_outcome.specs.declared.outcome.Outcome.TheVariants as outcome
+use Rattle.sx_outcome.specs.declared.space.NoRoom.{NoRoom}
+use Rattle.sx_outcome.specs.declared.space.NoRoom.TheVariants as no_room
+use Rattle.sx_outcome.specs.Gathering.{Decision, decisions, is_accepted, body_of}
+use Rattle.sx_outcome.specs.Gathering.{IsGathered, IsOverdrawn, Shows}
 use Rattle.sx_layout.specs.Asked.{wanted_by}
 use Rattle.sx_layout.specs.Deciding.{too_late}
 use Rattle.sx_layout.specs.Marks.{Closes, ClosingGathers, IsClosing, IsGone, IsMissed, IsShort}
 use Rattle.sx_layout.specs.Plan.{Plan, account_place, offer_place, place_in, plan_of, purse_spot}
 use Rattle.sx_layout.specs.PlanLaws.{Thing, AnOffer, AName}
 use Rattle.sx_layout.proofs.AskedThings.{Asks, asks, named_is}
-use Rattle.sx_layout.proofs.BodyElements.{all_body}
-use Rattle.sx_layout.proofs.BodySums.{at_most_one, counted, distinct_if, hit, hit_by}
-use Rattle.sx_layout.proofs.BodyOrder.{body_ordered, kept}
-use Rattle.sx_layout.proofs.BodySums.{length-named, one_if, total_body, total_candidates}
+use Rattle.sx_outcome.proofs.BodyElements.{all_body}
+use Rattle.sx_outcome.proofs.BodySums.{at_most_one, counted, distinct_if, hit, hit_by}
+use Rattle.sx_outcome.proofs.BodyOrder.{body_ordered, kept}
+use Rattle.sx_outcome.proofs.BodySums.{length-named, one_if, total_body, total_candidates}
 use Rattle.sx_layout.proofs.ClosingBits.{asks_at, candidate_at, numbers_once, one_claimer, passes_at}
 use Rattle.sx_layout.proofs.ClosingPurses.{covered, purse}
 use Rattle.sx_layout.proofs.DebitPlaces.{debit_at}
@@ -27,7 +27,7 @@ use Rattle.sx_layout.proofs.MarkedThings.{named, named_by}
 use Rattle.sx_layout.proofs.ClosingRefusals.{NamesSet, name_taken, offer_taken, seq_taken}
 use Rattle.sx_layout.proofs.NamedThings.{names_cancelled, names_created}
 use Rattle.sx_layout.proofs.MarkCounts.{named_in}
-use Rattle.sx_layout.proofs.Totals.{total}
+use Rattle.sx_outcome.proofs.Totals.{total}
 use Rattle.sx_ledger.specs.declared.parts.Parts.{Parts}
 use Rattle.sx_ledger.specs.Body.{IsAdmissible, cancelled_by, created, created_by, made, made_by}
 use Rattle.sx_ledger.specs.Effects.{Posting, debit, debit_of}

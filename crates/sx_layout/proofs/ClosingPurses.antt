@@ -6,21 +6,21 @@ use Rattle.std.proofs.lemmas.Bool.{and_parts, cases_Bool, cases_lt, eqb-true, eq
 use Rattle.std.proofs.lemmas.Option.{slice_get_within, get_or_from_slice_get}
 use Rattle.sx_event.specs.declared.marks.Claim.TheVariants.{Debit}
 use Rattle.sx_event.specs.Rule.{debit_in, debits as claimed_debits}
-use Rattle.sx_layout.specs.declared.outcome.Outcome.{Outcome}
+use Rattle.sx_outcome.specs.declared.outcome.Outcome.{Outcome}
 use Rattle.sx_layout.specs.declared.spot.Spot.{Spot}
-use Rattle.sx_layout.specs.Gathering.{Decision, decisions, is_accepted, body_of}
+use Rattle.sx_outcome.specs.Gathering.{Decision, decisions, is_accepted, body_of}
 use Rattle.sx_layout.specs.Marks.{IsClosing}
 use Rattle.sx_layout.specs.Plan.{Plan, account_place, plan_of, purse_spot, words_of}
 use Rattle.sx_layout.proofs.AskedThings.{Asks, has_id, one_account}
-use Rattle.sx_layout.proofs.BodySums.{counted, debits_total, total_body}
-use Rattle.sx_layout.proofs.BodyOrder.{kept}
+use Rattle.sx_outcome.proofs.BodySums.{counted, debits_total, total_body}
+use Rattle.sx_outcome.proofs.BodyOrder.{kept}
 use Rattle.sx_layout.proofs.ClosingBits.{asks_at}
 use Rattle.sx_layout.proofs.DebitPlaces.{debit_at}
 use Rattle.sx_layout.proofs.MarkCounts.{debits_all}
 use Rattle.sx_layout.proofs.MarkedThings.{posting_mark, taken}
 use Rattle.sx_layout.proofs.SpotLaws.{purses_are_apart}
 use Rattle.sx_layout.proofs.PlanLaws.{purses_are_there}
-use Rattle.sx_layout.proofs.Totals.{total, found, some_place, sum_one, total_same}
+use Rattle.sx_outcome.proofs.Totals.{total, found, some_place, sum_one, total_same}
 use Rattle.sx_ledger.specs.declared.account.Account.{Account}
 use Rattle.sx_ledger.specs.declared.parts.Parts.{Parts}
 use Rattle.sx_ledger.specs.Body.{holding_of}

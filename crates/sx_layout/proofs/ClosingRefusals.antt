@@ -3,17 +3,17 @@ use Rattle.std.proofs.Common.{◌≡◌, ◌≢◌, ℕ, true, false, List}
 use Rattle.std.proofs.Common.{Some, inl, inr, refl, sym, ap, ◌∙◌, arith}
 use Rattle.std.specs.Prelude.{slice_get}
 use Rattle.std.proofs.lemmas.Option.{same_Some}
-use Rattle.sx_layout.specs.declared.outcome.Outcome.{Outcome}
-use Rattle.sx_layout.specs.declared.outcome.Outcome.TheVariants as outcome
-use Rattle.sx_layout.specs.Gathering.{Decision, decisions, is_accepted, keeps_number, body_of}
-use Rattle.sx_layout.specs.Gathering.{IsSeqTaken, IsOfferTaken, IsNameTaken}
+use Rattle.sx_outcome.specs.declared.outcome.Outcome.{Outcome}
+use Rattle.sx_outcome.specs.declared.outcome.Outcome.TheVariants as outcome
+use Rattle.sx_outcome.specs.Gathering.{Decision, decisions, is_accepted, keeps_number, body_of}
+use Rattle.sx_outcome.specs.Gathering.{IsSeqTaken, IsOfferTaken, IsNameTaken}
 use Rattle.sx_layout.specs.Asked.{number_of}
 use Rattle.sx_layout.specs.Marks.{IsClosing, IsSet}
 use Rattle.sx_layout.specs.Plan.{Plan, plan_of}
 use Rattle.sx_layout.specs.PlanLaws.{Thing, Number, AnOffer, AName, spot_of}
 use Rattle.sx_layout.proofs.AskedThings.{Asks, has_created, named_is, number_is, one_account, one_key, one_name}
-use Rattle.sx_layout.proofs.BodyElements.{in_body}
-use Rattle.sx_layout.proofs.BodyOrder.{kept}
+use Rattle.sx_outcome.proofs.BodyElements.{in_body}
+use Rattle.sx_outcome.proofs.BodyOrder.{kept}
 use Rattle.sx_layout.proofs.ClosingBits.{asks_at, candidate_at, claimer, name_open, number_open, numbers_once, offer_open}
 use Rattle.sx_layout.proofs.MarkCounts.{thing_of}
 use Rattle.sx_layout.proofs.MarkedThings.{named}

@@ -1,28 +1,9 @@
-pub mod OutcomeFaults
-pub mod ScriptFaults
-pub mod OutcomeLaws
-pub mod OutcomeListLaws
-pub mod PackedLaws
-pub mod PackedSteps
-pub mod Counts
-pub mod Turns
-pub mod ScriptLaws
-pub mod Cases
 pub mod RisingNumbers
 pub mod DealtLists
 pub mod Shares
 pub mod SpotLaws
 pub mod PlanLaws
-mod ScriptCases
-mod GatheringCases
-mod RoomCases
-pub mod StepFits
-pub mod Openings
 pub mod NewIdLaws
-pub mod Totals
-pub mod TxOrder
-mod SortedSides
-mod PartedLists
 pub mod MarkedThings
 pub mod MarksLaws
 pub mod AskedThings
@@ -30,31 +11,8 @@ pub mod DebitPlaces
 pub mod AskedLaws
 pub mod TxPlaces
 pub mod MarkCounts
-pub mod GatheringLaws
-pub mod BodyOrder
-pub mod BodySums
-pub mod BodyElements
 pub mod ClosingBits
 pub mod NamedThings
 pub mod ClosingRefusals
 pub mod ClosingPurses
 pub mod ClosingLaw
-pub mod ActorForm
-pub mod RunForm
-pub mod DecidedPairs
-pub mod ActorMarks
-pub mod StageMarks
-pub mod StageWords
-pub mod ClaimSteps
-pub mod PurseSteps
-pub mod OwnStep
-pub mod LaterWords
-pub mod PassingOver
-pub mod ActorTurn
-pub mod RunHolds
-pub mod TurnsLeft
-pub mod RunEnds
-pub mod RunOpens
-pub mod PartLists
-pub mod RunDone
-pub mod RunCloses

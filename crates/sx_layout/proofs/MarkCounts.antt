@@ -9,13 +9,13 @@ use Rattle.sx_event.specs.declared.marks.Claim.{Claim}
 use Rattle.sx_event.specs.declared.marks.Claim.TheVariants.{Debit, Bit}
 use Rattle.sx_event.specs.Rule.{bit_in, debit_in, debits as claimed_debits, times}
 use Rattle.sx_layout.specs.declared.spot.Spot.{Spot}
-use Rattle.sx_layout.specs.Gathering.{Decision, is_accepted, keeps_number}
+use Rattle.sx_outcome.specs.Gathering.{Decision, is_accepted, keeps_number}
 use Rattle.sx_layout.specs.Asked.{number_of}
 use Rattle.sx_layout.specs.Marks.{marks, marks_of}
 use Rattle.sx_layout.specs.Plan.{Plan, account_place, purse_spot}
 use Rattle.sx_layout.specs.PlanLaws.{Thing, spot_of}
 use Rattle.sx_layout.proofs.MarkedThings.{marks_are, named, posting_mark, taken, thing_mark, things}
-use Rattle.sx_layout.proofs.Totals.{total, sum_flat, sum_one, total_same, In}
+use Rattle.sx_outcome.proofs.Totals.{total, sum_flat, sum_one, total_same, In}
 use Rattle.sx_ledger.specs.declared.parts.Parts.{Parts}
 use Rattle.sx_ledger.specs.Effects.{Posting}
 

@@ -7,7 +7,7 @@ use Rattle.sx_base.specs.declared.asset_id.AssetId.{AssetId}
 use Rattle.sx_base.specs.declared.seq.Seq.{Seq}
 use Rattle.sx_event.specs.declared.marks.Claim.{Claim}
 use Rattle.sx_layout.specs.Asked.{number_of, wanted_by}
-use Rattle.sx_layout.specs.Gathering.{Decision, is_accepted, keeps_number}
+use Rattle.sx_outcome.specs.Gathering.{Decision, is_accepted, keeps_number}
 use Rattle.sx_layout.specs.Marks.{bit_mark, debit_mark, wanted_mark, marks_of}
 use Rattle.sx_layout.specs.Plan.{Plan, account_place, offer_place, place_in, purse_spot}
 use Rattle.sx_layout.specs.PlanLaws.{Thing, AnOffer, AName, spot_of}

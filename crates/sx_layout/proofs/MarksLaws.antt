@@ -8,7 +8,7 @@ use Rattle.sx_layout.specs.declared.asked.Wanted.{Wanted}
 use Rattle.sx_layout.specs.declared.asked.Wanted.TheVariants as wanted
 use Rattle.sx_layout.specs.declared.spot.Spot.{Spot}
 use Rattle.sx_layout.specs.Asked.{number_spot, wanted_of}
-use Rattle.sx_layout.specs.Gathering.{is_accepted, keeps_number}
+use Rattle.sx_outcome.specs.Gathering.{is_accepted, keeps_number}
 use Rattle.sx_layout.specs.Marks.{bit_mark, debit_mark, marks, marks_of, shard_of, wanted_mark}
 use Rattle.sx_layout.specs.Marks.{MarksElsewhere, MarksGrow, MarksJoin}
 

@@ -16,7 +16,7 @@ use Rattle.sx_layout.specs.Plan.{Plan, plan_of, window_spot, offer_spot, name_sp
 use Rattle.sx_layout.specs.Plan.{window_words, offer_words, name_words, purses_at, bits_at}
 use Rattle.sx_layout.specs.PlanLaws.{IsLaidOut, Thing, Number, AnOffer, AName, IsThing, HasBit}
 use Rattle.sx_layout.specs.PlanLaws.{HasPurse, BitsThere, PursesThere, WordsFit}
-use Rattle.sx_layout.proofs.Counts.{length-filter_map}
+use Rattle.sx_outcome.proofs.Counts.{length-filter_map}
 use Rattle.sx_layout.proofs.Shares.{in_share, share_le, length-dealt, thing_dealt, all_dealt}
 use Rattle.sx_layout.proofs.Shares.{map-dealt}
 use Rattle.sx_layout.proofs.Shares.{length-rows, get_or-rows, zeros}

@@ -6,8 +6,8 @@ use Rattle.sx_event.specs.declared.event.Step.{Step}
 use Rattle.sx_event.specs.declared.event.Step.TheVariants as step
 use Rattle.sx_layout.specs.declared.asked.Wanted.{Wanted}
 use Rattle.sx_layout.specs.declared.asked.Wanted.TheVariants as wanted
-use Rattle.sx_layout.specs.declared.outcome.Outcome.{Outcome}
-use Rattle.sx_layout.specs.declared.outcome.Outcome.TheVariants as outcome
+use Rattle.sx_outcome.specs.declared.outcome.Outcome.{Outcome}
+use Rattle.sx_outcome.specs.declared.outcome.Outcome.TheVariants as outcome
 use Rattle.sx_layout.specs.declared.stage.Next.{Next}
 use Rattle.sx_layout.specs.declared.stage.Next.TheVariants.{On, Decided}
 use Rattle.sx_layout.specs.declared.stage.Stage.{Stage}

@@ -8,15 +8,15 @@ use Rattle.sx_event.specs.declared.marks.Claim.TheVariants.{Debit, Bit}
 use Rattle.sx_event.specs.Rule.{PursesAddUp, BitsAddUp, debits as claimed_debits, times}
 use Rattle.sx_layout.specs.declared.asked.Wanted.{Wanted}
 use Rattle.sx_layout.specs.declared.asked.Wanted.TheVariants as wanted
-use Rattle.sx_layout.specs.declared.outcome.Outcome.{Outcome}
-use Rattle.sx_layout.specs.declared.outcome.Outcome.TheVariants as outcome
+use Rattle.sx_outcome.specs.declared.outcome.Outcome.{Outcome}
+use Rattle.sx_outcome.specs.declared.outcome.Outcome.TheVariants as outcome
 use Rattle.sx_layout.specs.declared.spot.Spot.{Spot}
 use Rattle.sx_layout.specs.Asked.{number_spot, wanted_of}
 use Rattle.sx_layout.specs.Deciding.{too_late}
-use Rattle.sx_layout.specs.Gathering.{Decision, decisions, is_accepted, keeps_number, body_of, IsGathered}
+use Rattle.sx_outcome.specs.Gathering.{Decision, decisions, is_accepted, keeps_number, body_of, IsGathered}
 use Rattle.sx_layout.specs.Plan.{Plan, plan_of, words_of}
 use Rattle.sx_layout.specs.PlanLaws.{IsLaidOut}
-use Rattle.sx_layout.specs.Room.{room_for}
+use Rattle.sx_outcome.specs.Room.{room_for}
 use Rattle.sx_ledger.specs.declared.parts.Parts.{Parts}
 use Rattle.sx_ledger.specs.Static.{static_of}
 use Rattle.sx_tx.specs.declared.tx.Tx.{Tx}

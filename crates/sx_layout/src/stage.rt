@@ -1,7 +1,7 @@
 //! How far an actor of a script is with a candidate.
 
-use crate::outcome::Outcome;
 use sx_event::Event;
+use sx_outcome::Outcome;
 use sx_tx::Kind;
 
 /// What an actor does next for a candidate. A bit is a place in a bit word, below 64.

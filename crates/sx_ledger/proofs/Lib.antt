@@ -32,3 +32,5 @@ pub mod SequenceChecks
 pub mod BucketLaws
 pub mod Migrating
 pub mod PlaceTableLaws
+pub mod RepeatLaws
+pub mod FirstRefusals

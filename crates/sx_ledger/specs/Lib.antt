@@ -10,3 +10,6 @@ pub mod EffectLaws
 pub mod Places
 pub mod Buckets
 pub mod PlaceTable
+pub mod Repeats
+pub mod FirstRefusal
+pub mod Overdraft

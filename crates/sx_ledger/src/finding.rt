@@ -74,7 +74,7 @@ fn find_between(offers: &[Offer], begin: usize, end: usize, key: &Key) -> Option
 }
 
 impl Ledger {
-    /// The place of the account of this id, or `None` where there is no such account.
+    /// The place of the account of this id, or `None` if there is no such account.
     pub fn find(&self, id: AccountId) -> Option<u32>
         ensures found { IfSome result (λ place. slice_get (ids self.now.accounts) place ≡ Some id.0) }
         ensures absent { IfNone result (holds_id self.now id.0 → ⊥) }
@@ -83,7 +83,7 @@ impl Ledger {
         Some(place as u32)
     }
 
-    /// The place of the offer of this key, or `None` where there is no such offer.
+    /// The place of the offer of this key, or `None` if there is no such offer.
     pub fn find_offer(&self, key: &Key) -> Option<u32>
         ensures found { IfSome result (λ place. slice_get (keys self.now.offers) place ≡ Some key.now) }
         ensures absent { IfNone result (holds_key self.now key.now → ⊥) }

@@ -190,7 +190,7 @@ impl AccountIndex {
         Some(Some(place))
     }
 
-    /// The place of the account of this id, or `None` where there is no such account. Where the ids lie
+    /// The place of the account of this id, or `None` if there is no such account. Where the ids lie
     /// close together, a table tells it. Else a search takes at most as many steps as the number of
     /// accounts has binary digits, and a few where the ids are spread evenly.
     pub fn find(&self, id: AccountId) -> Option<u32>

@@ -78,7 +78,7 @@ impl Ledger {
     }
 
     /// The same ledger in the newest version, in which no number above an account's last one is marked
-    /// where none was before. It takes no memory.
+    /// if none was before. It takes no memory.
     pub fn migrate(self) -> Ledger
         ensures { result ≡ migrated self }
     {

@@ -31,7 +31,7 @@ impl Model for LedgerIndex {
 }
 
 impl LedgerIndex {
-    /// The place of the account of this id, or `None` where there is no such account. It takes as long as
+    /// The place of the account of this id, or `None` if there is no such account. It takes as long as
     /// [`AccountIndex::find`].
     pub fn find(&self, id: AccountId) -> Option<u32>
         ensures found { IfSome result (λ place. slice_get self.now place ≡ Some id.0) }

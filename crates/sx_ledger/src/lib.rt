@@ -20,7 +20,8 @@
 //!
 //! `specs/` holds the definitions that the crates above share: effects of transactions, the body of
 //! a block and what it leaves, bounds of trade, fills, rounding and what trading leaves.
-//! [`posting_laws`], [`bound_laws`] and [`body_laws`] carry their laws.
+//! [`posting_laws`], [`bound_laws`], [`body_laws`] and [`refusal_laws`] carry their laws. The first refused transaction of
+//! a body, the first that repeats another and the first [`Overdraft`] are defined here too.
 //!
 //! Not here: a ledger as bytes (`sx_state`), computing what a block leaves, and whether a block is valid.
 #![tactic(auto)]
@@ -30,12 +31,14 @@ mod copying;
 mod effect_laws;
 mod fill;
 mod finding;
+mod first_refusal;
 mod index;
 mod key;
 mod ledger;
 mod ledger_index;
 mod offer;
 mod offer_marks;
+mod overdraft;
 mod parts;
 mod place_table;
 mod places;
@@ -45,11 +48,13 @@ mod totals;
 pub use account::{Account, Accounts};
 pub use effect_laws::{body_laws, bound_laws, posting_laws};
 pub use fill::{Fill, Fills};
+pub use first_refusal::refusal_laws;
 pub use index::AccountIndex;
 pub use key::Key;
 pub use ledger::Ledger;
 pub use ledger_index::LedgerIndex;
 pub use offer::{Offer, Offers};
+pub use overdraft::Overdraft;
 pub use parts::Parts;
 pub use places::{Places, Target};
 pub use statics::Static;

@@ -20,7 +20,7 @@ use sx_bytes::NoMemory;
 use sx_dual::{Bounds, Cut, Flow, Potentials, dual_laws};
 use sx_net::{Net, Steps};
 
-/// A circulation of greatest value with potentials that fit it, or a cut where there is no circulation.
+/// A circulation of greatest value with potentials that fit it, or a cut if there is no circulation.
 #[derive(Debug, Drop)]
 pub enum Solved {
     Best { flow: Flow, potentials: Potentials },
@@ -89,7 +89,7 @@ fn climb<L: Ledger>(
     None
 }
 
-/// A circulation of greatest value within the bounds and potentials that fit it, or a cut, where there is no
+/// A circulation of greatest value within the bounds and potentials that fit it, or a cut if there is no
 /// circulation. It may answer `NoMemory` in place of any other answer. For n assets and upper bounds below
 /// `2^b` it makes at most `(n + 1)(b + 1)(4n(n + 1) + 1)` searches, whatever it answers, and so never more than
 /// 14,500,200, for 32 assets and `2^102`. It takes memory for the net, and for the answer.

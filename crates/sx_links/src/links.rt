@@ -138,7 +138,7 @@ impl<T> Links<T> {
         self.pool.put(node, value);
     }
 
-    /// The first node of a list, or `None` where the list is empty.
+    /// The first node of a list, or `None` if the list is empty.
     pub fn first(&self, list: u32) -> Option<u32>
         requires { list < length self.now.lists }
         ensures first { result ≡ node_at (list_at self.now.lists list) 0 }

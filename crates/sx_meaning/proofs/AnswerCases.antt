@@ -3,9 +3,9 @@ use Rattle.std.proofs.Common.{◌≡◌, ℕ, zero, suc, ◌^◌, ◌<◌, ◌�
 use Rattle.std.specs.Prelude.{◌⊎◌}
 use Rattle.std.proofs.lemmas.List.Elements.{All-from_recursion, All-nil}
 use Rattle.sx_bytes.specs.declared.fault.FormFault.{FormFault}
-use Rattle.sx_check.specs.declared.invalid.Invalid.{Invalid}
-use Rattle.sx_check.specs.declared.invalid.Invalid.TheVariants as invalid
-use Rattle.sx_layout.specs.declared.space.NoRoom.TheVariants as no_room
+use Rattle.sx_block.specs.declared.invalid.Invalid.{Invalid}
+use Rattle.sx_block.specs.declared.invalid.Invalid.TheVariants as invalid
+use Rattle.sx_outcome.specs.declared.space.NoRoom.TheVariants as no_room
 use Rattle.sx_ledger.specs.declared.parts.Parts.{Parts}
 use Rattle.sx_ledger.specs.Ledger.{IsAccount, IsLedger, IsOffer, total_of}
 use Rattle.sx_meaning.specs.Answers.{Answers, Completes, IsRead, status_of}

@@ -2,7 +2,7 @@
 use Rattle.std.proofs.Common.{◌≡◌, ℕ, ◌+◌, List, [], ◌∷◌, ◌++◌, length, false, Bool, refl, ◌∙◌, arith}
 use Rattle.std.proofs.lemmas.List.Sums.{fold-append}
 use Rattle.sx_block.specs.Validity.{ledger_after}
-use Rattle.sx_follow.specs.Chain.{ledger_after_all}
+use Rattle.sx_block.specs.Chain.{ledger_after_all}
 use Rattle.sx_ledger.specs.declared.parts.Parts.{Parts}
 use Rattle.sx_meaning.specs.Items.{Item, block, candidates, outcomes, proof, script, state}
 use Rattle.sx_meaning.specs.NextItem.{blocks_then, ledger_then}

@@ -6,8 +6,8 @@ use Rattle.sx_base.specs.Outside.{AppendsPrefix}
 use Rattle.sx_block.specs.Validity.{high_in, undropped_low_in}
 use Rattle.sx_bytes.specs.declared.fault.Form.TheVariants as form
 use Rattle.sx_bytes.specs.declared.fault.FormFault.{FormFault}
-use Rattle.sx_check.specs.declared.invalid.Invalid.{Invalid}
-use Rattle.sx_discovery.specs.Quotes.{posted_at}
+use Rattle.sx_block.specs.declared.invalid.Invalid.{Invalid}
+use Rattle.sx_multi.specs.Quotes.{posted_at}
 use Rattle.sx_dual.specs.Circulation.{HaveNoCirculation}
 use Rattle.sx_ledger.specs.declared.parts.Parts.{Parts}
 use Rattle.sx_ledger.specs.Ledger.{assets_of}

@@ -4,8 +4,8 @@ use Rattle.std.specs.Prelude.{nat_le, ◌&&◌, ◌==◌}
 use Rattle.sx_block.specs.declared.header.Block.{Block}
 use Rattle.sx_block.specs.Rule as rule
 use Rattle.sx_block.specs.Validity.{IsValid, ledger_after}
-use Rattle.sx_follow.specs.Chain.{AreValid, ledger_after_all}
-use Rattle.sx_laws.specs.EffectLaws.{BlockConserves, BlockKeepsLedger}
+use Rattle.sx_block.specs.Chain.{AreValid, ledger_after_all}
+use Rattle.sx_block.specs.EffectLaws.{BlockConserves, BlockKeepsLedger}
 use Rattle.sx_ledger.specs.declared.parts.Parts.{Parts}
 use Rattle.sx_ledger.specs.Ledger.{assets_of}
 use Rattle.sx_meaning.specs.Findings.{MayComeAll}

@@ -1,10 +1,10 @@
 -- What is said of each command, and what is written of single accounts.
 use Rattle.std.proofs.Common.{◌≡◌, ℕ, true, false, List, [], ◌∷◌, Some, None, refl}
 use Rattle.sx_block.specs.declared.header.Block.{Block}
-use Rattle.sx_check.specs.declared.invalid.Invalid.{Invalid}
+use Rattle.sx_block.specs.declared.invalid.Invalid.{Invalid}
 use Rattle.sx_commit.specs.Claim.{Claim}
 use Rattle.sx_commit.specs.Commitments.{root_of, siblings_of}
-use Rattle.sx_follow.specs.Chain.{IsChain, ledger_after_all}
+use Rattle.sx_block.specs.Chain.{IsChain, ledger_after_all}
 use Rattle.sx_ledger.specs.declared.account.Account.{Account}
 use Rattle.sx_ledger.specs.declared.parts.Parts.{Parts}
 use Rattle.sx_meaning.specs.Answers.{takes_no_input}

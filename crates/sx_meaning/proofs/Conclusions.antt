@@ -1,13 +1,13 @@
 -- What each command finds of its records is one thing.
 use Rattle.std.proofs.Common.{◌≡◌, ℕ, List, [], ◌∷◌, length, Ok, Err, refl, sym, ap, subst, ◌∙◌}
 use Rattle.sx_block.specs.declared.header.Block.{Block}
-use Rattle.sx_check.specs.declared.invalid.Invalid.{Invalid}
-use Rattle.sx_check.specs.Laws.{OneReason, ValidIsNotRefused}
-use Rattle.sx_check.specs.Refusals.{Refuses}
-use Rattle.sx_follow.specs.Chain.{ledger_after_all}
-use Rattle.sx_layout.specs.declared.script.Script.{Script}
-use Rattle.sx_layout.specs.declared.space.NoRoom.{NoRoom}
-use Rattle.sx_layout.specs.Room.{room_for}
+use Rattle.sx_block.specs.declared.invalid.Invalid.{Invalid}
+use Rattle.sx_block.specs.RefusalLaws.{OneReason, ValidIsNotRefused}
+use Rattle.sx_block.specs.Refusals.{Refuses}
+use Rattle.sx_block.specs.Chain.{ledger_after_all}
+use Rattle.sx_outcome.specs.declared.script.Script.{Script}
+use Rattle.sx_outcome.specs.declared.space.NoRoom.{NoRoom}
+use Rattle.sx_outcome.specs.Room.{room_for}
 use Rattle.sx_ledger.specs.declared.parts.Parts.{Parts}
 use Rattle.sx_meaning.specs.Findings.{Checks, Concludes, Demonstrates, Finding, FindsInBlock, FindsRoom, Interleaves}
 use Rattle.sx_meaning.specs.Findings.{RefusesNext, Shows, StopsAt, TakesBlocks, TakesCandidates, TakesState, Verifies}

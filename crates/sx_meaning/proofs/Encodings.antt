@@ -9,18 +9,18 @@ use Rattle.sx_block.proofs.Lengths.{block_fits}
 use Rattle.sx_bytes.specs.declared.fault.FormFault.{FormFault}
 use Rattle.sx_bytes.specs.declared.fault.ReadError.TheVariants as read_error
 use Rattle.sx_commit.specs.Claim.{Claim, IsClaim}
-use Rattle.sx_proof.specs.Decoding.{proof_at}
-use Rattle.sx_proof.specs.Encoding.{claim_bytes}
-use Rattle.sx_proof.proofs.Lengths.{proof_most}
-use Rattle.sx_proof.proofs.Payload.{only_in as proof_only_in}
-use Rattle.sx_layout.specs.declared.outcome.Outcome.{Outcome}
-use Rattle.sx_layout.specs.declared.script.Script.{Script}
-use Rattle.sx_layout.specs.OutcomeDecoding.{outcomes_at}
-use Rattle.sx_layout.specs.Outcomes.{AreOutcomes, outcomes_bytes}
-use Rattle.sx_layout.specs.ScriptDecoding.{script_at}
-use Rattle.sx_layout.specs.Scripts.{IsScript, script_bytes}
-use Rattle.sx_layout.proofs.OutcomeListLaws.{only_in as outcomes_only_in, outcomes_fit}
-use Rattle.sx_layout.proofs.ScriptLaws.{only_in as script_only_in, scripts_fit}
+use Rattle.sx_commit.specs.Decoding.{proof_at}
+use Rattle.sx_commit.specs.Encoding.{claim_bytes}
+use Rattle.sx_commit.proofs.Lengths.{proof_most}
+use Rattle.sx_commit.proofs.Payload.{only_in as proof_only_in}
+use Rattle.sx_outcome.specs.declared.outcome.Outcome.{Outcome}
+use Rattle.sx_outcome.specs.declared.script.Script.{Script}
+use Rattle.sx_outcome.specs.OutcomeDecoding.{outcomes_at}
+use Rattle.sx_outcome.specs.Outcomes.{AreOutcomes, outcomes_bytes}
+use Rattle.sx_outcome.specs.ScriptDecoding.{script_at}
+use Rattle.sx_outcome.specs.Scripts.{IsScript, script_bytes}
+use Rattle.sx_outcome.proofs.OutcomeListLaws.{only_in as outcomes_only_in, outcomes_fit}
+use Rattle.sx_outcome.proofs.ScriptLaws.{only_in as script_only_in, scripts_fit}
 use Rattle.sx_ledger.specs.declared.parts.Parts.{Parts}
 use Rattle.sx_state.specs.Encoding.{state_bytes}
 use Rattle.sx_ledger.specs.Ledger.{IsLedger}

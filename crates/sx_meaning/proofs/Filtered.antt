@@ -1,7 +1,7 @@
 -- What a filter writes is the record of a body.
 use Rattle.std.proofs.Common.{◌≡◌, ℕ, List, ◌++◌, ap, subst, ◌∙◌}
-use Rattle.sx_kept.specs.Kept.{kept_of}
-use Rattle.sx_kept.specs.Laws.{KeptIsAccepted, KeptIsAdmissible}
+use Rattle.sx_filter.specs.Kept.{kept_of}
+use Rattle.sx_filter.specs.KeptLaws.{KeptIsAccepted, KeptIsAdmissible}
 use Rattle.sx_meaning.specs.FilterLaws.{FiltersBodies, WritesBody}
 use Rattle.sx_meaning.specs.Findings.{FindsAtEnd, no_fault}
 use Rattle.sx_meaning.specs.Items.{Item, records}

@@ -1,6 +1,6 @@
 -- A follower that takes the blocks of a replay has its chain.
 use Rattle.std.proofs.Common.{◌≡◌, ℕ, List, [], ◌∷◌, ◌++◌, sym, subst}
-use Rattle.sx_follow.specs.Laws.{ValidAreChain}
+use Rattle.sx_block.specs.ChainLaws.{ValidAreChain}
 use Rattle.sx_meaning.specs.Findings.{FindsAtEnd, MayComeAll, no_fault}
 use Rattle.sx_meaning.specs.Items.{Item, state}
 use Rattle.sx_meaning.specs.Laws.{FollowsReplays}

@@ -4,10 +4,10 @@ use Rattle.std.proofs.lemmas.List.Elements.{All-from_recursion, recursion_from_A
 use Rattle.std.specs.List.{AllByRecursion}
 use Rattle.std.specs.Prelude.{slice_get}
 use Rattle.sx_base.specs.Ranges.{most_amount}
-use Rattle.sx_layout.specs.declared.outcome.Outcome.{Outcome}
-use Rattle.sx_layout.specs.declared.outcome.Outcome.TheVariants as outcome
-use Rattle.sx_layout.specs.Gathering.{Decision, IsGathered, Shows, decisions}
-use Rattle.sx_layout.specs.Outcomes.{AreOutcomes, IsOutcome}
+use Rattle.sx_outcome.specs.declared.outcome.Outcome.{Outcome}
+use Rattle.sx_outcome.specs.declared.outcome.Outcome.TheVariants as outcome
+use Rattle.sx_outcome.specs.Gathering.{Decision, IsGathered, Shows, decisions}
+use Rattle.sx_outcome.specs.Outcomes.{AreOutcomes, IsOutcome}
 use Rattle.sx_ledger.specs.declared.parts.Parts.{Parts}
 use Rattle.sx_ledger.specs.Effects.{Posting, debit_of}
 use Rattle.sx_tx.specs.declared.kind.Kind.{Kind}

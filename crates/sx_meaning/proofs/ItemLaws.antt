@@ -9,8 +9,8 @@ use Rattle.sx_bytes.specs.declared.fault.Form.TheVariants as form
 use Rattle.sx_bytes.specs.declared.fault.FormFault.{FormFault}
 use Rattle.sx_bytes.proofs.Field.{length-big_bytes}
 use Rattle.sx_commit.specs.Claim.{Claim}
-use Rattle.sx_layout.specs.declared.outcome.Outcome.{Outcome}
-use Rattle.sx_layout.specs.declared.script.Script.{Script}
+use Rattle.sx_outcome.specs.declared.outcome.Outcome.{Outcome}
+use Rattle.sx_outcome.specs.declared.script.Script.{Script}
 use Rattle.sx_ledger.specs.declared.parts.Parts.{Parts}
 use Rattle.sx_state.proofs.Payload.{state_again}
 use Rattle.sx_meaning.specs.Expected.{Expected, IsExpected, as_some, end_only, item_at, item_in, item_of, record_of}

@@ -3,7 +3,7 @@ use Rattle.std.proofs.Common.{◌≡◌, ℕ, zero, suc, Bool, true, false, List
 use Rattle.std.proofs.Common.{arith}
 use Rattle.sx_block.specs.declared.header.Block.{Block}
 use Rattle.sx_commit.specs.Claim.{Claim}
-use Rattle.sx_layout.specs.declared.script.Script.{Script}
+use Rattle.sx_outcome.specs.declared.script.Script.{Script}
 use Rattle.sx_ledger.specs.declared.parts.Parts.{Parts}
 use Rattle.sx_meaning.specs.Findings.{expected, shown_tags}
 use Rattle.sx_meaning.specs.Items.{Item, block, candidates, outcomes, proof, script, state, tag_of}

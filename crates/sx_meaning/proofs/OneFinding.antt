@@ -6,9 +6,9 @@ use Rattle.std.proofs.lemmas.List.{append-nil}
 use Rattle.std.specs.Prelude.{IsTrue, nat_le, ◌&&◌, ◌==◌}
 use Rattle.sx_block.specs.declared.header.Block.{Block}
 use Rattle.sx_bytes.specs.declared.fault.FormFault.{FormFault}
-use Rattle.sx_check.specs.declared.invalid.Invalid.{Invalid}
-use Rattle.sx_check.specs.Laws.{OneReason, ValidIsNotRefused}
-use Rattle.sx_follow.specs.Chain.{ledger_after_all}
+use Rattle.sx_block.specs.declared.invalid.Invalid.{Invalid}
+use Rattle.sx_block.specs.RefusalLaws.{OneReason, ValidIsNotRefused}
+use Rattle.sx_block.specs.Chain.{ledger_after_all}
 use Rattle.sx_meaning.specs.Expected.{Expected, IsDoneWith, IsExpected, end_only, item_at, may_end, record_of, unread}
 use Rattle.sx_meaning.specs.Findings.{Finding, Finds, FindsAfter, FindsAtBlock, FindsAtEnd, IsNextValid}
 use Rattle.sx_meaning.specs.Findings.{MayCome}

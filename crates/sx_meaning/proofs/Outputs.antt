@@ -8,14 +8,14 @@ use Rattle.std.specs.Prelude.{IsTrue, ◌↔◌}
 use Rattle.std.specs.Str.{bytes_eq}
 use Rattle.sx_block.specs.declared.header.Block.{Block}
 use Rattle.sx_block.specs.Block.{IsBlock}
-use Rattle.sx_check.specs.Checked.{checked_of}
-use Rattle.sx_check.specs.Laws.{OneReason, ValidIsNotRefused}
+use Rattle.sx_block.specs.Checked.{checked_of}
+use Rattle.sx_block.specs.RefusalLaws.{OneReason, ValidIsNotRefused}
 use Rattle.sx_commit.specs.Claim.{Claim}
 use Rattle.sx_commit.specs.Commitments.{IsGood, folded, leaf_of, levels}
-use Rattle.sx_kept.specs.Kept.{kept_of}
-use Rattle.sx_follow.specs.Chain.{ledger_after_all}
-use Rattle.sx_follow.specs.Laws.{EveryListHasChain, OneChain}
-use Rattle.sx_layout.specs.Running.{outcomes_of_run}
+use Rattle.sx_filter.specs.Kept.{kept_of}
+use Rattle.sx_block.specs.Chain.{ledger_after_all}
+use Rattle.sx_block.specs.ChainLaws.{EveryListHasChain, OneChain}
+use Rattle.sx_script.specs.Running.{outcomes_of_run}
 use Rattle.sx_ledger.specs.declared.parts.Parts.{Parts}
 use Rattle.sx_ledger.specs.Ledger.{migrated}
 use Rattle.sx_meaning.specs.Findings.{Concludes, FindsAtEnd, MayComeAll, no_fault, shown_tags}

@@ -3,11 +3,11 @@ use Rattle.std.proofs.Common.{◌≡◌, ℕ, List, [], ◌∷◌, ◌++◌, ref
 use Rattle.std.proofs.lemmas.List.{append-nil}
 use Rattle.sx_block.specs.declared.header.Block.{Block}
 use Rattle.sx_block.specs.Validity.{IsValid, ledger_after}
-use Rattle.sx_check.specs.Checked.{checked_of}
+use Rattle.sx_block.specs.Checked.{checked_of}
 use Rattle.sx_gen.specs.State.{demo_parts}
 use Rattle.sx_gen.proofs.Market.{is_ledger}
-use Rattle.sx_layout.specs.declared.outcome.Outcome.{Outcome}
-use Rattle.sx_layout.specs.Outcomes.{AreOutcomes}
+use Rattle.sx_outcome.specs.declared.outcome.Outcome.{Outcome}
+use Rattle.sx_outcome.specs.Outcomes.{AreOutcomes}
 use Rattle.sx_ledger.specs.declared.parts.Parts.{Parts}
 use Rattle.sx_ledger.specs.Ledger.{IsLedger}
 use Rattle.sx_meaning.specs.Findings.{FindsAtEnd, MayComeAll, no_fault}

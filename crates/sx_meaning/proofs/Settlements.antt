@@ -3,10 +3,10 @@ use Rattle.std.proofs.Common.{List, [], ◌∷◌}
 use Rattle.sx_block.specs.declared.header.Block.{Block}
 use Rattle.sx_block.specs.Rule as rule
 use Rattle.sx_block.specs.Validity.{ledger_after}
-use Rattle.sx_follow.specs.Chain.{AreValid}
-use Rattle.sx_laws.specs.EffectLaws.{BlockDropsTheImpossible, BlockGetsItsValue, BlockGivesItsValue, BlockHeldFalls}
-use Rattle.sx_laws.specs.EffectLaws.{BlockKeepsLedger, BlockKeepsRounding, BlockTradesInFull, BlockTradesMost}
-use Rattle.sx_laws.specs.EffectLaws.{BlockTradesWithinLimits, OneInPart}
+use Rattle.sx_block.specs.Chain.{AreValid}
+use Rattle.sx_block.specs.EffectLaws.{BlockDropsTheImpossible, BlockGetsItsValue, BlockGivesItsValue, BlockHeldFalls}
+use Rattle.sx_block.specs.EffectLaws.{BlockKeepsLedger, BlockKeepsRounding, BlockTradesInFull, BlockTradesMost}
+use Rattle.sx_block.specs.EffectLaws.{BlockTradesWithinLimits, OneInPart}
 use Rattle.sx_ledger.specs.declared.parts.Parts.{Parts}
 use Rattle.sx_ledger.specs.Ledger.{IsLedger}
 use Rattle.sx_meaning.specs.Replays.{blocks_of}

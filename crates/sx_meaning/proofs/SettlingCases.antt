@@ -11,8 +11,8 @@ use Rattle.sx_dual.specs.declared.cut.Cut.{Cut}
 use Rattle.sx_dual.specs.Circulation.{IsBalanced, IsWithin}
 use Rattle.sx_dual.specs.Sums.{EachPair, sum_below}
 use Rattle.sx_dual.specs.Tables.{FlowTable}
-use Rattle.sx_follow.specs.Chain.{AreValid, ledger_after_all}
-use Rattle.sx_laws.proofs.ValidCase.{before, block}
+use Rattle.sx_block.specs.Chain.{AreValid, ledger_after_all}
+use Rattle.sx_block.proofs.ValidCase.{before, block}
 use Rattle.sx_ledger.specs.declared.offer.Offer.{Offer}
 use Rattle.sx_ledger.specs.declared.parts.Parts.{Parts}
 use Rattle.sx_ledger.specs.Bounds.{price_of}

@@ -8,10 +8,10 @@ use Rattle.sx_block.specs.declared.header.Block.{Block}
 use Rattle.sx_block.specs.Block.{IsBlock}
 use Rattle.sx_bytes.specs.declared.fault.FormFault.{FormFault}
 use Rattle.sx_bytes.specs.Field.{AreBytes}
-use Rattle.sx_check.specs.declared.invalid.Invalid.{Invalid}
-use Rattle.sx_check.specs.Laws.{EveryBlockIsJudged}
-use Rattle.sx_follow.specs.Chain.{ledger_after_all}
-use Rattle.sx_laws.specs.EffectLaws.{BlockKeepsLedger}
+use Rattle.sx_block.specs.declared.invalid.Invalid.{Invalid}
+use Rattle.sx_block.specs.RefusalLaws.{EveryBlockIsJudged}
+use Rattle.sx_block.specs.Chain.{ledger_after_all}
+use Rattle.sx_block.specs.EffectLaws.{BlockKeepsLedger}
 use Rattle.sx_ledger.specs.declared.parts.Parts.{Parts}
 use Rattle.sx_meaning.specs.Expected.{IsDoneWith, IsExpected, item_at, may_end}
 use Rattle.sx_meaning.specs.Findings.{Finding, Finds, GoesOn, MayComeAll, StopsAt}

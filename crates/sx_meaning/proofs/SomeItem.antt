@@ -12,14 +12,14 @@ use Rattle.sx_bytes.specs.declared.fault.FormFault.{FormFault}
 use Rattle.sx_bytes.specs.Field.{AreBytes}
 use Rattle.sx_bytes.proofs.Grammar.{AreBytes-drop, AreBytes-take}
 use Rattle.sx_commit.specs.Claim.{Claim}
-use Rattle.sx_proof.specs.Decoding.{proof_at}
-use Rattle.sx_proof.proofs.Payload.{found_in as proof_found}
-use Rattle.sx_layout.specs.declared.outcome.Outcome.{Outcome}
-use Rattle.sx_layout.specs.declared.script.Script.{Script}
-use Rattle.sx_layout.specs.OutcomeDecoding.{outcomes_at}
-use Rattle.sx_layout.specs.ScriptDecoding.{script_at}
-use Rattle.sx_layout.proofs.OutcomeListLaws.{found_in as outcomes_found}
-use Rattle.sx_layout.proofs.ScriptLaws.{found_in as script_found}
+use Rattle.sx_commit.specs.Decoding.{proof_at}
+use Rattle.sx_commit.proofs.Payload.{found_in as proof_found}
+use Rattle.sx_outcome.specs.declared.outcome.Outcome.{Outcome}
+use Rattle.sx_outcome.specs.declared.script.Script.{Script}
+use Rattle.sx_outcome.specs.OutcomeDecoding.{outcomes_at}
+use Rattle.sx_outcome.specs.ScriptDecoding.{script_at}
+use Rattle.sx_outcome.proofs.OutcomeListLaws.{found_in as outcomes_found}
+use Rattle.sx_outcome.proofs.ScriptLaws.{found_in as script_found}
 use Rattle.sx_ledger.specs.declared.parts.Parts.{Parts}
 use Rattle.sx_state.specs.Decoding.{state_at}
 use Rattle.sx_state.proofs.Payload.{state_takes}

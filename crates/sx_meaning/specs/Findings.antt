@@ -4,15 +4,15 @@ use Rattle.sx_block.specs.declared.header.Block.{Block}
 use Rattle.sx_block.specs.Block.{IsBlock}
 use Rattle.sx_block.specs.Validity.{IsValid}
 use Rattle.sx_bytes.specs.declared.fault.FormFault.{FormFault}
-use Rattle.sx_check.specs.declared.invalid.Invalid.{Invalid}
-use Rattle.sx_check.specs.declared.invalid.Invalid.TheVariants as invalid
-use Rattle.sx_check.specs.Refusals.{Refuses}
+use Rattle.sx_block.specs.declared.invalid.Invalid.{Invalid}
+use Rattle.sx_block.specs.declared.invalid.Invalid.TheVariants as invalid
+use Rattle.sx_block.specs.Refusals.{Refuses}
 use Rattle.sx_commit.specs.Claim.{Claim}
-use Rattle.sx_follow.specs.Chain.{ledger_after_all}
-use Rattle.sx_layout.specs.declared.script.Script.{Script}
-use Rattle.sx_layout.specs.declared.space.NoRoom.{NoRoom}
-use Rattle.sx_layout.specs.declared.space.NoRoom.TheVariants as no_room
-use Rattle.sx_layout.specs.Room.{room_for}
+use Rattle.sx_block.specs.Chain.{ledger_after_all}
+use Rattle.sx_outcome.specs.declared.script.Script.{Script}
+use Rattle.sx_outcome.specs.declared.space.NoRoom.{NoRoom}
+use Rattle.sx_outcome.specs.declared.space.NoRoom.TheVariants as no_room
+use Rattle.sx_outcome.specs.Room.{room_for}
 use Rattle.sx_ledger.specs.declared.parts.Parts.{Parts}
 use Rattle.sx_meaning.specs.Expected.{Expected, IsDoneWith, IsExpected, end_only, item_at, may_end, needed, record_of}
 use Rattle.sx_meaning.specs.Expected.{unread}

@@ -7,14 +7,14 @@ use Rattle.sx_block.specs.Decoding.{block_at}
 use Rattle.sx_block.specs.Encoding.{block_bytes}
 use Rattle.sx_bytes.specs.declared.fault.FormFault.{FormFault}
 use Rattle.sx_commit.specs.Claim.{Claim, IsClaim}
-use Rattle.sx_proof.specs.Decoding.{proof_at}
-use Rattle.sx_proof.specs.Encoding.{claim_bytes}
-use Rattle.sx_layout.specs.declared.outcome.Outcome.{Outcome}
-use Rattle.sx_layout.specs.declared.script.Script.{Script}
-use Rattle.sx_layout.specs.OutcomeDecoding.{outcomes_at}
-use Rattle.sx_layout.specs.Outcomes.{AreOutcomes, outcomes_bytes}
-use Rattle.sx_layout.specs.ScriptDecoding.{script_at}
-use Rattle.sx_layout.specs.Scripts.{IsScript, script_bytes}
+use Rattle.sx_commit.specs.Decoding.{proof_at}
+use Rattle.sx_commit.specs.Encoding.{claim_bytes}
+use Rattle.sx_outcome.specs.declared.outcome.Outcome.{Outcome}
+use Rattle.sx_outcome.specs.declared.script.Script.{Script}
+use Rattle.sx_outcome.specs.OutcomeDecoding.{outcomes_at}
+use Rattle.sx_outcome.specs.Outcomes.{AreOutcomes, outcomes_bytes}
+use Rattle.sx_outcome.specs.ScriptDecoding.{script_at}
+use Rattle.sx_outcome.specs.Scripts.{IsScript, script_bytes}
 use Rattle.sx_ledger.specs.declared.parts.Parts.{Parts}
 use Rattle.sx_state.specs.Decoding.{state_at}
 use Rattle.sx_state.specs.Encoding.{state_bytes}

@@ -2,7 +2,7 @@
 use Rattle.std.specs.Prelude.{◌≡◌, ℕ, ◌<◌, ◌≤◌, List, [], ◌∷◌, length, IsTrue}
 use Rattle.sx_block.specs.declared.header.Block.{Block}
 use Rattle.sx_bytes.specs.Field.{AreBytes}
-use Rattle.sx_follow.specs.Chain.{AreValid, ledger_after_all}
+use Rattle.sx_block.specs.Chain.{AreValid, ledger_after_all}
 use Rattle.sx_ledger.specs.declared.parts.Parts.{Parts}
 use Rattle.sx_ledger.specs.Ledger.{IsLedger, assets_of, total_of}
 use Rattle.sx_meaning.specs.Findings.{Finding, Finds, MayComeAll, no_fault}

@@ -1,9 +1,9 @@
 -- What each command may write, where it finds no fault.
 use Rattle.std.specs.Prelude.{◌≡◌, ℕ, Bool, true, false, List, [], ◌∷◌, Option, None, Some}
-use Rattle.sx_check.specs.Checked.{checked_of}
-use Rattle.sx_follow.specs.Chain.{ledger_after_all}
-use Rattle.sx_kept.specs.Kept.{kept_of}
-use Rattle.sx_layout.specs.Running.{outcomes_of_run}
+use Rattle.sx_block.specs.Checked.{checked_of}
+use Rattle.sx_block.specs.Chain.{ledger_after_all}
+use Rattle.sx_filter.specs.Kept.{kept_of}
+use Rattle.sx_script.specs.Running.{outcomes_of_run}
 use Rattle.sx_ledger.specs.Ledger.{migrated}
 use Rattle.sx_meaning.specs.Findings.{Finds, no_fault}
 use Rattle.sx_meaning.specs.Items.{Item, block, candidates, item_record, outcomes, proof, script, state, state_record}

@@ -1,10 +1,10 @@
 -- What is written of one account, of a proof of one, and of proposed blocks.
 use Rattle.std.specs.Prelude.{◌≡◌, ◌↔◌, ℕ, ◌+◌, ◌==◌, Bool, List, [], ◌∷◌, Option, None, Some, IsTrue, if◌then◌else◌}
 use Rattle.sx_block.specs.declared.header.Block.{Block}
-use Rattle.sx_commit.specs.declared.proof.Proof.{Proof}
+use Rattle.sx_block.specs.declared.proof.Proof.{Proof}
 use Rattle.sx_commit.specs.Claim.{Claim}
 use Rattle.sx_commit.specs.Commitments.{IsGood, root_of, siblings_of}
-use Rattle.sx_follow.specs.Chain.{IsChain, ledger_after_all}
+use Rattle.sx_block.specs.Chain.{IsChain, ledger_after_all}
 use Rattle.sx_ledger.specs.declared.account.Account.{Account}
 use Rattle.sx_ledger.specs.declared.parts.Parts.{Parts}
 use Rattle.sx_meaning.specs.Items.{item_record, proof, state_record}

@@ -2,11 +2,11 @@
 use Rattle.std.specs.Prelude.{◌≡◌, ℕ, List, [], ◌∷◌, ◌++◌, length}
 use Rattle.sx_block.specs.declared.header.Block.{Block}
 use Rattle.sx_block.specs.Validity.{ledger_after}
-use Rattle.sx_check.specs.Checked.{checked_of}
-use Rattle.sx_discovery.specs.Quotes.{posted_at}
+use Rattle.sx_block.specs.Checked.{checked_of}
+use Rattle.sx_multi.specs.Quotes.{posted_at}
 use Rattle.sx_gen.specs.State.{demo_parts}
-use Rattle.sx_layout.specs.declared.outcome.Outcome.{Outcome}
-use Rattle.sx_layout.specs.Gathering.{body_of, decisions}
+use Rattle.sx_outcome.specs.declared.outcome.Outcome.{Outcome}
+use Rattle.sx_outcome.specs.Gathering.{body_of, decisions}
 use Rattle.sx_ledger.specs.declared.parts.Parts.{Parts}
 use Rattle.sx_meaning.specs.Items.{block, candidates, item_record, outcomes, records, state, state_record}
 use Rattle.sx_meaning.specs.Outputs.{MayWrite}

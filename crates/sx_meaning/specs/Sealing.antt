@@ -2,14 +2,14 @@
 use Rattle.std.specs.Prelude.{◌≡◌, ℕ, List, ◌++◌}
 use Rattle.sx_block.specs.declared.header.Block.{Block}
 use Rattle.sx_block.specs.Validity.{IsValid, flow_of_block, high_in, low_in}
-use Rattle.sx_check.specs.Checked.{checked_of}
-use Rattle.sx_clear.specs.Dropping.{DropsExactly}
-use Rattle.sx_discovery.specs.Quotes.{posted_at}
+use Rattle.sx_block.specs.Checked.{checked_of}
+use Rattle.sx_block.specs.Dropping.{DropsExactly}
+use Rattle.sx_multi.specs.Quotes.{posted_at}
 use Rattle.sx_dual.specs.Circulation.{IsGreatest}
 use Rattle.sx_gen.specs.Candidates.{demo_txs}
 use Rattle.sx_gen.specs.State.{demo_parts}
-use Rattle.sx_layout.specs.declared.outcome.Outcome.{Outcome}
-use Rattle.sx_layout.specs.Gathering.{IsGathered}
+use Rattle.sx_outcome.specs.declared.outcome.Outcome.{Outcome}
+use Rattle.sx_outcome.specs.Gathering.{IsGathered}
 use Rattle.sx_ledger.specs.declared.parts.Parts.{Parts}
 use Rattle.sx_ledger.specs.Ledger.{assets_of}
 use Rattle.sx_meaning.specs.Items.{block, item_record, outcomes}

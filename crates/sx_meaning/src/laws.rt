@@ -7,11 +7,9 @@ ghost use Rattle.sx_meaning.specs.ProofLaws.{ProvedIsGood};
 ghost use Rattle.sx_meaning.specs.SealLaws.{DemosAlike, DemosSettle, FiltersAlike, SealsAlike, SealsLeaveTheirMeaning};
 ghost use Rattle.sx_meaning.specs.Settling.{ReplaysSettle, ValidSettles};
 
-use sx_check::check_laws;
+use sx_block::{block_chain_laws, block_effect_laws, check_laws};
 use sx_commit::commitment_laws;
-use sx_follow::follow_laws;
-use sx_kept::kept_laws;
-use sx_laws::block_effect_laws;
+use sx_filter::kept_laws;
 
 /// Of each input one thing is found, for each command: no fault, or one first fault, and one list of
 /// bytes is then left of the input. So the answer to an input is a function of it. Where no fault is found,
@@ -32,7 +30,7 @@ pub fn input_laws()
 {
     check_laws();
     block_effect_laws();
-    follow_laws();
+    block_chain_laws();
     commitment_laws();
     kept_laws();
 }
@@ -54,5 +52,5 @@ pub fn chain_laws()
     ensures follows { FollowsReplays }
 {
     block_effect_laws();
-    follow_laws();
+    block_chain_laws();
 }

@@ -1,3 +1,4 @@
 pub mod Posted
 pub mod Slots
 pub mod Laws
+pub mod Quotes

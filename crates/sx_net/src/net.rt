@@ -187,7 +187,7 @@ impl Net {
         }
     }
 
-    /// The arcs of the path that is kept, from its tail to its head; none where no path is kept.
+    /// The arcs of the path that is kept, from its tail to its head; none if no path is kept.
     pub fn path(&self) -> &[u32]
         ensures { result.now ≡ self.now.path }
     {

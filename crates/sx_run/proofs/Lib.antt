@@ -1,2 +1,12 @@
 pub mod Answering
 pub mod Shown
+pub mod PartLists
+pub mod PuttingPieces
+pub mod StateParts
+pub mod Steps
+pub mod Replays
+pub mod Taking
+pub mod Filterings
+pub mod Accounts
+pub mod ProvedAccounts
+pub mod Demonstrations

@@ -27,18 +27,18 @@
 //! circulations it takes, that two ledgers of one digest are the same, and what a source gave or a sink
 //! received that tells nothing of its bytes.
 //!
-//! The way of the data: `sx_input` (bytes to what records hold); `sx_chain` (the commands `check`, `replay` and
-//! `follow`), `sx_seal` (`seal`), `sx_demo` (`demo`), `sx_choosing` (`filter`), `sx_proving` (`prove` and `verify`),
-//! `interleaving`, `migrating` and `showing` (the other commands); `output` (what a command writes), and `running` (what
-//! a command found to what is written and to a status). What is found of an input is defined in `sx_meaning`, and texts
+//! Data flows from `sx_input` (bytes to what records hold) through `commands` (a file for each command, from what was read
+//! to what is answered) and `output` (what a command writes, some of it in pieces that threads encoded: `pieces`) to
+//! `running` (what a command found to what is written and to a status). What is found of an input is defined in `sx_meaning`, and texts
 //! and statuses are those of `sx_text`.
 #![tactic(auto)]
 
-mod interleaving;
-mod migrating;
+mod candidates_writing;
+mod commands;
 mod output;
+mod pieces;
 mod running;
-mod showing;
+mod state_writing;
 
 pub use running::run;
 pub use sx_meaning::{chain_laws, input_laws};

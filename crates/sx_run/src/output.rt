@@ -4,10 +4,10 @@ ghost use Rattle.std.specs.Prelude.{◌≡◌, ◌≤◌, OnErr, OnOk, IsTrue};
 ghost use Rattle.sx_base.specs.Outside.{Appends, AppendsPrefix, Rose};
 ghost use Rattle.sx_run.specs.Running.{as_bytes, bytes_of};
 
+use crate::pieces::Pieces;
 use sx_base::{Failed, Sink, put_all};
 use sx_bytes::Writer;
 use sx_input::Stop;
-use sx_pieces::Pieces;
 use sx_text::Text as Lines;
 
 // What a command writes.

@@ -79,7 +79,7 @@ impl Shard {
         }
     }
 
-    /// Takes `need` units, at least 1, out of a purse, or answers [`Overdraft`] where the purse has
+    /// Takes `need` units, at least 1, out of a purse, or answers [`Overdraft`] if the purse has
     /// less.
     ///
     /// It takes no memory and waits for nobody: a take that is lost finds less than before.
@@ -105,7 +105,7 @@ impl Shard {
         Err(Overdraft { seen, need })
     }
 
-    /// Claims a bit of a bit word, below 64, or answers [`Held`] where it was set before.
+    /// Claims a bit of a bit word, below 64, or answers [`Held`] if it was set before.
     ///
     /// It takes no memory and waits for nobody.
     pub fn claim(&self, seat: &mut ShardSeat, word: u32, bit: u32) -> Result<(), Held>

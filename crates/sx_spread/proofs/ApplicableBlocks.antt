@@ -6,8 +6,8 @@ use Rattle.sx_block.specs.declared.header.Block.{Block}
 use Rattle.sx_block.specs.Effects.{circulating}
 use Rattle.sx_block.specs.Rule as rule
 use Rattle.sx_block.specs.Validity.{IsApplicable, flow_of_block, ledger_after}
-use Rattle.sx_laws.proofs.Rules.{applicable_fits, applicable_is_body, applicable_is_tradable}
-use Rattle.sx_laws.proofs.TradeTotals.{trade_conserves, trade_keeps_rounding}
+use Rattle.sx_block.proofs.Rules.{applicable_fits, applicable_is_body, applicable_is_tradable}
+use Rattle.sx_block.proofs.TradeTotals.{trade_conserves, trade_keeps_rounding}
 use Rattle.sx_ledger.specs.declared.parts.Parts.{Parts}
 use Rattle.sx_ledger.specs.Body.{IsAdmissibleIn, body_after}
 use Rattle.sx_ledger.specs.Ledger.{IsLedger, assets_of, total_of}

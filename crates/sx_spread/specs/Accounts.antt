@@ -1,7 +1,7 @@
 -- All accounts of a ledger, apart from the rest of it.
 use Rattle.std.specs.Prelude.{◌≡◌, ℕ, List}
-use Rattle.sx_body.specs.declared.tally.Tally.{Tally}
-use Rattle.sx_body.specs.Tally.{IsTallyOfBody}
+use Rattle.sx_tally.specs.declared.tally.Tally.{Tally}
+use Rattle.sx_tally.specs.Tally.{IsTallyOfBody}
 use Rattle.sx_ledger.specs.declared.account.Account.{Account}
 use Rattle.sx_ledger.specs.declared.parts.Parts.{Parts}
 use Rattle.sx_ledger.specs.Ledger.{IsLedger}

@@ -1,9 +1,9 @@
 //! The ledger after a body.
 
 ghost use Rattle.std.specs.Prelude.{◌≡◌, ◌≤◌, List, map, IfOk};
-ghost use Rattle.sx_after.specs.Accounts.{IsAccountAfter, StandsAt, with_known_accounts};
-ghost use Rattle.sx_after.specs.OfferChanges.{changed_by};
-ghost use Rattle.sx_body.specs.Tally.{IsTally, IsTallyOfBody};
+ghost use Rattle.sx_tally.specs.Accounts.{IsAccountAfter, StandsAt, with_known_accounts};
+ghost use Rattle.sx_tally.specs.OfferChanges.{changed_by};
+ghost use Rattle.sx_tally.specs.Tally.{IsTally, IsTallyOfBody};
 ghost use Rattle.sx_ledger.specs.declared.parts.Parts.{Parts as Ledgers};
 ghost use Rattle.sx_ledger.specs.Body.{IsAdmissibleIn, account_after, body_after, offers_after as all_offers};
 ghost use Rattle.sx_ledger.specs.Ledger.{IsLedger};
@@ -13,11 +13,10 @@ ghost use Rattle.sx_tx.specs.declared.tx.Tx.{Tx as Transaction};
 use crate::sharing::sharers;
 use std::alloc::Global;
 use std::thread::Threads;
-use sx_after::{OfferChange, apply_to_account, complete_accounts};
-use sx_body::Tally;
 use sx_bytes::NoMemory;
 use sx_fork::for_each_mut;
 use sx_ledger::{Account, Accounts, Ledger, Parts};
+use sx_tally::{OfferChange, Tally, apply_to_account, complete_accounts};
 
 // Makes each account what it is after the body, in at most so many threads.
 fn change_all<R: Threads + Sync>(
@@ -82,11 +81,11 @@ fn known_after<R: Threads + Sync>(
     }
 }
 
-/// The ledger after the body of a block, before anything trades, where the tally of the body is known and so is what it
-/// changes the offers to: what `precheck` of `sx_body` and `offers_after` of `sx_after` answer. At most `workers`
-/// threads, each with a part of the accounts, change them in place. The accounts that are created come in on one thread.
+/// The ledger after the body of a block, before anything trades, from the tally of the body and from what it changes
+/// the offers to: what `precheck` and `offers_after` of `sx_tally` answer. At most `workers` threads,
+/// each with a part of the accounts, change them in place. The accounts that are created come in on one thread.
 ///
-/// How many workers there are does not change the answer: it is that of [`apply_accounts`](sx_after::apply_accounts).
+/// How many workers there are does not change the answer: it is that of [`apply_accounts`](sx_tally::apply_accounts).
 /// Where there are few accounts, no thread is started. At `NoMemory`, which is the only error, the ledger is gone.
 pub fn par_apply_accounts<R: Threads + Sync>(
     rt: &R,

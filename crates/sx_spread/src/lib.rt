@@ -16,7 +16,7 @@
 //! for another but at the end of each step. Where there is little to do, no thread is started.
 //!
 //! [`par_apply_accounts`] and [`par_execute`] are the two halves of it, for a caller that has no block yet: the ledger
-//! after a body, and the ledger after trading. They answer what `apply_accounts` of `sx_after` and `execute` of
+//! after a body, and the ledger after trading. They answer what `apply_accounts` of `sx_tally` and `execute` of
 //! `sx_apply` do.
 //!
 //! Offers are lessened on one thread: each is copied once, to its place among those that are left, which depends on

@@ -17,11 +17,11 @@ use sx_bytes::NoMemory;
 use sx_ledger::{Accounts, Fill, Ledger, Parts};
 use sx_price::Prices;
 
-/// The ledger after trading at these prices, with this rounding, where it is known what each offer trades: these are
-/// the fills of all its offers, for some flow that can trade. At most `workers` threads, each with a part of the
-/// accounts, credit the sellers with what they get. On one thread offers lose what they give, and those with nothing
-/// left are gone; the rounding is kept, the prices are the ledger's, and the height rises by one. Accounts and offers
-/// change in place.
+/// The ledger after trading at these prices, with this rounding, from what each offer trades: these are the fills of
+/// all its offers, for some flow that can trade. At most `workers` threads, each with a part of the accounts, credit
+/// the sellers with what they get. On one thread offers lose what they give, and those with nothing left are gone;
+/// the rounding is kept, the prices are the ledger's, and the height rises by one. Accounts and offers change in
+/// place.
 ///
 /// How many workers there are does not change the answer: it is that of [`execute`](sx_apply::execute). Where there
 /// are few fills, no thread is started. At `NoMemory`, which is the only error, the ledger is gone.

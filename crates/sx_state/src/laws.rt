@@ -12,9 +12,8 @@ use crate::sizes::LONGEST_STATE;
 use sx_ledger::Ledger;
 
 /// Decoding an account of a state of one version, with one number of assets, answers an account only
-/// where the bytes begin with its encoding, and does so for every encoding. Two accounts of one
-/// encoding are the same, no encoding is a prefix of another, and a fault is not after the end of the
-/// bytes.
+/// if the bytes begin with its encoding, and does so for every encoding. Two accounts of one encoding
+/// are the same, no encoding is a prefix of another, and a fault is not after the end of the bytes.
 pub fn account_laws()
     ensures decodes_only { (version assets : ℕ) →
         DecodesOnlyEncodings (account_at version assets) (account_bytes version) (IsAccount version assets) }

@@ -59,7 +59,7 @@ fn put_account(to: &mut Writer, version: u8, account: &Account) -> Result<(), No
     put_units(to, account.balances.items())
 }
 
-/// Appends the account as a state of this version has it, and nothing where memory runs out.
+/// Appends the account as a state of this version has it, and nothing if memory runs out.
 #[tactic(auto, using(sx_bytes::proofs::Written::begins_cut))]
 pub fn write_account(to: &mut Writer, version: u8, account: &Account) -> Result<(), NoMemory>
     ensures ok { OnOk result (to.new ≡ to.old ++ account_bytes version account.now) }

@@ -2,10 +2,9 @@
 
 use crate::markets::{dropped_bounds, two_sellers};
 use std::test::Fail;
-use sx_block::*;
+use sx_block::{block_effect_laws, fill_laws, limit_laws, trade_laws, *};
 use sx_bytes::Writer;
 use sx_digests::{body_digest, ledger_digest};
-use sx_laws::{block_effect_laws, fill_laws, limit_laws, trade_laws};
 use sx_state::read_state;
 
 #[test]

@@ -7,9 +7,8 @@ use std::alloc::Global;
 use std::test::Fail;
 use std::thread::Threads;
 use sx_bytes::Writer;
-use sx_commit::*;
+use sx_commit::{*, *};
 use sx_ledger::Ledger;
-use sx_proof::*;
 use sx_record::{tag, write_record};
 use sx_state::read_state;
 

@@ -13,8 +13,8 @@ use std::alloc::Global;
 use std::test::Fail;
 use sx_apply::{apply_body, apply_laws, trade};
 use sx_base::AssetId;
-use sx_block::{Block, read_block};
-use sx_check::{CheckFault, Checked, check};
+use sx_block::{Block, Checked, read_block};
+use sx_check::{CheckFault, check};
 use sx_ledger::Ledger;
 use sx_state::read_state;
 

@@ -5,11 +5,11 @@ ghost use Rattle.std.specs.Prelude.{◌≡◌, IfOk};
 use std::alloc::Global;
 use std::test::Fail;
 use sx_bytes::{Form, FormFault, NoMemory, ReadError, Writer};
-use sx_layout::{
+use sx_ledger::Static;
+use sx_outcome::{
     Outcome, OutcomeLog, Outcomes, outcome_laws, outcome_list_laws, read_outcomes, read_script,
     script_laws, write_outcomes, write_packed, write_script,
 };
-use sx_ledger::Static;
 
 // One outcome of each kind: the overdraft saw 40 and needed 60.
 #[rattlefmt::skip]

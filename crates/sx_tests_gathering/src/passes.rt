@@ -2,7 +2,7 @@
 
 ghost use Rattle.std.specs.Prelude.{◌≡◌, ◌+◌, ◌≤◌, [], length, IfOk};
 ghost use Rattle.sx_gather.specs.Passes.{IsPassOf};
-ghost use Rattle.sx_layout.specs.Gathering.{IsGathered};
+ghost use Rattle.sx_outcome.specs.Gathering.{IsGathered};
 ghost use Rattle.sx_workers.specs.Passing.{CanDecide, DecidesRest};
 
 use crate::markets::two_accounts;

@@ -3,8 +3,9 @@
 use crate::markets::{five_accounts, pay};
 use std::alloc::Global;
 use sx_base::{AccountId, AssetId};
-use sx_body::{Overdraft, precheck};
+use sx_ledger::Overdraft;
 use sx_state::read_state;
+use sx_tally::precheck;
 use sx_tx::Tx;
 
 // First 256 payments of one unit: 64 by each of the accounts 1 to 4 to the next of them. Then six payments of 2^62

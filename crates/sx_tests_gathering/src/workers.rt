@@ -8,7 +8,7 @@ use std::alloc::Global;
 use std::sync::atomic::{AtomicBool, Ordering};
 use std::test::Fail;
 use std::thread::Threads;
-use sx_layout::Outcome;
+use sx_outcome::Outcome;
 use sx_state::read_state;
 use sx_tx::{Tx, TxList};
 use sx_workers::{Gate, NoGate, gather_all, gather_list};

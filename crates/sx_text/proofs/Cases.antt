@@ -5,9 +5,9 @@ use Rattle.std.specs.Fmt.{digits}
 use Rattle.hex.specs.Hex.{encode_with}
 use Rattle.sx_block.specs.declared.header.Block.{Block}
 use Rattle.sx_bytes.specs.declared.fault.Form.TheVariants as form
-use Rattle.sx_check.specs.declared.invalid.Invalid.TheVariants as invalid
-use Rattle.sx_commit.specs.declared.proof.Proof.{Proof}
-use Rattle.sx_layout.specs.declared.outcome.Outcome.TheVariants as outcome
+use Rattle.sx_block.specs.declared.invalid.Invalid.TheVariants as invalid
+use Rattle.sx_block.specs.declared.proof.Proof.{Proof}
+use Rattle.sx_outcome.specs.declared.outcome.Outcome.TheVariants as outcome
 use Rattle.sx_ledger.specs.declared.account.Account.{Account}
 use Rattle.sx_ledger.specs.declared.parts.Parts.{Parts}
 use Rattle.sx_ledger.specs.declared.statics.Static.TheVariants.{SeqBeyond}

@@ -2,9 +2,9 @@
 use Rattle.std.specs.Prelude.{ℕ, List, ◌++◌, codes, length}
 use Rattle.std.specs.Fmt.{decimal}
 use Rattle.std.specs.List.{flat_map}
-use Rattle.sx_layout.specs.declared.outcome.Outcome.{Outcome}
-use Rattle.sx_layout.specs.declared.outcome.Outcome.TheVariants as outcome
-use Rattle.sx_layout.specs.declared.script.Script.{Script}
+use Rattle.sx_outcome.specs.declared.outcome.Outcome.{Outcome}
+use Rattle.sx_outcome.specs.declared.outcome.Outcome.TheVariants as outcome
+use Rattle.sx_outcome.specs.declared.script.Script.{Script}
 use Rattle.sx_ledger.specs.Static.{number_of_static}
 use Rattle.sx_text.specs.Pieces.{count_line, indexed, line}
 

@@ -8,10 +8,9 @@ use crate::lines::{put_digest, put_spaced, put_word};
 use crate::text::Text;
 use crate::validity::bounds;
 use std::alloc::Global;
-use sx_block::Header;
+use sx_block::{Checked, Header};
 use sx_bytes::NoMemory;
-use sx_check::Checked;
-use sx_layout::{Outcome, Outcomes};
+use sx_outcome::{Outcome, Outcomes};
 
 fn is_accepted(outcome: &Outcome) -> bool
     ensures { result ≡ is_taken outcome.now }

@@ -7,8 +7,8 @@ use crate::reasons::put_reason;
 use crate::status::Status;
 use crate::text::Text;
 use std::alloc::Global;
+use sx_block::Invalid;
 use sx_bytes::{FormFault, NoMemory};
-use sx_check::Invalid;
 
 fn usage(alloc: Global) -> Result<String, NoMemory>
     ensures { IfOk result (λ text. string_bytes text ≡ status_text Status.Usage) }

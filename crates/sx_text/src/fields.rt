@@ -6,9 +6,8 @@ ghost use Rattle.sx_text.specs.Texts.{cut_text, fields_text, have_said, pair_tex
 
 use crate::lines::put_word;
 use sx_base::{AccountId, AssetId};
-use sx_block::Digest;
+use sx_block::{Digest, Invalid};
 use sx_bytes::NoMemory;
-use sx_check::Invalid;
 use sx_dual::Cut;
 use sx_ledger::Static;
 

@@ -7,8 +7,8 @@ ghost use Rattle.sx_text.specs.Pieces.{indexed};
 
 use crate::lines::{put_count, put_word};
 use sx_bytes::NoMemory;
-use sx_layout::{Outcome, Script};
 use sx_ledger::Static;
+use sx_outcome::{Outcome, Script};
 
 fn put_refusal(to: &mut String, why: Static) -> Result<(), NoMemory>
     ensures { OnOk result (string_bytes to.new ≡ string_bytes to.old ++ outcome_text (Outcome.Static why)) }

@@ -8,8 +8,8 @@ use crate::fields::{
     put_overspending, put_refused, put_rounding, put_slack, put_unbalance,
 };
 use crate::lines::put_word;
+use sx_block::Invalid;
 use sx_bytes::NoMemory;
-use sx_check::Invalid;
 
 fn name(why: &Invalid) -> &'static str
     ensures { result.now ≡ name_of why.now }

@@ -14,8 +14,8 @@ use std::alloc::Global;
 use std::thread::Threads;
 use sx_block::Block;
 use sx_bytes::NoMemory;
-use sx_layout::{Outcomes, Script};
 use sx_ledger::Ledger;
+use sx_outcome::{Outcomes, Script};
 use sx_tx::TxList;
 
 /// What a record holds, by its tag.

@@ -3,8 +3,8 @@
 ghost use Rattle.std.specs.Prelude.{◌≡◌};
 ghost use Rattle.sx_text.specs.Status.{code_of};
 
+use sx_block::Invalid;
 use sx_bytes::FormFault;
-use sx_check::Invalid;
 
 /// How a run ended.
 #[derive(Clone, Copy, Debug, PartialEq, Eq)]

@@ -5,8 +5,8 @@ ghost use Rattle.sx_text.specs.Texts.{bounds_text, checked_text};
 
 use crate::text::Text;
 use std::alloc::Global;
+use sx_block::Checked;
 use sx_bytes::NoMemory;
-use sx_check::Checked;
 
 // What became of the lower bounds.
 pub(crate) fn bounds(dropped: bool) -> &'static str

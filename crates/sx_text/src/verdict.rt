@@ -5,9 +5,8 @@ ghost use Rattle.sx_text.specs.Verdict.{proof_text, verdict_text};
 
 use crate::text::Text;
 use std::alloc::Global;
-use sx_block::Digest;
+use sx_block::{Digest, Proof};
 use sx_bytes::NoMemory;
-use sx_commit::Proof;
 
 // What a proof was found to be.
 fn word(good: bool) -> &'static str

@@ -13,10 +13,10 @@ use crate::tx::Tx;
 use crate::tx_list::MOST_TRANSACTIONS;
 use crate::window::Window;
 
-/// Decoding a transaction answers a transaction only where the bytes begin with its encoding, and
-/// does so for every encoding. Two transactions of one encoding are the same, no encoding is a prefix
-/// of another, and the kind alone says how many bytes there are, never fewer than `Tx::LEAST_BYTES`.
-/// A fault is not after the end of the bytes.
+/// Decoding a transaction answers a transaction only if the bytes begin with its encoding, and does
+/// so for every encoding. Two transactions of one encoding are the same, no encoding is a prefix of
+/// another, and the kind alone says how many bytes there are, never fewer than `Tx::LEAST_BYTES`. A
+/// fault is not after the end of the bytes.
 pub fn tx_laws()
     ensures decodes_only { DecodesOnlyEncodings tx_at tx_bytes IsTx }
     ensures decodes_every { DecodesEveryEncoding tx_at tx_bytes IsTx }

@@ -54,7 +54,7 @@ impl Setting {
         }
     }
 
-    /// Its number where it is not given.
+    /// Its number if it is not given.
     pub fn default(self) -> u32
         ensures value { result ≡ default_of self }
         ensures least { least_of self ≤ result }

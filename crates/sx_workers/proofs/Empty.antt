@@ -5,9 +5,9 @@ use Rattle.std.specs.List.{IsDistinct}
 use Rattle.std.proofs.lemmas.Bool.{ltb-false}
 use Rattle.std.proofs.lemmas.List.Elements.{All-nil}
 use Rattle.std.proofs.lemmas.Option.{none-some}
-use Rattle.sx_layout.specs.declared.space.NoRoom.{NoRoom}
-use Rattle.sx_layout.specs.Gathering.{IsGathered}
-use Rattle.sx_layout.specs.Room.{room_for}
+use Rattle.sx_outcome.specs.declared.space.NoRoom.{NoRoom}
+use Rattle.sx_outcome.specs.Gathering.{IsGathered}
+use Rattle.sx_outcome.specs.Room.{room_for}
 use Rattle.sx_ledger.specs.declared.parts.Parts.{Parts}
 use Rattle.sx_ledger.specs.Body.{IsAdmissible}
 use Rattle.sx_ledger.specs.Ledger.{most_accounts, most_height, most_offers}

@@ -1,7 +1,7 @@
 -- The passes of the workers, before and after they work.
 use Rattle.std.specs.Prelude.{◌≡◌, ℕ, ◌+◌, ◌-◌, ◌<◌, ◌≤◌, List, length, slice_index_or, Option, Some, None}
 use Rattle.sx_gather.specs.Passes.{Gathering, Passing, IsPassOf}
-use Rattle.sx_layout.specs.Actors.{part_begin}
+use Rattle.sx_script.specs.Actors.{part_begin}
 
 -- there is a pass, and it is such a one
 abbrev pub IsHeld : (Passing → Type 0) → Option Passing → Type 0

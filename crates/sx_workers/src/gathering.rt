@@ -3,9 +3,9 @@
 ghost use Rattle.std.specs.Prelude.{◌≡◌, ◌+◌, ◌<◌, ◌≤◌, [], length, vec_len, IfOk, IfErr, Err};
 ghost use Rattle.sx_gather.specs.Passes.{IsPassOf};
 ghost use Rattle.sx_gather.specs.Start.{fault_of as the_fault, IsFaultOf};
-ghost use Rattle.sx_layout.specs.declared.space.NoRoom.{NoRoom as WhyNoRoom};
-ghost use Rattle.sx_layout.specs.Gathering.{IsGathered};
-ghost use Rattle.sx_layout.specs.Room.{room_for};
+ghost use Rattle.sx_outcome.specs.declared.space.NoRoom.{NoRoom as WhyNoRoom};
+ghost use Rattle.sx_outcome.specs.Gathering.{IsGathered};
+ghost use Rattle.sx_outcome.specs.Room.{room_for};
 ghost use Rattle.sx_tx.specs.Transactions.{most_transactions};
 ghost use Rattle.sx_workers.specs.Passing.{AreHeld, IsDone};
 
@@ -15,8 +15,8 @@ use crate::working::work_all;
 use std::alloc::Global;
 use std::thread::Threads;
 use sx_gather::{Gather, GatherFault, Pass, Sealed, par_seal_list, seal_list};
-use sx_layout::{OutcomeLog, room};
 use sx_ledger::Ledger;
+use sx_outcome::{OutcomeLog, room};
 use sx_tx::{Tx, TxList};
 
 // All passes joined, in the order of their parts.

@@ -2,7 +2,7 @@
 
 ghost use Rattle.std.specs.Prelude.{◌≡◌, ◌+◌, ◌<◌, ◌≤◌, length, max, vec_len, IfOk};
 ghost use Rattle.sx_gather.specs.Passes.{IsPassOf};
-ghost use Rattle.sx_layout.specs.Actors.{working as at_work, part_begin as the_begin};
+ghost use Rattle.sx_script.specs.Actors.{working as at_work, part_begin as the_begin};
 ghost use Rattle.sx_tx.specs.Transactions.{most_transactions};
 ghost use Rattle.sx_workers.specs.Passing.{AreHeld, IsWaiting};
 

@@ -3,19 +3,19 @@
 ghost use Rattle.std.specs.Prelude.{◌≡◌, ◌+◌, ◌<◌, ◌≤◌, true, false, IfOk, IfSome, OnErr, OnOk};
 ghost use Rattle.std.specs.List.{All};
 ghost use Rattle.sx_block.specs.Validity.{digest_of_ledger};
-ghost use Rattle.sx_ahead.specs.Ahead.{IsBatch, IsRight};
-ghost use Rattle.sx_ahead.specs.Bodies.{AreBodies};
-ghost use Rattle.sx_follow.specs.Chain.{NoneIsValid};
+ghost use Rattle.sx_follow.specs.Ahead.{IsBatch, IsRight};
+ghost use Rattle.sx_follow.specs.Bodies.{AreBodies};
+ghost use Rattle.sx_block.specs.Chain.{NoneIsValid};
 ghost use Rattle.sx_follow.specs.Follower.{Advances, HasWholeChain, IsFollower};
 
+use crate::ahead::{Batch, Bodies, Hashed, ahead, goes_ahead, hash_and_apply, keep_states};
+use crate::choosing::first_named;
 use crate::follower::Follower;
+use crate::spreading::{is_long, par_step};
 use std::mem;
 use std::thread::Threads;
-use sx_ahead::{Batch, Bodies, Hashed, ahead, goes_ahead, hash_and_apply, keep_states};
+use sx_block::validity_laws;
 use sx_bytes::NoMemory;
-use sx_laws::validity_laws;
-use sx_step::{is_long, par_step};
-use sx_waiting::first_named;
 
 impl Follower {
     // The same as `advance`, with so many workers for a block of many transactions.

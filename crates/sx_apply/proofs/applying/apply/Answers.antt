@@ -4,7 +4,7 @@ use Rattle.sx_apply.proofs.applying.apply.Goals as goal
 use Rattle.sx_block.specs.Rule as rule
 use Rattle.sx_block.specs.Validity.{flow_of_block}
 use Rattle.sx_fill.specs.AllFills.{all_fills}
-use Rattle.sx_laws.proofs.Rules.{applicable_is_body, applicable_is_tradable}
+use Rattle.sx_block.proofs.Rules.{applicable_is_body, applicable_is_tradable}
 use Rattle.sx_ledger.specs.declared.parts.Parts.{Parts}
 use Rattle.sx_ledger.specs.Body.{body_after}
 use Rattle.sx_ledger.specs.Trade.{traded}

@@ -1,7 +1,7 @@
 use Rattle.std.proofs.Common.{◌≡◌, ◌<◌, length, sym, ◌∙◌, arith}
 use Rattle.std.proofs.lemmas.Grind.{same_number_lists}
 use Rattle.sx_apply.proofs.trading.add_each.Goals as goal
-use Rattle.sx_laws.proofs.TradeTotals.{added_at, added_length}
+use Rattle.sx_block.proofs.TradeTotals.{added_at, added_length}
 use Rattle.sx_ledger.specs.Trade.{added}
 
 pub returns : goal.returns

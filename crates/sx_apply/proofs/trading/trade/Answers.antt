@@ -6,7 +6,7 @@ use Rattle.sx_apply.proofs.trading.trade.Goals as goal
 use Rattle.sx_block.specs.Effects.{circulating}
 use Rattle.sx_dual.specs.Tables.{value_of}
 use Rattle.sx_fill.specs.AllFills.{all_fills}
-use Rattle.sx_laws.proofs.TradeTotals.{trade_falls_by_rounding, trade_keeps_rounding}
+use Rattle.sx_block.proofs.TradeTotals.{trade_falls_by_rounding, trade_keeps_rounding}
 use Rattle.sx_ledger.specs.declared.parts.Parts.{Parts}
 use Rattle.sx_ledger.specs.Ledger.{assets_of}
 use Rattle.sx_ledger.specs.Trade.{traded}

@@ -1,4 +1,4 @@
-use Rattle.sx_laws.proofs.Rules.{past_parent}
+use Rattle.sx_block.proofs.Rules.{past_parent}
 use Rattle.sx_check.proofs.judging.judge_applicable.Goals as goal
 
 pub check_header-requires-clause-height : goal.check_header-requires-clause-height

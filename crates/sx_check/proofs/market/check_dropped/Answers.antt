@@ -1,10 +1,10 @@
 use Rattle.std.proofs.Common.{refl}
 use Rattle.sx_block.specs.Rule as rule
 use Rattle.sx_block.specs.Validity.{high_in, undropped_low_in}
-use Rattle.sx_bounds.proofs.SameBounds.{cut_back, cut_from}
-use Rattle.sx_check.proofs.MarketLaws.{cut_holds, dropped_bounds}
+use Rattle.sx_fill.proofs.SameBounds.{cut_back, cut_from}
+use Rattle.sx_check.proofs.BoundLaws.{cut_holds, dropped_bounds}
 use Rattle.sx_check.proofs.market.check_dropped.Goals as goal
-use Rattle.sx_laws.proofs.Rules.{one_more_but}
+use Rattle.sx_block.proofs.Rules.{one_more_but}
 use Rattle.sx_ledger.specs.Ledger.{assets_of}
 
 pub check_fit-requires-clause-bounds : goal.check_fit-requires-clause-bounds

@@ -1,8 +1,8 @@
 use Rattle.std.proofs.Common.{refl, sym, subst, ◌∙◌, arith}
 use Rattle.sx_block.specs.Validity.{flow_of_block, high_in, low_in}
-use Rattle.sx_check.specs.Refusals.{RefusesButParent}
-use Rattle.sx_bounds.proofs.SameBounds.{fits_from, misfit_from}
-use Rattle.sx_check.proofs.MarketLaws.{fit_holds, misfit_refuses}
+use Rattle.sx_block.specs.Refusals.{RefusesButParent}
+use Rattle.sx_fill.proofs.SameBounds.{fits_from, misfit_from}
+use Rattle.sx_block.proofs.MarketLaws.{fit_holds, misfit_refuses}
 use Rattle.sx_check.proofs.OfferLaws.{flow_assets, one_potential}
 use Rattle.sx_check.proofs.market.check_fit.Goals as goal
 use Rattle.sx_dual.specs.Tables.{potential_of}

@@ -1,6 +1,6 @@
 use Rattle.std.proofs.Common.{◌∙◌}
 use Rattle.std.proofs.lemmas.Result.{IfOk-weaker}
-use Rattle.sx_discovery.specs.Quotes.{quotes_of}
+use Rattle.sx_multi.specs.Quotes.{quotes_of}
 use Rattle.sx_clear.proofs.clearing.clear.Goals as goal
 use Rattle.sx_ledger.specs.Body.{body_after}
 

@@ -1,14 +1,14 @@
 use Rattle.std.proofs.Common.{List, Ok, length, refl, ap, subst, ◌∙◌}
 use Rattle.sx_bytes.specs.declared.memory.NoMemory.{NoMemory}
-use Rattle.sx_discovery.specs.Found.{IsBodyOf}
-use Rattle.sx_discovery.specs.Quotes.{posted_at, quotes_of}
+use Rattle.sx_clear.specs.Found.{IsBodyOf}
+use Rattle.sx_multi.specs.Quotes.{posted_at, quotes_of}
 use Rattle.sx_clear.specs.Trading.{IsCountedAt, IsTrading}
 use Rattle.sx_clear.proofs.BlockLaws.{drops_exactly}
-use Rattle.sx_discovery.proofs.PriceLaws.{mends_from, posted_length}
+use Rattle.sx_clear.proofs.PriceLaws.{mends_from, posted_length}
 use Rattle.sx_clear.proofs.Tradings.{counted_block, terms_of}
 use Rattle.sx_clear.proofs.clearing.clear_many.Goals as goal
 use Rattle.sx_dual.specs.Tables.{value_of}
-use Rattle.sx_laws.proofs.ValidBlocks.{block_trades_most}
+use Rattle.sx_block.proofs.ValidBlocks.{block_trades_most}
 use Rattle.sx_ledger.specs.Body.{body_after}
 use Rattle.sx_tx.specs.declared.tx.Tx.{Tx}
 

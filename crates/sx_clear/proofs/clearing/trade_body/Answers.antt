@@ -1,6 +1,6 @@
 use Rattle.std.proofs.Common.{sym, ◌∙◌}
 use Rattle.sx_clear.proofs.BlockLaws.{can_trade}
-use Rattle.sx_discovery.proofs.OfferLaws.{middle_is, offers_is}
+use Rattle.sx_clear.proofs.OfferLaws.{middle_is, offers_is}
 use Rattle.sx_clear.proofs.Tradings.{counted_at, is_trading, traded_at}
 use Rattle.sx_clear.proofs.clearing.trade_body.Goals as goal
 

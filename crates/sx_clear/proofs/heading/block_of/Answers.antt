@@ -3,7 +3,7 @@ use Rattle.sx_block.specs.declared.header.Block.{Block}
 use Rattle.sx_block.specs.Block.{IsBlock}
 use Rattle.sx_clear.proofs.BlockLaws.{rounding_small}
 use Rattle.sx_clear.proofs.heading.block_of.Goals as goal
-use Rattle.sx_laws.proofs.Rules.{fitting_is_sound, header_rules, sound_is_valid}
+use Rattle.sx_block.proofs.Rules.{fitting_is_sound, header_rules, sound_is_valid}
 use Rattle.sx_ledger.proofs.BodyKeepsLedger.{body_keeps_ledger}
 
 pub returns-clause-valid : goal.returns-clause-valid

@@ -1,8 +1,8 @@
 use Rattle.std.proofs.Common.{◌≡◌, ◌≤◌, List, Ok, length, sym, subst, rules}
-use Rattle.sx_kept.proofs.Few.{kept_is_few}
-use Rattle.sx_kept.proofs.KeptLaws.{kept_is_admissible}
+use Rattle.sx_filter.proofs.Few.{kept_is_few}
+use Rattle.sx_filter.proofs.KeptLaws.{kept_is_admissible}
 use Rattle.sx_filter.proofs.filtering.filter_list.Goals as goal
-use Rattle.sx_layout.specs.Room.{room_for}
+use Rattle.sx_outcome.specs.Room.{room_for}
 use Rattle.sx_ledger.specs.Body.{IsAdmissible}
 use Rattle.sx_tx.specs.declared.tx.Tx.{Tx}
 

@@ -1,5 +1,5 @@
 use Rattle.std.proofs.Common.{arith}
-use Rattle.sx_ranges.proofs.AdditionLaws.{few_accounts, few_offers}
+use Rattle.sx_filter.proofs.AdditionLaws.{few_accounts, few_offers}
 use Rattle.sx_filter.proofs.filtering.prepared_with_room.Goals as goal
 
 pub room_for_additions-requires-clause-accounts : goal.room_for_additions-requires-clause-accounts

@@ -1,6 +1,6 @@
 use Rattle.std.proofs.Common.{◌≡◌, length}
-use Rattle.sx_sift.specs.Sifted.{IsSifted, TxVec}
-use Rattle.sx_sift.specs.declared.sifting.Sifted.{Sifted}
+use Rattle.sx_filter.specs.Sifted.{IsSifted, TxVec}
+use Rattle.sx_filter.specs.declared.sift.sifting.Sifted.{Sifted}
 use Rattle.sx_filter.proofs.Pairs.{ArePairs}
 use Rattle.sx_filter.proofs.joining.each_sifted.Given as goal
 

@@ -1,6 +1,6 @@
 use Rattle.std.proofs.Common.{◌≡◌}
 use Rattle.std.specs.List.{flat_map}
-use Rattle.sx_sift.specs.declared.sifting.Sifted.{Sifted}
+use Rattle.sx_filter.specs.declared.sift.sifting.Sifted.{Sifted}
 use Rattle.sx_filter.proofs.joining.joined.Given as goal
 
 abbrev pub invariant-loop-one : goal.invariant-loop-one

@@ -1,8 +1,8 @@
 use Rattle.std.proofs.Common.{◌≡◌, ◌<◌, List, length, ap, sym, ◌∙◌, arith}
 use Rattle.std.specs.Prelude.{vec_len, not}
 use Rattle.std.proofs.lemmas.List.Filters.{FiltersInPlace-more_here, FiltersInPlace-more_no, FiltersInPlace-more_set}
-use Rattle.sx_kept.specs.Alone.{is_new}
-use Rattle.sx_sift.specs.Named.{AreIds}
+use Rattle.sx_filter.specs.Alone.{is_new}
+use Rattle.sx_filter.specs.Named.{AreIds}
 use Rattle.sx_filter.proofs.keeping.drop_taken.Goals as goal
 use Rattle.sx_filter.proofs.keeping.drop_taken.Goals.{then-not-is_id_taken, then-kept-place, else-kept-place}
 use Rattle.sx_filter.proofs.keeping.drop_taken.Goals.{else-not-is_id_taken}

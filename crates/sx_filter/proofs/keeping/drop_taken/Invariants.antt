@@ -1,8 +1,8 @@
 use Rattle.std.proofs.Common.{◌≡◌, ◌≤◌, List}
 use Rattle.std.specs.Prelude.{vec_len}
 use Rattle.std.proofs.lemmas.List.Filters.{FiltersInPlace}
-use Rattle.sx_kept.specs.Alone.{is_new}
-use Rattle.sx_sift.specs.Named.{AreIds}
+use Rattle.sx_filter.specs.Alone.{is_new}
+use Rattle.sx_filter.specs.Named.{AreIds}
 use Rattle.sx_filter.proofs.keeping.drop_taken.Given as goal
 use Rattle.sx_tx.specs.declared.tx.Tx.{Tx}
 

@@ -1,7 +1,7 @@
 use Rattle.std.proofs.Common.{◌≡◌, ap, sym, ◌∙◌}
 use Rattle.std.specs.List.{filter}
-use Rattle.sx_kept.specs.Alone.{is_new}
-use Rattle.sx_sift.specs.Sifted.{TxVec}
+use Rattle.sx_filter.specs.Alone.{is_new}
+use Rattle.sx_filter.specs.Sifted.{TxVec}
 use Rattle.sx_filter.proofs.KeptParts.{new_of_each}
 use Rattle.sx_filter.proofs.keeping.drop_taken_of_each.Goals as goal
 

@@ -1,4 +1,4 @@
-use Rattle.sx_sift.specs.Sifted.{in_lists}
+use Rattle.sx_filter.specs.Sifted.{in_lists}
 use Rattle.sx_filter.proofs.KeptParts.{all_new}
 use Rattle.sx_filter.proofs.keeping.drop_taken_where_any.Goals as goal
 use Rattle.sx_ledger.specs.Body.{created}

@@ -2,10 +2,10 @@ use Rattle.std.proofs.Common.{◌≡◌, ℕ, List, nat_cmp, subst, ap, ◌∙�
 use Rattle.std.proofs.lemmas.List.{with_items_is}
 use Rattle.std.proofs.lemmas.Result.{IfOk-weaker}
 use Rattle.std.specs.List.{filter}
-use Rattle.sx_kept.specs.Alone.{is_new}
-use Rattle.sx_kept.specs.Kept.{kept_of}
-use Rattle.sx_sift.specs.Named.{AreIds, IsSeen}
-use Rattle.sx_sift.specs.Sifted.{TxVec, in_lists}
+use Rattle.sx_filter.specs.Alone.{is_new}
+use Rattle.sx_filter.specs.Kept.{kept_of}
+use Rattle.sx_filter.specs.Named.{AreIds, IsSeen}
+use Rattle.sx_filter.specs.Sifted.{TxVec, in_lists}
 use Rattle.sx_filter.proofs.KeptParts.{new_kept, sifted_joined}
 use Rattle.sx_filter.proofs.keeping.kept_in_parts.Goals as goal
 use Rattle.sx_tx.specs.declared.tx.Tx.{Tx}

@@ -1,8 +1,8 @@
 use Rattle.std.proofs.Common.{◌≡◌, ℕ, ◌<◌, get_or, take}
 use Rattle.std.specs.Prelude.{vec_len}
 use Rattle.sx_filter.specs.Bands.{in_band}
-use Rattle.sx_ranges.specs.ByRange.{pieces}
-use Rattle.sx_sift.specs.Sifted.{TxVec}
+use Rattle.sx_filter.specs.ByRange.{pieces}
+use Rattle.sx_filter.specs.Sifted.{TxVec}
 use Rattle.sx_filter.proofs.parting.select.Given as goal
 
 abbrev pub invariant-loop-part : goal.invariant-loop-part

@@ -1,6 +1,6 @@
 use Rattle.std.proofs.Common.{◌≡◌, ℕ, ◌<◌, ◌++◌, get_or, length, take}
 use Rattle.sx_filter.specs.Bands.{in_band}
-use Rattle.sx_sift.specs.Sifted.{TxVec}
+use Rattle.sx_filter.specs.Sifted.{TxVec}
 use Rattle.sx_filter.proofs.parting.select_from.Given as goal
 
 abbrev pub invariant-loop-tx : goal.invariant-loop-tx

@@ -2,13 +2,13 @@ use Rattle.std.proofs.Common.{◌≡◌, ◌<◌, List, arith, get_or, length, s
 use Rattle.std.specs.Prelude.{vec_len}
 use Rattle.std.proofs.lemmas.Result.{IfOk-weaker}
 use Rattle.sx_filter.specs.Bands.{band_among}
-use Rattle.sx_ranges.specs.ByRange.{pieces}
+use Rattle.sx_filter.specs.ByRange.{pieces}
 use Rattle.sx_filter.specs.Classes.{AreClasses}
 use Rattle.sx_filter.specs.Joined.{AreSiftedParts, IsJoined}
-use Rattle.sx_sift.specs.Sifted.{IsSifted}
+use Rattle.sx_filter.specs.Sifted.{IsSifted}
 use Rattle.sx_filter.proofs.BandLaws.{bands_are}
 use Rattle.sx_filter.proofs.KeptParts.{sifted_joined}
-use Rattle.sx_sift.proofs.Picking.{element}
+use Rattle.sx_filter.proofs.Picking.{element}
 use Rattle.sx_filter.proofs.parting.sifted_range.Goals as goal
 use Rattle.sx_tx.specs.declared.tx.Tx.{Tx}
 

@@ -1,9 +1,9 @@
 use Rattle.std.proofs.Common.{◌≡◌, Ok, map, arith}
 use Rattle.std.proofs.lemmas.Result.{IfOk-weaker}
 use Rattle.sx_filter.specs.SiftedRanges.{AreSiftedRanges}
-use Rattle.sx_ranges.specs.ByRange.{pieces}
-use Rattle.sx_sift.specs.Sifted.{IsSifted}
-use Rattle.sx_ranges.proofs.Results.{as_many, found_each}
+use Rattle.sx_filter.specs.ByRange.{pieces}
+use Rattle.sx_filter.specs.Sifted.{IsSifted}
+use Rattle.sx_filter.proofs.Results.{as_many, found_each}
 use Rattle.sx_filter.proofs.parting.sifted_ranges.Goals as goal
 
 pub returns : goal.returns

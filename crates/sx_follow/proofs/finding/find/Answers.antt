@@ -4,8 +4,8 @@ use Rattle.std.proofs.lemmas.List.{get_or_default}
 use Rattle.sx_block.specs.declared.header.Block.{Block}
 use Rattle.sx_block.specs.Block.{IsBlock}
 use Rattle.sx_block.specs.Validity.{IsValid}
-use Rattle.sx_step.specs.Leaves.{Leaves}
-use Rattle.sx_waiting.proofs.HeightPlaces.{places_within}
+use Rattle.sx_follow.specs.Leaves.{Leaves}
+use Rattle.sx_follow.proofs.HeightPlaces.{places_within}
 use Rattle.sx_follow.proofs.NextBlock.{first_valid, none_valid}
 use Rattle.sx_follow.proofs.finding.find.Goals as goal
 

@@ -1,6 +1,6 @@
 use Rattle.sx_follow.proofs.InTurn.{one_more}
 use Rattle.sx_follow.proofs.in_turn.apply_in_turn.Goals as goal
-use Rattle.sx_step.specs.Leaves.{Leaves}
+use Rattle.sx_follow.specs.Leaves.{Leaves}
 
 pub loop-index-preserved : goal.loop-index-preserved
 loop-index-preserved c =

@@ -1,5 +1,5 @@
-use Rattle.sx_follow.proofs.Chains.{chain_grows, one_chain, part_goes_as_far}
-use Rattle.sx_follow.proofs.Existence.{every_list_has_chain, valid_are_chain}
+use Rattle.sx_block.proofs.Chains.{chain_grows, one_chain, part_goes_as_far}
+use Rattle.sx_block.proofs.Existence.{every_list_has_chain, valid_are_chain}
 use Rattle.sx_follow.proofs.Followers.{followers_agree, followers_replay}
 use Rattle.sx_follow.proofs.laws.follow_laws.Goals as goal
 

@@ -1,9 +1,9 @@
 use Rattle.std.proofs.Common.{◌≡◌, ◌<◌, List, length, get_or, Option, Some, sym, ap, subst, ◌∙◌, arith}
 use Rattle.std.specs.Prelude.{slice_get, vec_len, IfSome}
 use Rattle.std.proofs.lemmas.Option.{slice_get-get_or}
-use Rattle.sx_layout.specs.declared.outcome.Outcome.{Outcome}
-use Rattle.sx_layout.specs.declared.outcome.Outcome.TheVariants as outcome
-use Rattle.sx_layout.specs.Gathering.{is_accepted}
+use Rattle.sx_outcome.specs.declared.outcome.Outcome.{Outcome}
+use Rattle.sx_outcome.specs.declared.outcome.Outcome.TheVariants as outcome
+use Rattle.sx_outcome.specs.Gathering.{is_accepted}
 use Rattle.sx_tx.specs.declared.tx.Tx.{Tx}
 use Rattle.sx_gather.proofs.Decided.{accepted_none}
 use Rattle.sx_gather.proofs.Keeping.{kept_more, left_out}

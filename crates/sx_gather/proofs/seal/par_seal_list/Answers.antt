@@ -1,7 +1,7 @@
 use Rattle.std.proofs.Common.{◌≡◌, List, sym, subst, ◌∙◌, arith}
 use Rattle.std.specs.List.Sorted.{IsPermutation}
 use Rattle.std.proofs.lemmas.List.{with_items_is}
-use Rattle.sx_layout.specs.Gathering.{IsGathered, accepted, decisions}
+use Rattle.sx_outcome.specs.Gathering.{IsGathered, accepted, decisions}
 use Rattle.sx_tx.specs.declared.tx.Tx.{Tx}
 use Rattle.sx_gather.proofs.seal.par_seal_list.Goals as goal
 

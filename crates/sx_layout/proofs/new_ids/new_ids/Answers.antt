@@ -6,7 +6,7 @@ use Rattle.std.proofs.lemmas.List.Sorted.{list_any-IsPermutation}
 use Rattle.std.proofs.lemmas.Map.Keys.{IsStrictlyIncreasing-dedup}
 use Rattle.sx_ledger.specs.Body.{created, created_by}
 use Rattle.sx_layout.specs.NewIds.{each_once}
-use Rattle.sx_layout.proofs.Counts.{length-filter_map}
+use Rattle.sx_outcome.proofs.Counts.{length-filter_map}
 use Rattle.sx_layout.proofs.RisingNumbers.{one_list, rising_from, rising_each_once, has_dedup, has_each_once, has}
 use Rattle.sx_layout.proofs.new_ids.new_ids.Goals as goal
 

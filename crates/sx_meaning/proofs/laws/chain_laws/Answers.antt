@@ -40,4 +40,4 @@ returns-clause-demos c =
     laws.falls laws.keeps_rounding)
 
 pub returns-clause-follows : goal.returns-clause-follows
-returns-clause-follows c = follows_replays c.follow_laws.ensures.chain
+returns-clause-follows c = follows_replays c.block_chain_laws.ensures.chain

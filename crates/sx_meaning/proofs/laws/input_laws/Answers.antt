@@ -15,10 +15,10 @@ returns-clause-some c = finds_some c.check_laws.ensures.judged c.block_effect_la
 pub returns-clause-one_output : goal.returns-clause-one_output
 returns-clause-one_output c =
     writes_one_text c.check_laws.ensures.one_reason c.check_laws.ensures.valid_is_not_refused
-    c.follow_laws.ensures.one
+    c.block_chain_laws.ensures.one
 
 pub returns-clause-some_output : goal.returns-clause-some_output
-returns-clause-some_output c = writes_some_text c.follow_laws.ensures.some
+returns-clause-some_output c = writes_some_text c.block_chain_laws.ensures.some
 
 pub returns-clause-seals_alike : goal.returns-clause-seals_alike
 returns-clause-seals_alike c = seals_alike

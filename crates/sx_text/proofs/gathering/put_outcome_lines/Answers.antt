@@ -1,6 +1,6 @@
 use Rattle.std.proofs.Common.{get_or, refl}
 use Rattle.std.specs.Prelude.{string_bytes}
-use Rattle.sx_layout.specs.declared.outcome.Outcome.TheVariants.{Accepted}
+use Rattle.sx_outcome.specs.declared.outcome.Outcome.TheVariants.{Accepted}
 use Rattle.sx_text.specs.Gathering.{outcome_line}
 use Rattle.sx_text.proofs.Indexed.{indexed-taken}
 use Rattle.sx_text.proofs.gathering.put_outcome_lines.Goals as goal

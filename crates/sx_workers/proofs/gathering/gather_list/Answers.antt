@@ -1,6 +1,6 @@
 use Rattle.std.proofs.Common.{List, subst, ◌∙◌}
 use Rattle.sx_gather.specs.Seal.{IsBodyOnceSorted}
-use Rattle.sx_layout.specs.Gathering.{accepted, decisions}
+use Rattle.sx_outcome.specs.Gathering.{accepted, decisions}
 use Rattle.sx_ledger.specs.declared.parts.Parts.{Parts}
 use Rattle.sx_tx.specs.declared.tx.Tx.{Tx}
 use Rattle.sx_workers.proofs.gathering.gather_list.Goals as goal

@@ -2,8 +2,8 @@ use Rattle.std.proofs.Common.{◌≡◌, ℕ, ◌+◌, ◌-◌, ◌<◌, ◌++�
 use Rattle.std.specs.Option.{option_to_list}
 use Rattle.std.proofs.lemmas.List.{length-append}
 use Rattle.sx_gather.specs.Passes.{Gathering, Passing}
-use Rattle.sx_layout.specs.Actors.{part_begin}
-use Rattle.sx_layout.proofs.Openings.{begin_first}
+use Rattle.sx_script.specs.Actors.{part_begin}
+use Rattle.sx_script.proofs.Openings.{begin_first}
 use Rattle.sx_workers.specs.Passing.{AreHeld, IsDone}
 use Rattle.sx_workers.proofs.Stacks.{held_is, held_some, taken}
 use Rattle.sx_workers.proofs.gathering.join_all.Goals as goal

@@ -1,6 +1,6 @@
 use Rattle.std.proofs.Common.{◌≡◌, ◌+◌, ◌-◌, ◌<◌, ◌≤◌, length}
 use Rattle.sx_gather.specs.Passes.{IsPassOf}
-use Rattle.sx_layout.specs.Actors.{part_begin}
+use Rattle.sx_script.specs.Actors.{part_begin}
 use Rattle.sx_workers.specs.Passing.{AreHeld, IsDone}
 use Rattle.sx_workers.proofs.gathering.join_all.Given as goal
 

@@ -1,5 +1,5 @@
 use Rattle.std.proofs.Common.{◌≡◌, List, Ok, sym, subst, ◌∙◌}
-use Rattle.sx_layout.specs.Room.{room_for}
+use Rattle.sx_outcome.specs.Room.{room_for}
 use Rattle.sx_tx.specs.declared.tx.Tx.{Tx}
 use Rattle.sx_workers.proofs.Empty.{none_gathered}
 use Rattle.sx_workers.proofs.gathering.of_none.Goals as goal

@@ -1,6 +1,6 @@
 use Rattle.std.proofs.Common.{◌≡◌, ◌+◌, ◌-◌, ◌≤◌, length}
 use Rattle.sx_gather.specs.Passes.{IsPassOf}
-use Rattle.sx_layout.specs.Actors.{part_begin}
+use Rattle.sx_script.specs.Actors.{part_begin}
 use Rattle.sx_workers.specs.Passing.{AreHeld, IsWaiting}
 use Rattle.sx_workers.proofs.parts.split_all.Given as goal
 

@@ -3,7 +3,7 @@ use Rattle.sx_block.specs.Validity.{digest_of_ledger}
 use Rattle.sx_follow.specs.Follower.{Followed}
 use Rattle.sx_follow.proofs.InTurn.{chosen_first}
 use Rattle.sx_follow.proofs.follower.Follower.advance_in_turn.Goals as goal
-use Rattle.sx_waiting.specs.Chosen.{AreChosen}
+use Rattle.sx_follow.specs.Chosen.{AreChosen}
 
 pub try_in_turn-requires-in-Some : goal.try_in_turn-requires-in-Some
 try_in_turn-requires-in-Some c =

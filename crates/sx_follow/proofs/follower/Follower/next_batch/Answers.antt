@@ -1,5 +1,5 @@
 use Rattle.std.proofs.Common.{arith}
-use Rattle.sx_ahead.proofs.RightOnes.{all_right}
+use Rattle.sx_follow.proofs.RightOnes.{all_right}
 use Rattle.sx_follow.proofs.follower.Follower.next_batch.Goals as goal
 
 pub take_batch-requires-clause-right : goal.take_batch-requires-clause-right

@@ -3,8 +3,8 @@ use Rattle.std.specs.Vec.{vec_len}
 use Rattle.std.proofs.lemmas.List.{take_at}
 use Rattle.sx_block.specs.declared.header.Block.{Block}
 use Rattle.sx_follow.specs.Follower.{Followed, IsFollower, most_blocks}
-use Rattle.sx_waiting.specs.Waiting.{AreWaiting}
-use Rattle.sx_waiting.proofs.Entering.{one_more}
+use Rattle.sx_follow.specs.Waiting.{AreWaiting}
+use Rattle.sx_follow.proofs.Entering.{one_more}
 use Rattle.sx_follow.proofs.Followers.{offered}
 use Rattle.sx_follow.proofs.follower.Follower.offer.Goals as goal
 

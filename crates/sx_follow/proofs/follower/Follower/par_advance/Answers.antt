@@ -1,7 +1,7 @@
 use Rattle.std.proofs.Common.{◌≡◌, ◌+◌, get_or, rules}
 use Rattle.sx_block.specs.Validity.{digest_of_ledger}
-use Rattle.sx_waiting.specs.Chosen.{IsChosen}
-use Rattle.sx_step.specs.Leaves.{Leaves}
+use Rattle.sx_follow.specs.Chosen.{IsChosen}
+use Rattle.sx_follow.specs.Leaves.{Leaves}
 use Rattle.sx_follow.proofs.ChosenNext.{chosen_leaves}
 use Rattle.sx_follow.proofs.follower.Follower.par_advance.Goals as goal
 

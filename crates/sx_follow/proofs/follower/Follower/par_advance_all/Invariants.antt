@@ -1,5 +1,5 @@
 use Rattle.std.proofs.Common.{◌≡◌, ◌-◌, length}
-use Rattle.sx_ahead.specs.Bodies.{AreBodies}
+use Rattle.sx_follow.specs.Bodies.{AreBodies}
 use Rattle.sx_follow.proofs.follower.Follower.par_advance_all.Given as goal
 
 abbrev pub invariant-loop-bodies : goal.invariant-loop-bodies

@@ -1,9 +1,9 @@
 use Rattle.std.proofs.Common.{◌≡◌, ℕ, ◌+◌, ◌-◌, ◌*◌, ◌≤◌, Option, None, Some, length}
 use Rattle.std.specs.Prelude.{IfSome}
 use Rattle.sx_block.specs.Validity.{digest_of_ledger}
-use Rattle.sx_ahead.specs.Ahead.{IsBatch}
+use Rattle.sx_follow.specs.Ahead.{IsBatch}
 use Rattle.sx_follow.specs.Follower.{IsFollower}
-use Rattle.sx_ahead.specs.declared.batch.Batch.{Batch}
+use Rattle.sx_follow.specs.declared.ahead.batch.Batch.{Batch}
 use Rattle.sx_follow.proofs.follower.Follower.run_ahead.Given as goal
 
 abbrev pub invariant-loop-batch : goal.invariant-loop-batch

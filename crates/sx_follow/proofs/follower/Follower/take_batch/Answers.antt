@@ -1,6 +1,6 @@
 use Rattle.std.proofs.Common.{◌≡◌, ◌+◌, ℕ, length, sym, ap, subst, ◌∙◌, arith, rules}
 use Rattle.sx_block.specs.Validity.{digest_of_ledger}
-use Rattle.sx_ahead.specs.Ahead.{AreAhead}
+use Rattle.sx_follow.specs.Ahead.{AreAhead}
 use Rattle.sx_follow.specs.Follower.{Followed, IsFollower}
 use Rattle.sx_follow.proofs.Taking.{all_taken, few_taken}
 use Rattle.sx_follow.proofs.follower.Follower.take_batch.Goals as goal

@@ -1,7 +1,7 @@
 use Rattle.std.proofs.Common.{List, sym, subst, ap, ◌∙◌}
 use Rattle.std.specs.List.Sorted.{IsPermutation}
-use Rattle.sx_layout.specs.declared.outcome.Outcome.{Outcome}
-use Rattle.sx_layout.specs.Gathering.{IsGathered, accepted, decisions}
+use Rattle.sx_outcome.specs.declared.outcome.Outcome.{Outcome}
+use Rattle.sx_outcome.specs.Gathering.{IsGathered, accepted, decisions}
 use Rattle.sx_gather.specs.Passes.{Gathering, Passing}
 use Rattle.sx_gather.specs.Seal.{HaveAll, HaveEnded}
 use Rattle.sx_gather.proofs.Sealing.{have_all, sealed}

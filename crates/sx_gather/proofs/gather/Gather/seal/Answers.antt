@@ -1,5 +1,5 @@
 use Rattle.std.proofs.Common.{List, subst}
-use Rattle.sx_layout.specs.Gathering.{IsGathered}
+use Rattle.sx_outcome.specs.Gathering.{IsGathered}
 use Rattle.sx_tx.specs.declared.tx.Tx.{Tx}
 use Rattle.sx_gather.proofs.gather.Gather.seal.Goals as goal
 

@@ -3,7 +3,7 @@ use Rattle.std.specs.Prelude.{slice_get}
 use Rattle.std.specs.Vec.{with_items}
 use Rattle.std.proofs.lemmas.List.{with_items_is}
 use Rattle.std.proofs.lemmas.Option.{slice_get_read}
-use Rattle.sx_layout.specs.Gathering.{Decision}
+use Rattle.sx_outcome.specs.Gathering.{Decision}
 use Rattle.sx_shard.specs.Models.{Seated}
 use Rattle.sx_tx.specs.declared.tx.Tx.{Tx}
 use Rattle.sx_gather.specs.contracts.pass.Pass.{the_view}

@@ -1,7 +1,7 @@
 use Rattle.std.proofs.Common.{sym, subst}
 use Rattle.sx_layout.specs.declared.asked.Wanted.{Wanted}
-use Rattle.sx_layout.specs.declared.outcome.Outcome.{Outcome}
-use Rattle.sx_layout.specs.declared.outcome.Outcome.TheVariants as outcome
+use Rattle.sx_outcome.specs.declared.outcome.Outcome.{Outcome}
+use Rattle.sx_outcome.specs.declared.outcome.Outcome.TheVariants as outcome
 use Rattle.sx_layout.specs.Deciding.{too_late}
 use Rattle.sx_gather.specs.Steps.{Takes}
 use Rattle.sx_gather.proofs.Steps.{bit_held, bit_taken, units_taken}

@@ -1,6 +1,6 @@
 use Rattle.sx_input.proofs.PayloadItems.{inside_where_wrong}
 use Rattle.sx_input.proofs.payloads.OutcomesPayload.read.Goals as goal
-use Rattle.sx_layout.specs.OutcomeDecoding.{outcomes_at}
+use Rattle.sx_outcome.specs.OutcomeDecoding.{outcomes_at}
 
 pub returns-clause-within : goal.returns-clause-within
 returns-clause-within g c =

@@ -1,6 +1,0 @@
-use Rattle.std.proofs.Common.{◌≡◌, ◌++◌, replicate}
-use Rattle.sx_after.specs.Accounts.{fresh}
-use Rattle.sx_after.proofs.created.push_free.Given as goal
-
-abbrev pub invariant-loop : goal.invariant-loop
-invariant-loop l = l.accounts.items ≡ l.fn.accounts.items ++ replicate l.counter (fresh 0 0)

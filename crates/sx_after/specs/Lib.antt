@@ -1,4 +1,0 @@
-pub mod Accounts
-pub mod Merging
-pub mod OfferChanges
-pub mod SortNumbers

@@ -1,3 +1,0 @@
-pub mod AheadSteps
-pub mod BodyDigests
-pub mod RightOnes

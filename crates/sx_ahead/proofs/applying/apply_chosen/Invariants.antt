@@ -1,6 +1,0 @@
-use Rattle.std.proofs.Common.{drop}
-use Rattle.sx_ahead.proofs.AheadSteps.{IsUpTo}
-use Rattle.sx_ahead.proofs.applying.apply_chosen.Given as goal
-
-abbrev pub invariant-loop-index : goal.invariant-loop-index
-invariant-loop-index g l = IsUpTo l.ledger l.digest l.blocks l.claims.items l.after l.named (drop l.index l.places)

@@ -1,4 +1,0 @@
-pub mod UsedNumbers
-pub mod Refusals
-pub mod Entered
-pub mod Overdrafts

@@ -1,8 +1,0 @@
-use Rattle.sx_body.proofs.Refusals.{none_refused, one_refusal}
-use Rattle.sx_body.proofs.laws.refusal_laws.Goals as goal
-
-pub returns-clause-one : goal.returns-clause-one
-returns-clause-one c = one_refusal
-
-pub returns-clause-none : goal.returns-clause-none
-returns-clause-none c = none_refused

@@ -1,5 +1,0 @@
-use Rattle.sx_body.specs.Overdraft.{CoversBelow}
-use Rattle.sx_body.proofs.overdraft.overdrawn_asset.Given as goal
-
-abbrev pub invariant-loop-asset : goal.invariant-loop-asset
-invariant-loop-asset l = CoversBelow l.asset l.version l.balances l.postings l.place

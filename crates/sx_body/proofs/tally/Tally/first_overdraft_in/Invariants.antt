@@ -1,5 +1,0 @@
-use Rattle.sx_body.specs.Overdraft.{AreCovered}
-use Rattle.sx_body.proofs.tally.Tally.first_overdraft_in.Given as goal
-
-abbrev pub invariant-loop-place : goal.invariant-loop-place
-invariant-loop-place l = AreCovered l.version l.ledger l.self.postings l.from l.place

@@ -1,3 +1,0 @@
-pub mod Steps
-pub mod Replays
-pub mod Taking

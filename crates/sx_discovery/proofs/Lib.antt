@@ -1,4 +1,0 @@
-pub mod OfferLaws
-pub mod CurveBounds
-pub mod PriceLaws
-pub mod QuoteCases

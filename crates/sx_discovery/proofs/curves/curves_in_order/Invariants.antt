@@ -1,6 +1,0 @@
-use Rattle.std.proofs.Common.{◌≡◌, take}
-use Rattle.sx_discovery.specs.Quotes.{quotes_of}
-use Rattle.sx_discovery.proofs.curves.curves_in_order.Given as goal
-
-abbrev pub invariant-loop-offer : goal.invariant-loop-offer
-invariant-loop-offer l = l.builder ≡ take l.offer-index (quotes_of l.offers)

@@ -1,4 +1,0 @@
-pub mod Quotes
-pub mod Bounding
-pub mod Digests
-pub mod Found

@@ -1,0 +1,7 @@
+use Rattle.std.proofs.Common.{take}
+use Rattle.sx_filter.specs.Additions.{AreAdditions}
+use Rattle.sx_filter.proofs.Joined.{all}
+use Rattle.sx_filter.proofs.parts.counting.added_in_turn.Given as goal
+
+abbrev pub invariant-loop-part : goal.invariant-loop-part
+invariant-loop-part l = AreAdditions (all (take l.part-index l.parts)) l.all

@@ -1,2 +1,0 @@
-pub mod EffectLaws
-pub mod ValidityLaws

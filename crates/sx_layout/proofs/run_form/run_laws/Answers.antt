@@ -1,5 +1,0 @@
-use Rattle.sx_layout.proofs.RunForm.{outcomes_keep_form}
-use Rattle.sx_layout.proofs.run_form.run_laws.Goals as goal
-
-pub returns : goal.returns
-returns c = record { form = outcomes_keep_form }

@@ -1,3 +1,0 @@
-pub mod PartLists
-pub mod PuttingPieces
-pub mod StateParts

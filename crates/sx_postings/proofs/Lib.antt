@@ -1,9 +1,0 @@
-pub mod KnownParts
-pub mod SameOrder
-pub mod SumUnits
-pub mod Rows
-pub mod KeysApart
-pub mod Repeated
-pub mod Cancelled
-pub mod PostedUnits
-pub mod PendingUnits

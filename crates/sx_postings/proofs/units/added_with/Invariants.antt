@@ -1,6 +1,0 @@
-use Rattle.std.proofs.Common.{◌≡◌, ◌+◌, take}
-use Rattle.sx_postings.specs.Sums.{amounts_of}
-use Rattle.sx_postings.proofs.units.added_with.Given as goal
-
-abbrev pub invariant-loop-k : goal.invariant-loop-k
-invariant-loop-k l = l.total ≡ l.added + amounts_of (take l.k l.entries)

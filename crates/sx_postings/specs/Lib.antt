@@ -1,5 +1,0 @@
-pub mod Known
-pub mod Repeats
-pub mod Changes
-pub mod Sums
-pub mod Postings

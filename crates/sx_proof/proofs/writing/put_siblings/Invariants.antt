@@ -1,7 +1,0 @@
-use Rattle.std.proofs.Common.{◌≡◌, ◌++◌, take}
-use Rattle.std.specs.List.{flat_map}
-use Rattle.sx_proof.specs.Encoding.{digest_bytes}
-use Rattle.sx_proof.proofs.writing.put_siblings.Given as goal
-
-abbrev pub invariant-loop-sibling : goal.invariant-loop-sibling
-invariant-loop-sibling l = l.to ≡ l.fn.to ++ flat_map digest_bytes (take l.sibling-index l.siblings)

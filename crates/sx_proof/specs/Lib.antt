@@ -1,3 +1,0 @@
-pub mod Encoding
-pub mod Decoding
-pub mod Laws

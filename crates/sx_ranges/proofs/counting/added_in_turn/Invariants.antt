@@ -1,7 +1,0 @@
-use Rattle.std.proofs.Common.{take}
-use Rattle.sx_ranges.specs.Additions.{AreAdditions}
-use Rattle.sx_ranges.proofs.Joined.{all}
-use Rattle.sx_ranges.proofs.counting.added_in_turn.Given as goal
-
-abbrev pub invariant-loop-part : goal.invariant-loop-part
-invariant-loop-part l = AreAdditions (all (take l.part-index l.parts)) l.all

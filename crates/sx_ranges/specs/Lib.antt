@@ -1,3 +1,0 @@
-pub mod Ranges
-pub mod Additions
-pub mod ByRange

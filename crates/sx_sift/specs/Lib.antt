@@ -1,6 +1,0 @@
-pub mod Cancellations
-pub mod Named
-pub mod Verdicts
-pub mod Runs
-pub mod Part
-pub mod Sifted

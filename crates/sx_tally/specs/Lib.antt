@@ -1,0 +1,11 @@
+pub mod Tally
+pub mod Overdraft
+pub mod Known
+pub mod Changes
+pub mod Sums
+pub mod Postings
+pub mod Accounts
+pub mod Merging
+pub mod OfferChanges
+pub mod SortNumbers
+pub mod Prechecks

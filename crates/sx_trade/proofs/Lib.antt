@@ -1,2 +1,0 @@
-pub mod TradeLaws
-pub mod SearchCounts

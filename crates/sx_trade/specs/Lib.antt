@@ -1,2 +1,0 @@
-pub mod Traded
-pub mod Searches

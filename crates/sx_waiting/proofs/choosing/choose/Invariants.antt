@@ -1,6 +1,0 @@
-use Rattle.std.proofs.Common.{◌+◌}
-use Rattle.sx_waiting.proofs.Chosen.{GoesOn}
-use Rattle.sx_waiting.proofs.choosing.choose.Given as goal
-
-abbrev pub invariant-loop-above : goal.invariant-loop-above
-invariant-loop-above l = GoesOn l.height l.digest l.blocks l.places.items (l.height + l.above) l.named

@@ -1,5 +1,0 @@
-use Rattle.sx_waiting.proofs.Chosen.{NameOthers}
-use Rattle.sx_waiting.proofs.choosing.first_named.Given as goal
-
-abbrev pub invariant-loop-place : goal.invariant-loop-place
-invariant-loop-place l = NameOthers l.digest l.blocks l.place-items l.place-index
