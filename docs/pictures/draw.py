@@ -97,8 +97,8 @@ def file(path):
     return (TOP / path).read_bytes()
 
 
-def market():
-    return Sealed(file("examples/market/state.record") + file("examples/market/candidates.record"), [])
+def market(*words):
+    return Sealed(file("examples/market/state.record") + file("examples/market/candidates.record"), words)
 
 
 def stored(name):
@@ -248,7 +248,7 @@ def supply():
     most = 1 / Fraction(buyer["limit"], ONE)
     traded = Fraction(it.trades[0, 1], it.prices[0])
     picture = Picture(
-        960, 560, "Supply and demand of a pair",
+        960, 576, "Supply and demand of a pair",
         "The supply of A as steps, the demand for A as a falling curve, and the rate at which they meet.",
     )
     left, right, bottom, top = 96, 640, 478, 104
@@ -311,7 +311,85 @@ def supply():
     picture.text(side, top + 297, f"{float(traded):.2f} A trade, worth", 14)
     picture.text(side, top + 318, f"{decimal(it.trades[0, 1], 2)} each way. Both sellers", 14)
     picture.text(side, top + 339, "get this one rate.", 14)
-    picture.text(24, 545, "Figures: examples/market, as the program answers it.", 13, SOFT)
+    picture.text(24, 560, "Figures: examples/market, as the program answers it.", 13, SOFT)
+    return picture
+
+
+def demand():
+    """What the margin does to the supply of A in examples/market, near the limit price of account 4."""
+    exponents = (8, 9, 10)
+    found = [market("--mu", str(j)) for j in exponents]
+    it = found[-1]
+    sellers = sorted((Fraction(o["limit"], ONE), o["account"], o["amount"]) for o in it.offers if o["sell"] == 0)
+    (_, _, first), (limit, account, second) = sellers
+    (buyer,) = [o for o in it.offers if o["sell"] == 1]
+    picture = Picture(
+        960, 560, "Why the margin exists",
+        "At a limit price supply jumps past demand; with a margin it rises along a slope, and they meet.",
+    )
+    left, right, bottom, top = 112, 620, 470, 104
+    low_x, high_x, low_y, high_y = 8, 22, Fraction(1597, 1000), Fraction(1608, 1000)
+
+    def at(amount, price):
+        return (
+            left + float((Fraction(amount) - low_x) / (high_x - low_x)) * (right - left),
+            bottom - float((Fraction(price) - low_y) / (high_y - low_y)) * (bottom - top),
+        )
+
+    head = f"How much A is offered and wanted, near the limit price of account {account}"
+    picture.text(24, 38, head, 17, SOFT, bold=True)
+    picture.line([(left, top - 8), (left, bottom), (right, bottom)], INK, 1.8)
+    for step in range(low_x, high_x + 1, 2):
+        x, y = at(step, low_y)
+        picture.line([(x, y), (x, y + 6)], INK, 1.5)
+        picture.text(x, y + 24, step, 14, INK, "middle")
+    for thousandth in range(1598, 1609, 2):
+        x, y = at(low_x, Fraction(thousandth, 1000))
+        picture.line([(x - 6, y), (x, y)], INK, 1.5)
+        picture.text(x - 12, y + 5, f"{thousandth / 1000:.3f}", 14, INK, "end")
+    picture.text((left + right) / 2, bottom + 50, "units of A", 15, INK, "middle")
+    picture.text(left - 78, top - 26, "rate: B for one A", 15, INK)
+    wanted = [at(buyer["amount"] / price, price) for price in (low_y, high_y)]
+    picture.line(wanted, GREEN, 3)
+    steepest = 2 ** exponents[-1]
+    jump = [at(first, limit), at(first + second, limit), at(first + second, limit * steepest / (steepest - 1))]
+    picture.line(jump, SOFT, 2.4, dashed=True)
+    for j, one in zip(exponents, found):
+        full = limit * 2**j / (2**j - 1)
+        slope = [at(first, low_y)]
+        for step in range(21):
+            part = Fraction(step, 20)
+            slope.append(at(first + second * part, limit * 2**j / (2**j - part)))
+        picture.line([*slope, at(first + second, high_y)], BLUE, 2.4)
+        x, y = at(first + second, full)
+        picture.text(x + 10, y + (16 if j == exponents[-1] else 5), f"1/{2**j}", 14, BLUE, bold=True)
+    rows = []
+    for j, one in zip(exponents, found):
+        rate, traded = Fraction(one.prices[0], one.prices[1]), Fraction(one.trades[0, 1], one.prices[0])
+        assert one.margin == 2**j and one.dropped == "none"
+        assert abs(first + second * 2**j * (1 - limit / rate) - traded) < Fraction(1, 100), "not on the slope"
+        picture.dot(*at(traded, rate), 6, RED)
+        rows.append(f"1/{2**j}: {float(traded):.3f} A at {float(rate):.5f} B")
+    side = right + 30
+    at_limit = buyer["amount"] / limit
+    least, most = f"{float(limit):.1f} B", f"{float(at_limit):.2f} A"
+    told = [
+        ("Demand", GREEN, [f"Account {buyer['account']} gives {buyer['amount']} B: {most}", f"at {least} for an A."]),
+        ("Supply without a margin", SOFT,
+         [f"At {least} it jumps from {first} A", f"to {first + second} A, past the {most}", "that are wanted: no rate",
+          "balances them."]),
+        ("Supply with a margin μ", BLUE,
+         [f"Account {account} sells a part that grows", f"from nothing at {least} to all",
+          "once the rate is μ above it."]),
+        ("What the program finds", RED, rows),
+    ]
+    y = top + 2
+    for head, color, texts in told:
+        picture.text(side, y, head, 16, color, bold=True)
+        for row, words in enumerate(texts):
+            picture.text(side, y + 23 + 21 * row, words, 14)
+        y += 36 + 21 * len(texts)
+    picture.text(24, 544, "Figures: examples/market with --mu 8, 9 and 10, as the program answers it.", 13, SOFT)
     return picture
 
 
@@ -395,7 +473,7 @@ def cut():
         "More value must go into a set of assets than may go out of it, so no circulation keeps the bounds.",
     )
     picture.text(24, 38, "Why the lower bounds of this block cannot be kept", 17, SOFT, bold=True)
-    x0, x1, y, radius = 150, 478, 190, 46
+    x0, x1, y, radius = 150, 478, 190, 52
     picture.box(60, 92, 180, 200, RED, dashed=True)
     picture.text(150, 120, f"the cut {it.dropped}", 15, RED, "middle", bold=True)
     picture.line([(x1 - radius, y - 22), (x0 + radius + 6, y - 22)], RED, 3, arrow=True)
@@ -481,7 +559,7 @@ def gathering():
         outcome = outcomes[actor]
         told = "accepted" if outcome[1] == "accepted" else f"overdraft: {outcome[3]} seen, {outcome[5]} needed"
         picture.box(x, 518, wide, 36, color, fill=PAPER)
-        picture.text(x + wide / 2, 542, told, 15, color, "middle", bold=True)
+        picture.text(x + wide / 2, 541, told, 14, color, "middle", bold=True)
         assert outcome[1] == "accepted" or int(outcome[3]) == left, "the steps drawn are not those of the program"
     why = "A purse only falls and a bit is only set. So what was too little when a step saw it stays too little, and"
     picture.text(24, 582, why, 14)
@@ -490,7 +568,14 @@ def gathering():
     return picture
 
 
-PICTURES = {"flow": flow, "supply": supply, "circulation": circulation, "cut": cut, "gathering": gathering}
+PICTURES = {
+    "flow": flow,
+    "supply": supply,
+    "demand": demand,
+    "circulation": circulation,
+    "cut": cut,
+    "gathering": gathering,
+}
 
 
 def main(words):
