@@ -3,6 +3,7 @@ use Rattle.sx_block.specs.declared.header.Block.{Block}
 use Rattle.sx_check.specs.declared.fault.CheckFault.{CheckFault}
 use Rattle.sx_check.specs.declared.fault.CheckFault.TheVariants as check_fault
 use Rattle.sx_block.specs.declared.invalid.Invalid.{Invalid}
+use Rattle.sx_block.specs.Refusals.{Refuses, RefusesButParent, RefusesEarly}
 use Rattle.sx_ledger.specs.declared.parts.Parts.{Parts}
 
 -- nothing where memory ran out; else the first reason

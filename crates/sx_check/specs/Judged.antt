@@ -2,6 +2,7 @@
 use Rattle.std.specs.Prelude.{◌≡◌}
 use Rattle.sx_apply.specs.Effects.{AreEffects}
 use Rattle.sx_block.specs.declared.header.Block.{Block}
+use Rattle.sx_block.specs.Checked.{checked_of}
 use Rattle.sx_block.specs.Validity.{IsApplicable, IsSound}
 use Rattle.sx_check.specs.declared.judged.Judged.{Judged}
 use Rattle.sx_ledger.specs.declared.parts.Parts.{Parts}

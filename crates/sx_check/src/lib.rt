@@ -1,9 +1,9 @@
 //! Whether a block is valid for a ledger, by sums over plain lists.
 //!
-//! [`check`] answers Ok exactly where a block is valid for a ledger, and else the first of seventeen
-//! reasons, [`Invalid`](sx_block::Invalid), in the order of their numbers, but that the last stands in the place
-//! of the tenth where the block is of version 2. [`check_laws`](sx_block::check_laws) says that each block is valid or has one first
-//! reason, and never both.
+//! [`check`] answers Ok exactly if a block is valid for a ledger, and else the first of seventeen reasons,
+//! [`Invalid`](sx_block::Invalid), in the order of their numbers, except that the last comes where the tenth would if the
+//! block is of version 2. [`check_laws`](sx_block::check_laws) says that each block is valid or has one first reason,
+//! and never both.
 //!
 //! A caller that applies blocks does the same in steps. [`judge`] is all of it but `WrongAfter`, with the effects that
 //! an execution need not compute again, and [`close`] is that reason, once the ledger after the block is known.

@@ -1,6 +1,7 @@
 -- Laws of followers.
 use Rattle.std.specs.Prelude.{◌≡◌}
 use Rattle.sx_block.specs.Chain.{AreValid, NoneIsValid, ledger_after_all}
+use Rattle.sx_block.specs.ChainLaws.{IsPart, OneOfEachParent}
 use Rattle.sx_follow.specs.Follower.{Followed, IsFollower}
 
 -- two followers of the same blocks, none of which has another one of the same parent, have the same head where neither

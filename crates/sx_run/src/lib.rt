@@ -29,8 +29,8 @@
 //!
 //! Data flows from `sx_input` (bytes to what records hold) through `commands` (a file for each command, from what was read
 //! to what is answered) and `output` (what a command writes, some of it in pieces that threads encoded: `pieces`) to
-//! `running` (what a command found to what is written and to a status). What is found of an input is defined in `sx_meaning`, and texts
-//! and statuses are those of `sx_text`.
+//! `running` (what a command found to what is written and to a status). What is found of an input is defined in
+//! `sx_meaning`, and texts and statuses are those of `sx_text`.
 #![tactic(auto)]
 
 mod candidates_writing;
