@@ -2,22 +2,30 @@
 
     python3 bench/blocks.py KIND FOLDER
 
-writes FOLDER/input, the records of a state and of its blocks; FOLDER/after, the record of the state after the last
-one; and FOLDER/line, what `check` prints of the block where there is one. Of `apart` it writes FOLDER/input alone.
-For a script it writes FOLDER/input, the records of a state, of candidates and of the script, and FOLDER/outcomes,
-the record of the outcomes. The kinds:
+For a kind of one block it writes these files, and for `chain` the same with `shuffled` instead of the last three:
+
+    input        the records of a state and of its blocks
+    after        the record of the state after the last block
+    line         what `check` prints of the block
+    candidates   the records of the state and of the block's transactions, which are in no order there
+    kept         the record of the transactions in the order of a block: what `filter` keeps of them
+    shuffled     the records of the state and of the blocks, which are in no order there
+
+For `apart` it writes `input` alone. For `script` it writes `input`, the records of a state, of candidates and of the
+script, and `outcomes`, the record of the outcomes. The kinds:
 
     payments   1,000,000 payments among 65,536 accounts of one asset
     resting    no transactions, on 262,144 offers of 32 assets that all rest
     mixed      200,000 transactions of all kinds on 200,000 offers of 8 assets, with trades in every pair
     apart      the same, from a state whose prices are from half to one and a half times those of the block
     trading    no transactions, on 262,144 offers of 32 assets, of which half trade, in every pair
+    longest    the longest state of version 1, 65,536 accounts of 32 assets and 262,144 offers, and 1,000,000 payments
     chain      1,000 blocks of 1,000 payments each on 10,000 accounts
     script     no block: 250,000 payments on 65,536 accounts, and 700,000 turns of 8 actors
 
-It is written apart from the program, from docs/FORMATS.md and docs/RULES.md, and nothing of it is proved. Offers
-trade in full or not at all here: in each pair those that may trade are worth as much as those of the opposite pair,
-so that the greatest circulation takes all of them, and potentials of 0 show it.
+It is written apart from the program, from docs/FORMATS.md and docs/RULES.md, and nothing of it is proved. Offers trade
+in full or not at all here: in each pair those that may trade are worth as much as those of the opposite pair, so that
+the greatest circulation takes all of them, and potentials of 0 show it.
 """
 import hashlib
 import pathlib
@@ -36,6 +44,15 @@ def sha256(data):
 
 def record(tag, payload):
     return struct.pack(">BI", tag, len(payload)) + payload
+
+
+def list_bytes(txs):
+    pack = {kind: struct.Struct(fields).pack for kind, fields in FIELDS.items()}
+    return struct.pack(">I", len(txs)) + b"".join(pack[tx[2]](*tx) for tx in txs)
+
+
+def candidates(txs):
+    return record(2, list_bytes(txs))
 
 
 class Ledger:
@@ -100,8 +117,7 @@ class Ledger:
         block posts the ledger's prices, or those that are given."""
         n, parent = len(self.prices), sha256(self.record())
         self.prices = prices or self.prices
-        pack = {kind: struct.Struct(fields).pack for kind, fields in FIELDS.items()}
-        body = struct.pack(">I", len(txs)) + b"".join(pack[tx[2]](*tx) for tx in txs)
+        body = list_bytes(txs)
         self.apply_body(txs)
         values, rounding = self.trade()
         self.height += 1
@@ -189,6 +205,15 @@ def payments_on(ledger, draw, count):
 
 def payments(draw):
     ledger = with_accounts([ONE], draw, 65_536, 1_000_000)
+    return ledger, [lambda: payments_on(ledger, draw, 1_000_000)]
+
+
+def longest(draw):
+    ledger = with_accounts(draw_prices(draw, 32), draw, 65_536, 1_000_000)
+    book, every = Resting(ledger, draw, 64), pairs(32)
+    for at in range(262_144):
+        sell, buy = every[at % len(every)]
+        book.place(sell, buy, limit_at(ledger, draw, sell, buy, False), draw.randint(1, 10_000))
     return ledger, [lambda: payments_on(ledger, draw, 1_000_000)]
 
 
@@ -325,10 +350,8 @@ def write_script(draw, folder):
     ledger = with_accounts([ONE], draw, 65_536, 1_000_000)
     txs = candidates_on(ledger, draw, 250_000)
     turns = bytes(draw.randrange(8) for _ in range(700_000))
-    pack = struct.Struct(FIELDS[PAY]).pack
-    candidates = struct.pack(">I", len(txs)) + b"".join(pack(*tx) for tx in txs)
     script = struct.pack(">BI", 8, len(turns)) + turns
-    (folder / "input").write_bytes(ledger.record() + record(2, candidates) + record(5, script))
+    (folder / "input").write_bytes(ledger.record() + candidates(txs) + record(5, script))
     outcomes = outcomes_of(ledger, txs, 8, turns)
     (folder / "outcomes").write_bytes(record(4, struct.pack(">I", len(outcomes)) + b"".join(outcomes)))
 
@@ -338,26 +361,35 @@ KINDS = {
     "resting": lambda draw: offers_on(draw, False),
     "mixed": mixed,
     "trading": lambda draw: offers_on(draw, True),
+    "longest": longest,
     "chain": chain,
 }
 
 
 def main():
     if len(sys.argv) != 3 or sys.argv[1] not in (*KINDS, "apart", "script"):
-        sys.exit("usage: python3 bench/blocks.py payments|resting|mixed|apart|trading|chain|script FOLDER")
+        sys.exit("usage: python3 bench/blocks.py payments|resting|mixed|apart|trading|longest|chain|script FOLDER")
     folder = pathlib.Path(sys.argv[2])
     if sys.argv[1] == "script":
         return write_script(random.Random(1), folder)
     if sys.argv[1] == "apart":
         return write_apart(random.Random(1), folder)
     ledger, bodies = KINDS[sys.argv[1]](random.Random(1))
-    with open(folder / "input", "wb") as out:
-        out.write(ledger.record())
-        for body in bodies:
-            block, value = ledger.block(body())
-            out.write(block)
+    state, blocks = ledger.record(), []
+    for body in bodies:
+        txs = body()
+        block, value = ledger.block(txs)
+        blocks.append(block)
+    (folder / "input").write_bytes(state + b"".join(blocks))
     (folder / "after").write_bytes(ledger.record())
+    if len(blocks) > 1:
+        random.Random(2).shuffle(blocks)
+        (folder / "shuffled").write_bytes(state + b"".join(blocks))
+        return
     (folder / "line").write_text(f"valid height {ledger.height} value {value} bounds kept\n")
+    (folder / "kept").write_bytes(candidates(txs))
+    random.Random(2).shuffle(txs)
+    (folder / "candidates").write_bytes(state + candidates(txs))
 
 
 if __name__ == "__main__":
