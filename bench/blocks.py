@@ -222,7 +222,8 @@ def offers_on(draw, trades):
     book, every = Resting(ledger, draw, 64), pairs(32)
     for at in range(262_144 - (len(every) if trades else 0)):
         sell, buy = every[at % len(every)]
-        book.place(sell, buy, limit_at(ledger, draw, sell, buy, trades and draw.random() < 0.5), draw.randint(1, 10_000))
+        is_trade = trades and draw.random() < 0.5
+        book.place(sell, buy, limit_at(ledger, draw, sell, buy, is_trade), draw.randint(1, 10_000))
     if trades:
         balance_pairs(ledger, draw, book.place)
     return ledger, [lambda: []]
@@ -301,7 +302,7 @@ def candidates_on(ledger, draw, count):
 
 
 class Actor:
-    """One actor of a script, with its candidates; `seen` is what it saw last of a balance, where it looked."""
+    """One actor of a script, with its candidates; `seen` is what it saw last of a balance, if it looked."""
 
     def __init__(self, txs):
         self.txs, self.outcomes, self.claimed, self.seen = txs, [], False, None
@@ -335,7 +336,7 @@ class Actor:
 
 
 def outcomes_of(ledger, txs, actors, turns):
-    """The outcomes of the candidates, which are payments of one asset, where the actors take these turns."""
+    """The outcomes of the candidates, which are payments of one asset, if the actors take these turns."""
     purses, numbers = {id: balances[0] for id, (_, balances) in ledger.accounts.items()}, set()
     parts = [Actor(txs[len(txs) * k // actors : len(txs) * (k + 1) // actors]) for k in range(actors)]
     for name in turns:

@@ -113,7 +113,7 @@ def posted(assets, draw):
 
 
 def offers(assets, draw):
-    """The same, where nothing must be traded."""
+    """The same, but nothing must be traded."""
     return without_lower(posted(assets, draw))
 
 

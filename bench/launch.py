@@ -2,10 +2,10 @@
 milliseconds by itself."""
 import os
 import pathlib
+import subprocess
+import sys
 
 TOP = pathlib.Path(__file__).resolve().parent.parent
-# what bin/speedex builds
-PROGRAM = os.environ.get("SPEEDEX_PROGRAM", str(TOP / "crates/speedex/out/speedex"))
 # what bin/speedex asks of the C library
 TUNABLES = ":".join(
     "glibc.malloc." + word
@@ -18,3 +18,14 @@ TUNABLES = ":".join(
     )
 )
 ENV = {"GLIBC_TUNABLES": TUNABLES, **os.environ}
+
+
+def standing():
+    """The file of the program that stands in this checkout, proved here or released."""
+    done = subprocess.run([TOP / "bin/speedex", "--path"], stdin=subprocess.DEVNULL, capture_output=True, text=True)
+    if done.returncode:
+        sys.exit(done.stderr)
+    return done.stdout.strip()
+
+
+PROGRAM = os.environ.get("SPEEDEX_PROGRAM") or standing()

@@ -2,7 +2,7 @@
 //
 // It reads the number of assets, and the lower and the upper bound of each ordered pair, by the asset sold.
 // It prints the least time of several runs in nanoseconds, from the numbers to the answer, and then "traded"
-// and the value, or "cut" where there is no circulation. Values are 64-bit: a bound from 2^56 on is refused.
+// and the value, or "cut" if there is no circulation. Values are 64-bit: a bound from 2^56 on is refused.
 //
 //     g++ -O2 -o lemon lemon.cpp     (Debian: liblemon-dev)
 #include <lemon/network_simplex.h>
@@ -26,7 +26,7 @@ struct Pair {
     std::int64_t low, high;
 };
 
-// The value of the greatest circulation, where there is a circulation.
+// The value of the greatest circulation, if there is one.
 std::optional<std::int64_t> solve(int assets, const std::vector<Pair> &pairs) {
     Graph graph;
     std::vector<Graph::Node> nodes;
