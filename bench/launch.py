@@ -6,6 +6,19 @@ import subprocess
 import sys
 
 TOP = pathlib.Path(__file__).resolve().parent.parent
+
+
+def find_program():
+    """The file that bin/speedex runs, which is proved and built first if none stands for these sources."""
+    words = [TOP / "bin/speedex", "--path"]
+    if subprocess.run(words, capture_output=True).returncode:
+        # without words the program ends with 2
+        subprocess.run(words[:1], stdin=subprocess.DEVNULL)
+    found = subprocess.run(words, stdout=subprocess.PIPE, text=True)
+    return found.stdout.strip() or sys.exit("there is no program to time")
+
+
+PROGRAM = os.environ.get("SPEEDEX_PROGRAM") or find_program()
 # what bin/speedex asks of the C library
 TUNABLES = ":".join(
     "glibc.malloc." + word
@@ -18,14 +31,3 @@ TUNABLES = ":".join(
     )
 )
 ENV = {"GLIBC_TUNABLES": TUNABLES, **os.environ}
-
-
-def standing():
-    """The file of the program that stands in this checkout, proved here or released."""
-    done = subprocess.run([TOP / "bin/speedex", "--path"], stdin=subprocess.DEVNULL, capture_output=True, text=True)
-    if done.returncode:
-        sys.exit(done.stderr)
-    return done.stdout.strip()
-
-
-PROGRAM = os.environ.get("SPEEDEX_PROGRAM") or standing()
