@@ -14,7 +14,7 @@ use sx_block::{Block, Digest, Header, Invalid};
 use sx_ledger::Ledger;
 
 // The block has the next height. The reasons here come before the one on the digest of the ledger.
-#[tactic(auto, using(crate::proofs::Steps::ended, crate::proofs::Steps::wrong_height, crate::proofs::Steps::ended_but, crate::proofs::Steps::wrong_height_but, crate::proofs::Steps::height_holds))]
+#[tactic(auto, using(sx_block::proofs::Steps::ended, sx_block::proofs::Steps::wrong_height, sx_block::proofs::Steps::ended_but, sx_block::proofs::Steps::wrong_height_but, sx_block::proofs::Steps::height_holds))]
 pub fn check_height(ledger: &Ledger, block: &Block) -> Result<(), Invalid>
     ensures next { OnOk result (HoldsBefore rule.Parent ledger.now block.now) }
     ensures refused { IfErr result (RefusesEarly ledger.now block.now) }
@@ -46,7 +46,7 @@ pub fn named(header: &Header, parent: &Digest) -> Result<(), Invalid>
 }
 
 // And it names the ledger, whose digest is `parent`.
-#[tactic(auto, using(crate::proofs::Steps::wrong_parent, crate::proofs::Steps::parent_holds))]
+#[tactic(auto, using(sx_block::proofs::Steps::wrong_parent, sx_block::proofs::Steps::parent_holds))]
 pub fn check_parent(ledger: &Ledger, block: &Block, parent: &Digest) -> Result<(), Invalid>
     requires parent { parent.now ≡ digest_of_ledger ledger.now }
     ensures named { OnOk result (HoldsBefore rule.Body ledger.now block.now) }
@@ -57,7 +57,7 @@ pub fn check_parent(ledger: &Ledger, block: &Block, parent: &Digest) -> Result<(
 }
 
 // The block of the next height names its transactions, whose digest is `body`.
-#[tactic(auto, using(crate::proofs::Steps::wrong_body, crate::proofs::Steps::body_holds))]
+#[tactic(auto, using(sx_block::proofs::Steps::wrong_body, sx_block::proofs::Steps::body_holds))]
 fn check_commitment(ledger: &Ledger, block: &Block, body: &Digest) -> Result<(), Invalid>
     requires height { HoldsButParent rule.Body ledger.now block.now }
     requires body { body.now ≡ sha256 (list_bytes block.now.txs) }
@@ -74,7 +74,7 @@ fn check_commitment(ledger: &Ledger, block: &Block, body: &Digest) -> Result<(),
 
 // The header of a block of the next height is one for the ledger, whatever ledger it names: the transactions have the
 // digest that it says, and it speaks of as many assets.
-#[tactic(auto, using(crate::proofs::Steps::wrong_assets, crate::proofs::Steps::assets_hold))]
+#[tactic(auto, using(sx_block::proofs::Steps::wrong_assets, sx_block::proofs::Steps::assets_hold))]
 pub fn check_header(ledger: &Ledger, block: &Block, body: &Digest) -> Result<(), Invalid>
     requires form { IsBlock block.now }
     requires height { HoldsButParent rule.Body ledger.now block.now }

@@ -72,7 +72,7 @@ fn hand<'a>(alloc: Global, candidates: &'a [Tx], n: u32, k: u32) -> Result<Hand<
 }
 
 // All actors before the first turn.
-#[tactic(auto, using(crate::proofs::DealtLists::shards_more))]
+#[tactic(auto, using(sx_layout::proofs::DealtLists::shards_more))]
 fn all_hands<'a>(alloc: Global, candidates: &'a [Tx], n: u32) -> Result<Vec<Hand<'a>>, NoMemory>
     requires few_candidates { length candidates.now ≤ most_transactions }
     requires few { n ≤ most_actors }
