@@ -1,6 +1,8 @@
 """What the Python scripts here share. Each check writes a line that begins with `ok` or `not ok`, and why after it."""
 
+import os
 import pathlib
+import re
 import subprocess
 import sys
 
@@ -29,7 +31,9 @@ class Checks:
 
 
 def find_program():
-    """The program that stands for these sources, which is not built here."""
+    """The program that stands for these sources, which is not built here, or another one that the caller names."""
+    if "SPEEDEX_PROGRAM" in os.environ:
+        return os.environ["SPEEDEX_PROGRAM"]
     done = subprocess.run([TOP / "bin/speedex", "--path"], capture_output=True, text=True)
     if done.returncode:
         sys.exit(done.stderr.strip())
@@ -45,7 +49,5 @@ def documents():
 
 def without_code(text):
     """A text without its blocks and its words between backticks, with each line in its place."""
-    import re
-
     blank = lambda found: re.sub(r"[^\n]", " ", found.group(0))
     return re.sub(r"`[^`]*`", blank, re.sub(r"^ *```.*?^ *```$", blank, text, flags=re.S | re.M))

@@ -39,9 +39,10 @@ same() { # what it is, the one, the other
     check "$1" cmp "$2" "$3"
 }
 
-# The program that stands for these sources, which is not built here.
+# The program that stands for these sources, which is not built here, or another one that the caller names.
 find_program() {
-    program=$(bin/speedex --path) || exit 2
+    program=${SPEEDEX_PROGRAM:-$(bin/speedex --path)}
+    [ -x "$program" ] || exit 2
 }
 
 # Wants the exit code of the last run, and the text that it wrote to standard error, `room`/err.
