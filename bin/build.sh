@@ -82,8 +82,8 @@ explain() {
     if grep -q -e "$item" "$log"; then
         say "not proved: $(first "$item" | sed 's/: no[t ].*//')"
         say "$(first 'it is not proved that')"
-    elif grep -q error "$log"; then
-        say "$(first 'error')"
+    elif grep -q 'error[:[]' "$log"; then
+        say "$(first 'error[:[]')"
     else
         say "rt ended early: $(sed '/ NOT PROVED/,$d' "$log" | tail -n 1 | cut -c 1-300)"
     fi
