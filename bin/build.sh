@@ -1,6 +1,6 @@
 # Proves the program's crates and builds the program. It is sourced after bin/sources.sh, and `say` and `fail` are the
 # functions of the script that does so.
-# shellcheck shell=sh disable=SC2154
+# shellcheck shell=sh disable=SC2034,SC2154
 
 # The proofs are those of the merge gate: `rt ci`, which proves crates side by side and keeps what passed beside the
 # toolchain, by the bytes that it read. So what one build or a run of the gate proved is not proved again. Here it runs
@@ -21,10 +21,10 @@ begin() {
     trap 'fail 129 "the build was interrupted"' HUP
     trap 'fail 130 "the build was interrupted"' INT
     trap 'fail 143 "the build was interrupted"' TERM
-    room=$(mktemp -d) && mkdir "$room/copy" || fail 125 "no folder for temporary files"
+    room=$(mktemp -d) || fail 125 "no folder for temporary files"
     log=$room/log
     : >"$log"
-    copy "$room/copy" || fail 125 "the sources could not be copied to $room"
+    copy "$room/copy" || fail 125 "the sources could not be copied to $room/copy"
 }
 
 end() {
@@ -35,10 +35,12 @@ end() {
 
 # Copies what the program is made of, and what it is run on.
 copy() { # the folder
-    mkdir "$1/.git" && crate_lines >"$1/crates.txt" || return
+    mkdir "$1" "$1/.git" || return
+    crate_lines >"$1/crates.txt" || return
     [ ! -f "$top/HANDLES" ] || cp "$top/HANDLES" "$1" || return
     for folder in $(folders); do
-        mkdir -p "$1/$(dirname "$folder")" && cp -R "$top/$folder" "$1/$folder" || return
+        mkdir -p "$1/$(dirname "$folder")" || return
+        cp -R "$top/$folder" "$1/$folder" || return
     done
     for name in args data status stdin stdout; do
         [ ! -e "$crate/$name" ] || cp -R "$crate/$name" "$1/crates/speedex" || return
