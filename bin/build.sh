@@ -129,17 +129,19 @@ make() { # the level
     [ "$1" != x86-64-v2 ] || return 0
     made=$room/$1
     say "building the program for $1"
-    compile "$1" >>"$log" 2>&1 &
+    kit=$(dirname "$(rt doc)")
+    (compile "$1") >>"$log" 2>&1 &
     rt=$!
     wait "$rt" || refuse
     rt=
+    link "$1" >>"$log" 2>&1 || refuse
 }
 
-# Builds and links the program as `rt run --cpu=LEVEL` does, over libraries that `rt ci` has proved, which `rt run` would
-# prove anew. The compiler and the linker work on files of fixed names in folders of their own, and the linker names the
-# program by a digest of its bytes, so that neither a path nor the time is in it.
+# Builds the program as `rt run --cpu=LEVEL` does, over libraries that `rt ci` has proved, which `rt run` would prove
+# anew. The compiler and the linker work on files of fixed names in folders of their own, and the linker names the program
+# by a digest of its bytes, so neither a path nor the time is in it.
 compile() { # the level
-    kit=$(dirname "$(rt doc)") && cd "$room/copy/crates/speedex" || return
+    cd "$room/copy/crates/speedex" || return
     level=$1
     set -- --crate-name speedex src/main.rt --extern "std=$kit/rlibs/std.rlib" -L "dependency=$kit/rlibs"
     for name in $(crate_lines | sed -n 's/^speedex *://p'); do
@@ -154,7 +156,10 @@ compile() { # the level
     done
     set -- "$@" --antt-project "$kit/rattle/logic/antt-project.json" --logic-built "$kit/logic_built"
     set -- "$@" --links speedex= "--cpu=$level" --toolchain "$kit/toolchain" --backend llvm
-    "$kit/bin/rattle" build "$@" -o "$room/$level.o" &&
-        "$kit/bin/rattle-link" --target x86_64-unknown-linux-gnu --toolchain "$kit/toolchain" -o "$room/$level" \
-            "$room/$level.o" "$kit/c/libos_c.a" "$kit/c/liblibc_c.a"
+    exec "$kit/bin/rattle" build "$@" -o "$room/$level.o"
+}
+
+link() { # the level
+    "$kit/bin/rattle-link" --target x86_64-unknown-linux-gnu --toolchain "$kit/toolchain" -o "$room/$1" \
+        "$room/$1.o" "$kit/c/libos_c.a" "$kit/c/liblibc_c.a"
 }
