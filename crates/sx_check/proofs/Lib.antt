@@ -1,5 +1,5 @@
 pub mod Counting
 pub mod OfferLaws
 pub mod Cases
-pub mod Named
+pub mod OnceNamed
 pub mod BoundLaws

@@ -3,7 +3,7 @@ use Rattle.std.proofs.lemmas.Result.{IfErr-weaker, IfOk-weaker}
 use Rattle.sx_block.specs.Rule as rule
 use Rattle.sx_check.specs.Judged.{CanBeApplied, IsJudged}
 use Rattle.sx_check.specs.Explanations.{ExplainsButParent, ExplainsEarly}
-use Rattle.sx_check.proofs.Named.{explains_early, is_judged}
+use Rattle.sx_check.proofs.OnceNamed.{explains_early, is_judged}
 use Rattle.sx_block.proofs.Rules.{but_parent}
 use Rattle.sx_check.proofs.judging.judge.Goals as goal
 
