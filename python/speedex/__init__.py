@@ -30,7 +30,7 @@ from .errors import (
     UsageError,
     WriteFaultError,
 )
-from .explain import Explanation, Step, explain
+from .explanation import Explanation, Step, explain
 from .fills import ExecutionReport, execution_report
 from .ledger import Fill
 from .reading import decode, decode_all, records_of, transaction_columns

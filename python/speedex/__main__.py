@@ -11,7 +11,7 @@ from typing import List, Optional, Tuple
 
 from . import records as it
 from .errors import DecodeError, RefusedError, SpeedexError
-from .explain import MOST_LINES, explain
+from .explanation import MOST_LINES, explain
 from .fills import as_csv, as_json, as_text, execution_report
 from .reading import record_at
 

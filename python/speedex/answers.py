@@ -62,7 +62,8 @@ class Input:
 
     def blocks(self, judge: Callable[[it.Block], None]) -> None:
         """Blocks up to the end, each with outcomes behind it or not; each is judged before the next one is read."""
-        count, may_come = 0, (3,)
+        count = 0
+        may_come: Tuple[int, ...] = (3,)
         while not self.ends():
             begin = self.at
             record = self.next(*may_come)
@@ -96,7 +97,8 @@ def _replay(data: Input, words: Sequence[int]) -> bytes:
 
 
 def _follow(data: Input, words: Sequence[int]) -> bytes:
-    state, blocks = data.state(), []  # type: Tuple[it.State, List[it.Block]]
+    state = data.state()
+    blocks: List[it.Block] = []
     data.blocks(blocks.append)
     return encode(rules.follow(state, blocks))
 
@@ -165,18 +167,16 @@ def numbers_of(words: Sequence[str]) -> List[int]:
     if not words or words[0] not in {*COMMANDS, "seal", "demo"}:
         raise UsageError(USAGE)
     command, rest = words[0], [part for word in words[1:] for part in _parts(word)]
-    options, given, numbers = _OPTIONS.get(command, {}), set(), []
-    while rest:
-        word = rest.pop(0)
-        if word in options and word not in given and rest:
-            given.add(word)
-            least, most = options[word]
-            if not least <= _number(rest.pop(0)) <= most:
-                raise UsageError(USAGE)
-        else:
-            numbers.append(_number(word))
-    if len(numbers) != (command in _NUMBERED):
+    numbers = [_number(rest.pop(0)) for _ in range(command in _NUMBERED and bool(rest))]
+    if len(numbers) != (command in _NUMBERED) or len(rest) % 2:
         raise UsageError(USAGE)
+    options = _OPTIONS.get(command, {})
+    for word, number in zip(rest[::2], rest[1::2]):
+        if word not in options or rest[::2].count(word) > 1:
+            raise UsageError(USAGE)
+        least, most = options[word]
+        if not least <= _number(number) <= most:
+            raise UsageError(USAGE)
     return numbers
 
 

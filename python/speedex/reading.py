@@ -178,7 +178,7 @@ def _block(at: _Reader) -> it.Block:
 def _outcomes(at: _Reader) -> it.Outcomes:
     data, place, end = at.data, at.at + 4, at.end
     found: List[it.Outcome] = []
-    fixed = {0: it.Accepted(), 2: it.SeqTaken(), 3: it.OfferTaken(), 4: it.NameTaken()}
+    fixed: Dict[int, it.Outcome] = {0: it.Accepted(), 2: it.SeqTaken(), 3: it.OfferTaken(), 4: it.NameTaken()}
     for _ in range(min(at.number("I"), it.MOST_TRANSACTIONS + 1)):
         if place >= end:
             raise Unreadable(end)

@@ -11,7 +11,7 @@ with ``dataclasses.replace``.
 from __future__ import annotations
 
 from dataclasses import dataclass
-from typing import Any, Dict, Optional, Tuple, Type, Union
+from typing import Any, Callable, Dict, Optional, Tuple, Type, Union
 
 #: A price, a limit price or a value of 1.
 ONE = 1 << 24
@@ -41,7 +41,7 @@ LEVELS = 16
 class _Entry:
     """What is frozen and has slots, and can still be copied and pickled."""
 
-    __slots__ = ()
+    __slots__: Tuple[str, ...] = ()
 
     def __reduce__(self) -> Tuple[Any, ...]:
         return type(self), tuple(getattr(self, name) for name in self.__slots__)
@@ -156,7 +156,7 @@ class Cancellation(_Entry):
 
 
 Transaction = Union[Payment, Creation, NewOffer, Cancellation]
-KINDS: Dict[int, Type[Transaction]] = {1: Payment, 2: Creation, 3: NewOffer, 4: Cancellation}
+KINDS: Dict[int, Callable[..., Transaction]] = {1: Payment, 2: Creation, 3: NewOffer, 4: Cancellation}
 
 
 @dataclass(frozen=True)
@@ -261,7 +261,7 @@ class Overdraft(_Entry):
 
 
 Outcome = Union[Accepted, Static, SeqTaken, OfferTaken, NameTaken, Overdraft]
-RESULTS: Dict[int, Type[Outcome]] = {0: Accepted, 1: Static, 2: SeqTaken, 3: OfferTaken, 4: NameTaken, 5: Overdraft}
+RESULTS: Dict[int, Callable[..., Outcome]] = {0: Accepted, 1: Static, 2: SeqTaken, 3: OfferTaken, 4: NameTaken, 5: Overdraft}
 
 
 @dataclass(frozen=True)
@@ -303,4 +303,4 @@ class AccountProof:
 Record = Union[State, Candidates, Block, Outcomes, Script, AccountProof]
 #: The tag of each kind of record.
 TAGS: Dict[int, Type[Record]] = {1: State, 2: Candidates, 3: Block, 4: Outcomes, 5: Script, 6: AccountProof}
-TAG_OF: Dict[Type[Record], int] = {kind: tag for tag, kind in TAGS.items()}
+TAG_OF: Dict[type, int] = {kind: tag for tag, kind in TAGS.items()}
