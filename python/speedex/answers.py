@@ -1,7 +1,8 @@
 """What the program has to answer to an input, worked out from the documents alone: an independent answer for tests.
 
-``answer(words, data)`` is the exit code, the standard output and the line on standard error. All commands are here but
-``seal``, of which many answers are right, and ``demo``, whose market no document has: ``COMMANDS`` names those that are.
+``answer(words, data)`` is the exit code, the standard output and the line on standard error. Two things are not worked
+out here, and raise ``NotImplementedError``: what a ``seal`` writes, of which many outputs are right, and what a ``demo``
+writes, whose market no document has.
 """
 
 from __future__ import annotations
@@ -13,7 +14,7 @@ from . import gathering, rules, text
 from . import records as it
 from .errors import DecodeError, SpeedexError, UsageError
 from .reading import record_at
-from .scanning import REST, SHORT, TOO_MANY
+from .scanning import REST, TOO_MANY
 from .writing import encode
 
 USAGE = "usage: speedex seal, replay, check, show, interleave, migrate, filter, prove ID, verify, follow or demo N"
@@ -116,6 +117,17 @@ def _interleave(data: Input, words: Sequence[int]) -> bytes:
     return encode(gathering.interleave(state, candidates, script))
 
 
+def _seal(data: Input, words: Sequence[int]) -> bytes:
+    state, candidates = data.state(), data.candidates()
+    data.finish()
+    gathering.refuse_crowd(state, candidates.transactions)
+    raise NotImplementedError("what is sealed is not worked out here")
+
+
+def _demo(data: Input, words: Sequence[int]) -> bytes:
+    raise NotImplementedError("the market of a demonstration is not worked out here")
+
+
 def _migrate(data: Input, words: Sequence[int]) -> bytes:
     state = data.state()
     data.finish()
@@ -143,8 +155,10 @@ def _verify(data: Input, words: Sequence[int]) -> bytes:
     return f"proof {verdict} account {proof.account.id} place {proof.place} root {proof.root.hex()}\n".encode()
 
 
-#: The commands that are answered here.
+#: How each command is answered.
 COMMANDS: Dict[str, Callable[[Input, Sequence[int]], bytes]] = {
+    "seal": _seal,
+    "demo": _demo,
     "check": _check,
     "replay": _replay,
     "follow": _follow,
@@ -164,7 +178,7 @@ _BARE = re.compile(r"0|[1-9][0-9]{0,19}")
 
 def numbers_of(words: Sequence[str]) -> List[int]:
     """The number behind the command, if it has one; a ``UsageError`` where the program does not know the words."""
-    if not words or words[0] not in {*COMMANDS, "seal", "demo"}:
+    if not words or words[0] not in COMMANDS:
         raise UsageError(USAGE)
     command, rest = words[0], [part for word in words[1:] for part in _parts(word)]
     numbers = [_number(rest.pop(0)) for _ in range(command in _NUMBERED and bool(rest))]
@@ -195,12 +209,7 @@ def answer(words: Sequence[str], data: bytes) -> Answer:
     """What the program answers to these words and this input."""
     try:
         numbers = numbers_of(words)
-        if words[0] not in COMMANDS:
-            raise NotImplementedError(f"the answer of {words[0]} is not worked out here")
         return Answer(0, COMMANDS[words[0]](Input(data), numbers), "")
     except SpeedexError as error:
         assert error.code is not None
         return Answer(error.code, b"", str(error))
-
-
-__all__ = ["Answer", "COMMANDS", "Input", "SHORT", "USAGE", "answer", "numbers_of"]

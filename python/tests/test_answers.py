@@ -17,13 +17,13 @@ class StoredCases(unittest.TestCase):
     def test_all_commands_that_are_answered_here(self) -> None:
         answered = 0
         for case in stored():
-            if case.words and case.words[0] in ("seal", "demo") and case.code != 2:
+            if case.words and case.words[0] in ("seal", "demo") and case.code == 0:
                 continue
             with self.subTest(case.name):
                 found = answers.answer(case.words, case.input)
                 self.assertEqual(found, (case.code, case.output, case.line))
                 answered += 1
-        self.assertGreater(answered, 380)
+        self.assertGreater(answered, 390)
 
     def test_what_is_sealed_is_valid_and_leaves_the_stored_state(self) -> None:
         engine, sealed_cases = speedex.Engine(), 0

@@ -42,7 +42,8 @@ class Commands(unittest.TestCase):
         script = speedex.Script(2, bytes((0, 1, 1, 0)))
         found = self.engine.interleave(self.state, self.candidates, script)
         self.assertEqual(found, gathering.interleave(self.state, self.candidates, script))
-        for record in (self.state, self.candidates, script):
+        shown: Tuple[speedex.Record, ...] = (self.state, self.candidates, script)
+        for record in shown:
             self.assertEqual(self.engine.show(record), speedex.show(record))
         self.assertEqual(self.engine.demo(1).splitlines()[0], "demo 1")
 

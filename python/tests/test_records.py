@@ -57,7 +57,7 @@ class RoundTrips(unittest.TestCase):
             offer.amount = 4  # type: ignore[misc]
 
     def test_lists_become_tuples(self) -> None:
-        state = speedex.State(1, 0, [speedex.ONE], [0], [speedex.Account(1, 0, 0, [5])])  # type: ignore[arg-type, list-item]
+        state = speedex.State(1, 0, [speedex.ONE], [0], [speedex.Account(1, 0, 0, [5])])  # type: ignore[arg-type]
         self.assertEqual(state.accounts[0].balances, (5,))
         self.assertEqual(speedex.decode(speedex.encode(state)), state)
 
