@@ -17,8 +17,8 @@ from .reading import record_at
 
 ABOUT = """Looks at a block on the state before it, by the arithmetic of this package and not by the program's.
 
-STATE is a file with the record of a state, and BLOCK one with that of a block, as `speedex seal` writes it: the outcomes
-of its candidates may stand behind it. `-` is standard input."""
+STATE is a file with the record of a state, and BLOCK one with the record of a block, as `speedex seal` writes it: the
+outcomes of its candidates may stand behind it. `-` is standard input."""
 
 
 def main(words: Optional[List[str]] = None) -> int:

@@ -1,8 +1,8 @@
 """What the program has to answer to an input, worked out from the documents alone: an independent answer for tests.
 
 ``answer(words, data)`` is the exit code, the standard output and the line on standard error. Two things are not worked
-out here, and raise ``NotImplementedError``: what a ``seal`` writes, of which many outputs are right, and what a ``demo``
-writes, whose market no document has.
+out here, and raise ``NotImplementedError``: what a ``seal`` writes, of which many outputs are right, and what a
+``demo`` writes, whose market no document has.
 """
 
 from __future__ import annotations
@@ -177,7 +177,7 @@ _BARE = re.compile(r"0|[1-9][0-9]{0,19}")
 
 
 def numbers_of(words: Sequence[str]) -> List[int]:
-    """The number behind the command, if it has one; a ``UsageError`` where the program does not know the words."""
+    """The number behind the command, if it has one; a ``UsageError`` if the program does not know the words."""
     if not words or words[0] not in COMMANDS:
         raise UsageError(USAGE)
     command, rest = words[0], [part for word in words[1:] for part in _parts(word)]

@@ -21,8 +21,9 @@ Scale = Callable[[float], float]
 
 #: A curve is drawn in so many steps at most, however many offers it has.
 MOST_STEPS = 48
-#: A circulation shows so many arrows at most, those of the greatest values.
-MOST_ARROWS = 240
+#: Up to so many assets all arrows of a circulation are drawn; above, those of the greatest values, and a matrix.
+FEW = 12
+MOST_ARROWS = 64
 
 
 def svg(name: str, width: int, height: int, title: str, about: str, parts: Sequence[str], wide: bool = False) -> str:
@@ -71,10 +72,10 @@ def circulation(
     """The assets on a circle with their potentials, and an arrow for what each pair trades, from the asset that is
     sold to the one that is bought, as wide as its value. Assets inside the cut have a square."""
     count = len(names)
-    size, radius, node = (560, 215, 15) if count > 12 else (480, 160, 24)
+    size, radius, node = (560, 215, 15) if count > FEW else (480, 160, 24)
     middle, high = size / 2, 220 if count == 2 else size
     spots = _spots(count, middle, high / 2, radius)
-    shown = sorted(values.items(), key=lambda item: (-item[1], item[0]))[:MOST_ARROWS]
+    shown = sorted(values.items(), key=lambda item: (-item[1], item[0]))[: MOST_ARROWS if count > FEW else None]
     most = max(values.values(), default=1)
     parts = []
     for (sell, buy), value in reversed(shown):
@@ -87,7 +88,7 @@ def circulation(
             parts.append(f'<rect class="{kind}" {corner} width="{2 * node}" height="{2 * node}" rx="4"/>')
         else:
             parts.append(f'<circle class="{kind}" cx="{spot.x:.4g}" cy="{spot.y:.4g}" r="{node}"/>')
-        parts.append(_text(spot.x, spot.y + 5, names[asset], "name" if count <= 12 else "name small"))
+        parts.append(_text(spot.x, spot.y + 5, names[asset], "name" if count <= FEW else "name small"))
         away = 1 + (node + 22) / radius
         x, y = middle + (spot.x - middle) * away, high / 2 + (spot.y - high / 2) * away
         parts.append(_text(x, y + 5, f"π {potentials[asset]}", "potential"))
@@ -97,7 +98,7 @@ def circulation(
         about += f"; the arrows of the {len(shown)} greatest are drawn"
     if cut is not None:
         about += ". Assets inside the cut have a square"
-    return svg("circulation", size, high, "The circulation, with potentials", about + ".", parts, wide=count > 12)
+    return svg("circulation", size, high, "The circulation, with potentials", about + ".", parts, wide=count > FEW)
 
 
 def _arrow(begin: _Spot, end: _Spot, node: float, share: float, count: int) -> str:
@@ -113,7 +114,7 @@ def _arrow(begin: _Spot, end: _Spot, node: float, share: float, count: int) -> s
     last = _towards(end, bent, node + 3 + head)
     back = math.hypot(tip.x - last.x, tip.y - last.y) or 1
     side_x, side_y = (tip.y - last.y) / back * head * 0.55, (last.x - tip.x) / back * head * 0.55
-    faint = 1.0 if count <= 4 else 0.2 + 0.7 * share * share
+    faint = 1.0 if count <= 4 else 0.25 + 0.7 * share * share
     line = f"M{first.x:.4g} {first.y:.4g}Q{bent.x:.4g} {bent.y:.4g} {last.x:.4g} {last.y:.4g}"
     point = (
         f"M{tip.x:.4g} {tip.y:.4g}L{last.x + side_x:.4g} {last.y + side_y:.4g}"
@@ -125,9 +126,30 @@ def _arrow(begin: _Spot, end: _Spot, node: float, share: float, count: int) -> s
     )
 
 
+def matrix(names: Sequence[str], values: Mapping[Pair, int]) -> str:
+    """What each pair trades: a row for each asset that is sold, a column for each that is bought, and a square whose
+    area is the value."""
+    cell, edge = 16, 26
+    size = edge + cell * len(names) + 4
+    most = max(values.values(), default=1)
+    parts = []
+    for place, name in enumerate(names):
+        middle = edge + cell * place + cell / 2
+        parts.append(_text(middle, edge - 8, name, "tiny"))
+        parts.append(_text(edge - 6, middle + 4, name, "tiny", "end"))
+        corner = edge + cell * place
+        parts.append(f'<rect class="self" x="{corner}" y="{corner}" width="{cell}" height="{cell}"/>')
+    for (sell, buy), value in sorted(values.items()):
+        side = max(1.0, (cell - 2) * math.sqrt(value / most))
+        x, y = edge + cell * buy + (cell - side) / 2, edge + cell * sell + (cell - side) / 2
+        parts.append(f'<rect class="value" x="{x:.4g}" y="{y:.4g}" width="{side:.3g}" height="{side:.3g}"/>')
+    about = f"{len(values)} of {len(names) * (len(names) - 1)} pairs trade. The table below has the figures."
+    return svg("matrix", size, size, "What each pair trades", about, parts, wide=True)
+
+
 def _widest(count: int) -> float:
     """How much wider than a hair the widest arrow is."""
-    return 7 if count <= 4 else 4.5 if count <= 12 else 3.5
+    return 7 if count <= 4 else 4.5 if count <= FEW else 3.5
 
 
 def _towards(begin: _Spot, end: _Spot, far: float) -> _Spot:

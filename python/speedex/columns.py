@@ -63,7 +63,7 @@ class TransactionColumns:
 
 
 def column(joined: bytes, stride: int, offset: int, width: int) -> Column:
-    """The numbers that stand at an offset of each entry, where all entries have the length ``stride``."""
+    """The numbers that stand at an offset of each entry, if all entries have the length ``stride``."""
     if width == 1:
         return array("B", joined[offset::stride])
     spread = bytearray(width * (len(joined) // stride))

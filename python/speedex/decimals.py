@@ -2,7 +2,7 @@
 
 Prices, limit prices and values are whole numbers in units of ``2^-24``, which have a finite decimal each: at most 24
 digits behind the point. A decimal need not have such a number. So whoever turns a decimal into a number says how it is
-rounded, and where nothing is said one that is not exact is a ``ValueError``.
+rounded, and if nothing is said one that is not exact is a ``ValueError``.
 """
 
 from __future__ import annotations
@@ -51,7 +51,7 @@ def whole(number: Fraction, rounding: str = "") -> int:
 
 
 def to_units(number: Number, places: int = 0, rounding: str = "") -> int:
-    """How many units of an asset a decimal amount is, where a unit is the last of so many decimal places:
+    """How many units of an asset a decimal amount is, if a unit is the last of so many decimal places:
     ``to_units("50.125", 3)`` is 50125."""
     return whole(fraction_of(number) * 10**places, rounding)
 
@@ -85,7 +85,7 @@ def rounded(number: Number, places: int) -> str:
 
 def limit_price(rate: Number, sell_places: int = 0, buy_places: int = 0) -> int:
     """The limit price, in units of ``2^-24``, of somebody who wants at least ``rate`` of the bought asset for 1 of the
-    sold one, where their units are the last of so many decimal places. It is rounded up, so nobody gets less:
+    sold one, if their units are the last of so many decimal places. It is rounded up, so nobody gets less:
     ``limit_price("64.80", 3, 2)`` is 108716360, for gold in milligrams and euro in cents."""
     return whole(fraction_of(rate) * Fraction(10) ** (buy_places - sell_places) * ONE, UP)
 

@@ -14,7 +14,7 @@ from . import gathering, ledger
 from . import records as it
 from .writing import body_digest, state_digest
 
-#: What comes where a number or a word does not fit.
+#: What comes if a number or a word does not fit.
 WRONG = (ValueError, IndexError, KeyError, TypeError, OverflowError, ZeroDivisionError, struct.error)
 
 OUTCOME_NAMES: Dict[Type[it.Outcome], str] = {
@@ -45,7 +45,7 @@ def decimal(word: str) -> int:
 
 
 def matched(words: Sequence[str], pattern: str) -> List[int]:
-    """The numbers of a line, where it is that of the pattern: words in small letters stand as they are, those in
+    """The numbers of a line, if it fits the pattern: words in small letters stand as they are, words in
     capitals for a number, and one that ends in two dots for any number of them."""
     names = pattern.split()
     if names[-1].endswith(".."):
@@ -64,7 +64,7 @@ def options(words: Sequence[str], *names: str) -> Dict[str, int]:
 
 
 def count_in(words: Sequence[str]) -> Optional[int]:
-    """The count in a line of two words; None where it is left out."""
+    """The count in a line of two words; None if it is left out."""
     return matched(words, f"{words[0]} COUNT")[0] if len(words) > 1 else None
 
 
@@ -82,7 +82,7 @@ def put_once(to: MutableMapping[KeyType, ValueType], key: KeyType, value: ValueT
 
 
 def agree(said: Optional[int], count: int) -> None:
-    """Sees that there are as many entries as the text says, where it says so."""
+    """Sees that there are as many entries as the text says, if it says so."""
     if said not in (None, count):
         raise ValueError
 
@@ -214,8 +214,11 @@ class _Block(Draft):
     def block(
         self, height: int, prices: List[int], right: Dict[str, List[int]], digests: Dict[str, bytes]
     ) -> it.Block:
-        """The block, with these figures where its text has none."""
-        rows = {name: [self.rows.get(at, {}).get(name, it_is) for at, it_is in enumerate(right[name])] for name in right}
+        """The block, with these figures if its text has none."""
+        rows = {
+            name: [self.rows.get(at, {}).get(name, figure) for at, figure in enumerate(figures)]
+            for name, figures in right.items()
+        }
         said = {name: bytes.fromhex(self.words[name]) for name in ("parent", "body", "after") if name in self.words}
         digests = {**digests, **said}
         return it.Block(

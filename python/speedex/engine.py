@@ -99,7 +99,7 @@ class Engine:
         return Answer(done.returncode, done.stdout, done.stderr.decode(errors="replace").strip())
 
     def call(self, words: Sequence[str], data: bytes = b"") -> bytes:
-        """The output of a command. An answer other than that of code 0 is raised."""
+        """The output of a command. An answer of another code than 0 is raised."""
         answer = self.run(words, data)
         if answer.code != 0:
             raise error_of(answer.code, answer.line)
@@ -129,7 +129,7 @@ class Engine:
         return Sealed(block, outcomes, data)
 
     def check(self, state: StateLike, block: BlockLike) -> Verdict:
-        """Whether a block is valid for a state; a ``RefusedError`` where it is not."""
+        """Whether a block is valid for a state; a ``RefusedError`` if it is not."""
         found = self._line(_VALID, ["check"], _bytes(state) + _bytes(block))
         return Verdict(int(found[1]), int(found[2]), found[3] == "dropped")
 
@@ -153,7 +153,7 @@ class Engine:
     def interleave(
         self, state: StateLike, candidates: CandidatesLike, script: Union[it.Script, bytes]
     ) -> it.Outcomes:
-        """What becomes of candidates where a script says who makes the next step."""
+        """What becomes of candidates if a script says who makes the next step."""
         return self._record(it.Outcomes, ["interleave"], state, candidates, script)
 
     def migrate(self, state: StateLike) -> it.State:

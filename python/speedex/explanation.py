@@ -1,6 +1,6 @@
 """Why a block is valid or refused: the rules one by one, each with its sums, by the arithmetic of this package.
 
-The figures are those that the program's line has, so the two can be compared. Values are in units of ``2^-24``, with
+The figures are the ones in the program's line, so the two can be compared. Values are in units of ``2^-24``, with
 the decimal in brackets.
 """
 
@@ -232,7 +232,7 @@ def _within(on: Survey, refusal: Refusal) -> Said:
 
 
 def _amounts(on: Survey, sell: int, buy: int) -> Tuple[int, int]:
-    """The units of a pair's offers that may trade, and of those that must."""
+    """The units of a pair's offers that may trade, and of its offers that must."""
     may = must = 0
     prices = on.block.prices
     for key, amount in on.settled.offers.items():

@@ -18,7 +18,7 @@ from .writing import account_bytes, digest
 
 
 def refuse_crowd(state: it.State, transactions: Sequence[it.Transaction]) -> None:
-    """Raises the refusal where a ledger has no room for candidates."""
+    """Raises the refusal if a ledger has no room for candidates."""
     if state.height >= it.MOST_HEIGHT:
         raise RefusedError(0, 1)
     refusal = room_for(state, transactions)
@@ -45,8 +45,8 @@ def _claim(made: it.Transaction) -> Optional[Tuple[int, ...]]:
 
 
 def kept(state: it.State, candidates: it.Candidates) -> it.Candidates:
-    """The candidates that may all stand in one block, by account and sequence number: of those that exclude each other
-    none is kept."""
+    """The candidates that may all stand in one block, by account and sequence number: of candidates that exclude each
+    other none is kept."""
     refuse_crowd(state, candidates.transactions)
     index = Index(state)
     passing = [made for made in candidates.transactions if index.static_of(made) == 0]
@@ -141,7 +141,7 @@ class _Run:
 
 
 def interleave(state: it.State, candidates: it.Candidates, script: it.Script) -> it.Outcomes:
-    """What becomes of candidates where a script says who makes the next step."""
+    """What becomes of candidates if a script says who makes the next step."""
     refuse_crowd(state, candidates.transactions)
     run = _Run(state, candidates.transactions, script.actors)
     for actor in script.turns:

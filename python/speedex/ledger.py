@@ -207,7 +207,7 @@ def ledger_after(state: it.State, block: it.Block, effects: Settled, fills: Iter
 
 
 def potentials_of(block: it.Block, bounds: Mapping[Pair, Bounds]) -> List[int]:
-    """Potentials that fit the trades of a block, where there are any: the least, by rounds over all pairs."""
+    """Potentials that fit the trades of a block, if there are any: the least, by rounds over all pairs."""
     values = block.values
     potentials = [0 for _ in block.prices]
     for _ in block.prices:

@@ -110,7 +110,7 @@ def transaction_columns(data: bytes) -> TransactionColumns:
 
 
 class _Reader:
-    """Reads fields in bulk and tests nothing but that they are there; ``fine`` falls where a transaction is wrong."""
+    """Reads fields in bulk and tests nothing but that they are there; ``fine`` falls if a transaction is wrong."""
 
     def __init__(self, data: bytes, at: int, end: int) -> None:
         self.data, self.at, self.end = data, at, end
@@ -233,8 +233,8 @@ def _window_fits(account: it.Account, version: int) -> bool:
 
 
 def is_fine(record: it.Record) -> bool:
-    """Whether a record that has the structure of one keeps all ranges, orders and totals. Where it does not,
-    ``scanning`` says which is the first that is broken; where it does, no fault is there. Of transactions nothing but
+    """Whether a record that has the structure of one keeps all ranges, orders and totals. If it does not,
+    ``scanning`` says which is the first that is broken; if it does, no fault is there. Of transactions nothing but
     the order in a block is looked at: their reader looks at the rest."""
     return _FINE[type(record)](record)
 
@@ -311,8 +311,9 @@ def _outcomes_fit(outcomes: it.Outcomes) -> bool:
 
 
 def _script_fits(script: it.Script) -> bool:
-    turns = script.turns
-    return 1 <= script.actors <= it.MOST_ACTORS and len(turns) <= it.MOST_TURNS and max(turns, default=0) < script.actors
+    if not 1 <= script.actors <= it.MOST_ACTORS or len(script.turns) > it.MOST_TURNS:
+        return False
+    return max(script.turns, default=0) < script.actors
 
 
 def _proof_fits(proof: it.AccountProof) -> bool:

@@ -183,7 +183,7 @@ class Trade(_Entry):
 class Block:
     """A block: what it says of the trade, and its transactions.
 
-    ``parent``, ``body`` and ``after`` are digests of 32 bytes. The margin is ``2^-mu``. ``cut`` is None where lower
+    ``parent``, ``body`` and ``after`` are digests of 32 bytes. The margin is ``2^-mu``. ``cut`` is None if lower
     bounds were kept, else the set of assets that shows why they were dropped: bit *i* stands for asset *i*.
     ``roundings`` is what this block keeps of each asset, in units.
     """
@@ -261,7 +261,14 @@ class Overdraft(_Entry):
 
 
 Outcome = Union[Accepted, Static, SeqTaken, OfferTaken, NameTaken, Overdraft]
-RESULTS: Dict[int, Callable[..., Outcome]] = {0: Accepted, 1: Static, 2: SeqTaken, 3: OfferTaken, 4: NameTaken, 5: Overdraft}
+RESULTS: Dict[int, Callable[..., Outcome]] = {
+    0: Accepted,
+    1: Static,
+    2: SeqTaken,
+    3: OfferTaken,
+    4: NameTaken,
+    5: Overdraft,
+}
 
 
 @dataclass(frozen=True)

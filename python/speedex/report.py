@@ -121,8 +121,8 @@ class _Page:
         picture = charts.circulation(self.names, self.block.potentials, values, self.block.cut)
         words = (
             "Each arrow leads from the asset that is sold to the one that is bought, and is as wide as its value. Of "
-            "each asset as much value goes out as comes in. The potentials π show that nothing trades more: the gain of "
-            "a pair is 1, plus π of the sold asset, less π of the bought one. A pair with a gain above 0 trades all "
+            "each asset as much value goes out as comes in. The potentials π show that nothing trades more: the gain "
+            "of a pair is 1, plus π of the sold asset, less π of the bought one. A pair with a gain above 0 trades all "
             "that it may, and one with a gain below 0 only what it must."
         )
         rows: List[Tuple[int, Sequence[Cell]]] = []
@@ -132,13 +132,22 @@ class _Page:
                 row = [f"{sell} for {buy}", rate, value(low), value(traded), value(high), f"{self.on.gain(sell, buy)}"]
                 rows.append((-traded, [*row, percent(traded, high), bar(traded, high)]))
         rows.sort(key=lambda item: item[0])
-        heads = ["Pair", "Batch rate", "Must trade", "Trades", "May trade", "Gain", "Part", "Part of what may"]
+        heads = ["Pair", "Batch rate", "Must trade", "Trades", "May trade", "Gain", "Part", "Part of what may trade"]
         caption = "What each pair must trade, trades and may trade, by value"
         return (
             paragraph(words)
             + f'<figure class="large">{picture}</figure>'
+            + self.matrix()
             + _folded([row for _, row in rows], OPEN_ROWS, caption, heads, (7,), "pairs")
         )
+
+    def matrix(self) -> str:
+        """What all pairs trade in one picture, if there are too many for arrows."""
+        if len(self.names) <= charts.FEW:
+            return ""
+        picture = charts.matrix(self.names, self.block.values)
+        words = "Each row is an asset that is sold, each column one that is bought. The fuller a cell, the more trades."
+        return f'<figure class="large">{picture}<figcaption>{words}</figcaption></figure>'
 
     def cut(self) -> str:
         cut = self.block.cut or 0
@@ -175,11 +184,8 @@ class _Page:
             f"{charts.MOST_STEPS} steps."
         )
         rest = drawn[OPEN_BOOKS:]
-        more = (
-            f"<details><summary>{len(rest)} more order books</summary><div class='books'>{''.join(rest)}</div></details>"
-            if rest
-            else ""
-        )
+        folded = f'<summary>{len(rest)} more order books</summary><div class="books">{"".join(rest)}</div>'
+        more = f"<details>{folded}</details>" if rest else ""
         return paragraph(words) + _KEY + f'<div class="books">{"".join(drawn[:OPEN_BOOKS])}</div>' + more
 
     def book(self, offers: Dict[Pair, List[Tuple[int, int]]], pair: Pair) -> str:
@@ -217,7 +223,7 @@ class _Page:
             wide=(3,),
         )
         if self.outcomes is None:
-            return found + paragraph("What became of other candidates is not known: no outcomes stand behind the block.")
+            return found + paragraph("What became of other candidates is not known: the block stands alone.")
         outcomes = Counter(map(_outcome_name, self.outcomes.outcomes))
         total = len(self.outcomes.outcomes)
         lines: List[Sequence[Cell]] = [

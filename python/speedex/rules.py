@@ -37,7 +37,7 @@ class Index:
         self.offers = {offer.key: offer.amount for offer in state.offers}
 
     def static_of(self, made: it.Transaction) -> int:
-        """Why the ledger refuses a transaction by itself, as in ``errors.STATIC_REASONS``; 0 where it passes."""
+        """Why the ledger refuses a transaction by itself, as in ``errors.STATIC_REASONS``; 0 if it passes."""
         account = self.accounts.get(made.account)
         if account is None:
             return 1
@@ -67,7 +67,7 @@ def _named(made: it.Cancellation) -> ledger.Key:
 
 
 def room_for(state: it.State, transactions: Sequence[it.Transaction]) -> Refusal:
-    """Why a ledger has no room for what transactions create and offer; None where there is."""
+    """Why a ledger has no room for what transactions create and offer; None if there is."""
     for have, kind, limit in (
         (len(state.accounts), it.Creation, it.MOST_ACCOUNTS),
         (len(state.offers), it.NewOffer, it.MOST_OFFERS),
@@ -293,12 +293,12 @@ def verdict_of(block: it.Block) -> Verdict:
 
 
 def refusal_of(survey: Survey) -> Refusal:
-    """The first rule that a block breaks; None where it is valid."""
+    """The first rule that a block breaks; None if it is valid."""
     return next((refusal for _, rule in RULES for refusal in (rule(survey),) if refusal is not None), None)
 
 
 def check(state: it.State, block: it.Block) -> Verdict:
-    """What there is to say of a block that is valid for a state; a ``RefusedError`` where it is not."""
+    """What there is to say of a block that is valid for a state; a ``RefusedError`` if it is not."""
     refusal = refusal_of(Survey(state, block))
     if refusal is not None:
         raise refusal
@@ -317,7 +317,7 @@ def replay(state: it.State, blocks: Sequence[it.Block]) -> it.State:
 
 
 def follow(state: it.State, blocks: Sequence[it.Block]) -> it.State:
-    """The ledger after the chain that blocks make, whatever their order; those that are not valid are passed over."""
+    """The ledger after the chain that blocks make, whatever their order; blocks that are not valid are passed over."""
     by_height: Dict[int, List[it.Block]] = {}
     for block in blocks:
         by_height.setdefault(block.height, []).append(block)

@@ -1,7 +1,7 @@
 """The formats, field by field: finds the first fault of a payload, as ``docs/FORMATS.md`` has it.
 
 A field is read whole and then tested, from left to right, and the first fault is the answer. This is the one place that
-says which fault comes and at which offset. ``reading`` takes whole payloads at once, and calls this where something in
+says which fault comes and at which offset. ``reading`` takes whole payloads at once, and calls this if something in
 them is out of order.
 """
 
@@ -58,7 +58,7 @@ def _pair(at: Cursor, assets: int) -> Tuple[int, int]:
 
 
 def account(at: Cursor, version: int, assets: int) -> it.Account:
-    """An account, but for its place among others."""
+    """An account, whatever its place among others."""
     id = at.number(8)
     last = at.tested(8, 0, it.MOST_SEQ, SEQ_RANGE)
     used, begin = 0, at.at

@@ -5,7 +5,7 @@ counts gold in thousandths, so an amount of 50000 units is written ``50.000``, a
 whole golds and whole euros. Without it assets are numbers and amounts are units. Limit prices are decimals either way,
 and exact: a table that was written is read back to the same records. A table of somebody else may have a limit price
 that is no multiple of ``2^-24``; ``rounding`` says what becomes of it (``decimals.UP``: the seller gets no less), and
-where nothing is said that line is refused. A line that is not understood is a ``TextError`` with its number.
+if nothing is said that line is refused. A line that is not understood is a ``TextError`` with its number.
 """
 
 from __future__ import annotations
@@ -190,8 +190,8 @@ def _outcome(cells: _Cells) -> Tuple[int, it.Outcome]:
 
 
 def read_transactions(file: Iterable[str], assets: Assets = (), rounding: str = "") -> List[it.Transaction]:
-    """Transactions from the lines of a table with the columns ``TRANSACTION_COLUMNS``; those of kinds that do not come
-    may be left out. Cells that a kind has no use for are empty."""
+    """Transactions from the lines of a table with the columns ``TRANSACTION_COLUMNS``; columns of kinds that do not
+    come may be left out. Cells that a kind has no use for are empty."""
     return list(_rows(file, assets, rounding, _transaction))
 
 

@@ -41,12 +41,13 @@ it, up to the next such line, belong to it.
 
 Lines of one kind stand in the order in which they are to be written: accounts by id, offers and the transactions of a
 block as ``docs/FORMATS.md`` says. Neither order nor ranges are tested, so wrong records can be made on purpose. Every
-word is, though: a line with a word or a number too many, too few or at another place is a ``TextError``, which names it.
+word is, though: a line with a word or a number too many, too few or at another place is a ``TextError``, which names
+it.
 
 In a line that begins a record each word after the first may be left out, with its number: a version is then 1, a count
 is that of the lines, and a block has the next height and μ = 2^-10. In a block everything but the lines ``tx`` may be
 left out, and so may the ends of a line ``asset``. The prices are then those of the ledger before the block, and
-digests, roundings and potentials are right ones: each block is applied to the ledger before it. Where that fails, as
+digests, roundings and potentials are right ones: each block is applied to the ledger before it. If that fails, as
 with an overdraft, roundings, potentials and the digest ``after`` are 0. Of a proof a line ``account ID`` is enough: the
 rest is what the ledger before it has. ``show`` writes every line.
 """

@@ -161,8 +161,10 @@ class Commands(unittest.TestCase):
         self.assertEqual((code, text.splitlines()[-1]), (0, "valid height 1 value 1006632960 bounds kept"))
         code, text, _ = self.run_main("fills", *files, "--json")
         self.assertEqual((code, json.loads(text)["height"]), (0, 1))
+        fills = len(json.loads(text)["fills"])
+        self.assertEqual(fills, 2)
         code, text, _ = self.run_main("fills", *files, "--csv")
-        self.assertEqual((code, text.count("\n")), (0, 1 + len(json.loads(self.run_main("fills", *files, "--json")[1])["fills"])))
+        self.assertEqual((code, text.count("\n")), (0, 1 + fills))
         with tempfile.TemporaryDirectory() as folder:
             page = pathlib.Path(folder) / "market.html"
             self.assertEqual(self.run_main("report", *files, "-o", str(page)), (0, "", ""))

@@ -134,7 +134,8 @@ class Faults(unittest.TestCase):
 
     def test_wrong_structure_is_told_without_ranges_too(self) -> None:
         data = speedex.encode(speedex.Outcomes((speedex.Static(3),)))
-        self.assertEqual(list(speedex.records_of(data[:-1] + b"\x63", strict=False)), [speedex.Outcomes((speedex.Static(99),))])
+        found = list(speedex.records_of(data[:-1] + b"\x63", strict=False))
+        self.assertEqual(found, [speedex.Outcomes((speedex.Static(99),))])
         with self.assertRaises(speedex.DecodeError) as caught:
             list(speedex.records_of(data[:9] + b"\7" + data[10:], strict=False))
         self.assertEqual(str(caught.exception), "malformed at 9: 2 Tag")
