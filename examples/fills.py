@@ -11,69 +11,37 @@ script writes a line `block height H`, and a line for each offer that trades in 
 The account gave N units of the asset SELL, and got M units of BUY. R units are left on offer; if R is 0, the offer is
 gone. The three are whole units, and exact.
 
-The arithmetic is that of docs/RULES.md. In each pair offers trade from the lowest limit price up, until the value that
-the block names is used up. The script does not judge the block. But from its fills it makes the ledger after the block,
-and it writes nothing of a block if the block names another digest. It is written apart from the program, and nothing
-of it is proved.
+It is a front of the package in python/, which is written apart from the program, from docs/RULES.md, and of which
+nothing is proved. A block that is not valid ends the script, and nothing of it is written.
+`python3 -m speedex fills STATE BLOCK` there writes more of one block, as CSV or JSON.
 """
 import os
+import pathlib
 import sys
 
-sys.dont_write_bytecode = True
-from records import BLOCK, OUTCOMES, STATE, WRONG, Bytes, applied, digest, read_block, read_state, state_record
+sys.path.insert(0, str(pathlib.Path(__file__).resolve().parent.parent / "python"))
 
-
-def fills_of(state, block):
-    """The fills of a block as (offer, gives, gets), and the ledger after the block. An offer is its key and amount."""
-    prices = block["prices"]
-    # the body alone: what resting and new offers trade is found below
-    after, _ = applied(state, {**block, "trades": {}})
-    balances = {id: units for id, _, _, units in after["accounts"]}
-    unused, fills, left = dict(block["trades"]), [], []
-    for *key, amount in after["offers"]:
-        sell, buy, _, account, _ = key
-        value = min(unused.get((sell, buy), 0), prices[sell] * amount)
-        gives, gets = -(-value // prices[sell]), value // prices[buy]
-        if value:
-            unused[sell, buy] -= value
-            balances[account][buy] += gets
-            after["roundings"][sell] += gives
-            after["roundings"][buy] -= gets
-            fills.append(((*key, amount), gives, gets))
-        if gives < amount:
-            left.append((*key, amount - gives))
-    return fills, {**after, "offers": left}
-
-
-def records_of(data):
-    """The tag of each record, and the bytes at its payload."""
-    at = Bytes(data)
-    while at.at < len(data):
-        tag, length = at.fields("BI")
-        yield tag, Bytes(at.take(length))
+from speedex import errors, reading, records, rules  # noqa: E402
 
 
 def report(data):
-    """The lines of all blocks. Those of a block come once its fills are found to lead to the ledger that it names."""
+    """The lines of all blocks. Those of a block come once it is found to be valid."""
     state = None
-    for tag, payload in records_of(data):
-        if tag == STATE and state is None:
-            state = read_state(payload)
-        elif tag == BLOCK and state is not None:
-            block = read_block(payload)
-            try:
-                fills, state = fills_of(state, block)
-                is_named = digest(state_record(state)) == block["after"]
-            except WRONG:
-                is_named = False
-            if not is_named:
-                sys.exit(f"fills: the block of height {block['height']} names another ledger than its fills lead to")
-            yield f"block height {block['height']}"
-            for (sell, buy, limit, account, seq, amount), gives, gets in fills:
-                offer = f"{sell} {buy} limit {limit} account {account} seq {seq}"
-                yield f"fill {offer} gives {gives} gets {gets} left {amount - gives}"
-        elif tag != OUTCOMES or state is None:
-            sys.exit(f"fills: a record of tag {tag} may not come here; a state and then blocks are wanted")
+    for record in reading.records_of(data):
+        if isinstance(record, records.State) and state is None:
+            state = record
+        elif isinstance(record, records.Block) and state is not None:
+            survey = rules.Survey(state, record)
+            refusal = rules.refusal_of(survey)
+            if refusal is not None:
+                raise refusal
+            yield f"block height {record.height}"
+            for fill in survey.fills:
+                offer = f"{fill.sell} {fill.buy} limit {fill.limit} account {fill.account} seq {fill.seq}"
+                yield f"fill {offer} gives {fill.gives} gets {fill.gets} left {fill.stays}"
+            state = survey.after
+        elif not isinstance(record, records.Outcomes) or state is None:
+            sys.exit(f"fills: a {type(record).__name__} may not come here; a state and then blocks are wanted")
 
 
 def main():
@@ -87,6 +55,9 @@ def main():
 if __name__ == "__main__":
     try:
         main()
+    except errors.SpeedexError as error:
+        sys.stdout.flush()
+        sys.exit(f"fills: {error}")
     except BrokenPipeError:
         # whoever reads the output wants no more of it
         os.dup2(os.open(os.devnull, os.O_WRONLY), sys.stdout.fileno())
