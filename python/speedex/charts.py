@@ -91,7 +91,7 @@ def circulation(
         parts.append(_text(spot.x, spot.y + 5, names[asset], "name" if count <= FEW else "name small"))
         away = 1 + (node + 22) / radius
         x, y = middle + (spot.x - middle) * away, high / 2 + (spot.y - high / 2) * away
-        parts.append(_text(x, y + 5, f"π {potentials[asset]}", "potential"))
+        parts.append(_text(x, y + 5, f"π {potentials[asset]}", "potential" if count <= FEW else "potential small"))
     total = sum(values.values())
     about = f"{count} assets on a circle. {len(values)} pairs trade a value of {rounded(Fraction(total, 1 << 24), 2)}"
     if len(shown) < len(values):

@@ -122,8 +122,8 @@ class _Page:
         words = (
             "Each arrow leads from the asset that is sold to the one that is bought, and is as wide as its value. Of "
             "each asset as much value goes out as comes in. The potentials π show that nothing trades more: the gain "
-            "of a pair is 1, plus π of the sold asset, less π of the bought one. A pair with a gain above 0 trades all "
-            "that it may, and one with a gain below 0 only what it must."
+            "of a pair is 1, plus π of the sold asset, less π of the bought one. A pair with a gain above 0 trades "
+            "all that it may, and one with a gain below 0 only what it must."
         )
         rows: List[Tuple[int, Sequence[Cell]]] = []
         for (sell, buy), low, high, traded in self.on.pairs():
@@ -136,10 +136,17 @@ class _Page:
         caption = "What each pair must trade, trades and may trade, by value"
         return (
             paragraph(words)
-            + f'<figure class="large">{picture}</figure>'
+            + f'<figure class="large">{picture}{self.arrows()}</figure>'
             + self.matrix()
             + _folded([row for _, row in rows], OPEN_ROWS, caption, heads, (7,), "pairs")
         )
+
+    def arrows(self) -> str:
+        """Which pairs the picture of the circulation shows, if not all."""
+        pairs = len(self.block.trades)
+        if len(self.names) <= charts.FEW or pairs <= charts.MOST_ARROWS:
+            return ""
+        return f"<figcaption>The {charts.MOST_ARROWS} greatest of {pairs} pairs; the next picture has all.</figcaption>"
 
     def matrix(self) -> str:
         """What all pairs trade in one picture, if there are too many for arrows."""
@@ -153,6 +160,7 @@ class _Page:
         cut = self.block.cut or 0
         must, may = self.on.through_cut()
         inside = [asset for asset in self.assets if cut >> asset & 1]
+        which = "assets" if len(inside) > 1 else "asset"
         rows: List[Sequence[Cell]] = []
         for (sell, buy), (low, high) in sorted(self.on.bounds.items()):
             sells, buys = cut >> sell & 1, cut >> buy & 1
@@ -161,7 +169,7 @@ class _Page:
             if sells and not buys and high:
                 rows.append([f"{sell} for {buy}", "out of", "", value(high)])
         words = (
-            f"The cut is the set of assets {', '.join(map(str, inside))}. In a circulation as much value goes into a "
+            f"The cut is the set of {which} {', '.join(map(str, inside))}. In a circulation as much value goes into a "
             "set as out of it. Here more must go in than may go out, so no circulation has every offer trade that "
             "must, and each pair may trade from 0 up."
         )
