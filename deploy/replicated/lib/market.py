@@ -1,0 +1,113 @@
+"""A market that is drawn from a seed: a first state, and traders whose candidates are mixed, mostly right and sometimes
+wrong on purpose. Only for trials: it writes what docs/FORMATS.md says, and knows none of the other programs here."""
+
+import struct
+
+import entries
+
+ONE = 1 << 24
+ASSETS = 4
+FIRST = 1000
+KINDS = (entries.PAY, entries.CREATE, entries.SELL, entries.CANCEL)
+
+
+def transaction(account, number, kind, *fields):
+    parts = {entries.PAY: ">QBQ", entries.CREATE: ">Q"}.get(kind, ">BBQQ")
+    return struct.pack(">QQB", account, number, kind) + struct.pack(parts, *fields)
+
+
+def first_state(draw, accounts, version=2):
+    """A ledger of so many accounts, each with some of each asset, at prices near to one another."""
+    out = struct.pack(">BQB", version, 0, ASSETS)
+    out += struct.pack(f">{ASSETS}Q", *(ONE * draw.randint(8, 24) // 12 for _ in range(ASSETS)))
+    out += bytes(8 * ASSETS) + struct.pack(">I", accounts)
+    for id in range(FIRST, FIRST + accounts):
+        out += struct.pack(">QQ", id, 0) + (bytes(8) if version == 2 else b"")
+        out += struct.pack(f">{ASSETS}Q", *(draw.randint(0, 100_000) for _ in range(ASSETS)))
+    return entries.record(1, out + bytes(4))
+
+
+class Traders:
+    """Who draws candidates: each account takes its numbers from the lowest one that it has not used and that is not on
+    its way, and learns from the outcomes which were used."""
+
+    def __init__(self, draw, accounts):
+        self.draw, self.accounts = draw, list(range(FIRST, FIRST + accounts))
+        self.next_id = FIRST + accounts
+        self.used, self.sent, self.last = {}, {}, {}
+        self.offers = []
+
+    def number(self, account):
+        used, sent = self.used.setdefault(account, set()), self.sent.setdefault(account, set())
+        number = self.last.get(account, 0) + 1
+        while number in used or number in sent:
+            number += 1
+        sent.add(number)
+        return number
+
+    def candidate(self):
+        draw = self.draw
+        account = draw.choice(self.accounts)
+        number = self.number(account)
+        kind = draw.choices(KINDS, (55, 4, 33, 8))[0]
+        if kind == entries.CANCEL and self.offers:
+            # an own offer, which may be filled or cancelled by then
+            self.sent[account].discard(number)
+            account, sold, bought, limit, made = draw.choice(self.offers)
+            return transaction(account, self.number(account), kind, sold, bought, limit, made)
+        if kind == entries.CREATE:
+            self.next_id += draw.random() < 0.7
+            return transaction(account, number, kind, self.next_id)
+        if kind == entries.PAY:
+            payee = draw.choice(self.accounts) if draw.random() < 0.97 else 7
+            return transaction(account, number, kind, payee, draw.randrange(ASSETS), self.amount())
+        sold, bought = draw.sample(range(ASSETS), 2) if draw.random() < 0.98 else (1, 1)
+        limit = ONE * draw.randint(40, 140) // 100
+        if draw.random() < 0.02:
+            return transaction(account, number, entries.SELL, sold, bought, 1, 1)
+        return transaction(account, number, entries.SELL, sold, bought, limit, self.amount())
+
+    def amount(self):
+        return self.draw.randint(1, 3000) if self.draw.random() < 0.97 else self.draw.randint(200_000, 900_000)
+
+    def told(self, candidate, accepted):
+        """What became of a candidate."""
+        account, number, kind = entries.START.unpack_from(candidate)
+        self.sent.setdefault(account, set()).discard(number)
+        if not accepted:
+            return
+        used = self.used.setdefault(account, set())
+        used.add(number)
+        last = self.last.get(account, 0)
+        while last + 1 in used:
+            last += 1
+            used.discard(last)
+        self.last[account] = last
+        if kind == entries.CREATE:
+            (id,) = struct.unpack_from(">Q", candidate, 17)
+            self.accounts.append(id)
+        elif kind == entries.SELL:
+            sold, bought, limit, _ = entries.OFFER.unpack_from(candidate, 17)
+            self.offers.append((account, sold, bought, limit, number))
+            if len(self.offers) > 2000:
+                del self.offers[: len(self.offers) - 1000]
+
+
+def broken(draw, body):
+    """A message that is no candidates record, with the number of the fault that it has."""
+    start = entries.FRAME.size + 4
+    way = draw.randrange(6)
+    if way == 0:
+        return body[: draw.randrange(len(body))], 1
+    if way == 1:
+        return body + b"\0", 10
+    if way == 2:
+        return b"\x03" + body[1:], 2
+    # the first transaction without what it has to have: its kind, its number
+    head, tail = body[:start], body[start + 17 :]
+    account, number, kind = entries.START.unpack_from(body, start)
+    if way == 3:
+        return head + entries.START.pack(account, number, 9) + tail, 2
+    if way == 4:
+        return head + entries.START.pack(account, 0, kind) + tail, 5
+    return b"\x02\xff\xff\xff\xff" + body[5:], 13
