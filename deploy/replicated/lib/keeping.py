@@ -91,9 +91,9 @@ class Head:
         while len(self.names) > self.remember:
             self.names.popitem(last=False)
 
-    def apply(self, program, found):
-        """Judges entries, given as (offset, bytes) in the order of the log; answers those that it applied."""
-        applied = []
+    def apply(self, program, found, applied):
+        """Judges entries, given as (offset, bytes) in the order of the log, and adds those that it applies to a list. If
+        it ends with an exception, the list and this head have what was judged until then."""
         found = [(offset, data) for offset, data in found if offset >= self.next]
         while found:
             if found[0][0] != self.next:
@@ -107,12 +107,11 @@ class Head:
                 left = self.left_by(program, linked)
             if left is not None:
                 self.take(left)
-                for offset, entry in linked:
+                for _, entry in linked:
                     self.name(entry.names())
-                    applied.append((offset, entry))
+                applied += linked
             self.next = found[taken - 1][0] + 1
             found = found[taken:]
-        return applied
 
     def linked(self, found):
         """Of the first entries those whose blocks name each the ledger before them, and how many were looked at."""

@@ -23,7 +23,7 @@ def first_state(draw, accounts, version=2):
     out += bytes(8 * ASSETS) + struct.pack(">I", accounts)
     for id in range(FIRST, FIRST + accounts):
         out += struct.pack(">QQ", id, 0) + (bytes(8) if version == 2 else b"")
-        out += struct.pack(f">{ASSETS}Q", *(draw.randint(0, 100_000) for _ in range(ASSETS)))
+        out += struct.pack(f">{ASSETS}Q", *(draw.randint(0, 200_000) for _ in range(ASSETS)))
     return entries.record(1, out + bytes(4))
 
 
@@ -31,8 +31,9 @@ class Traders:
     """Who draws candidates: each account takes its numbers from the lowest one that it has not used and that is not on
     its way, and learns from the outcomes which were used."""
 
-    def __init__(self, draw, accounts):
-        self.draw, self.accounts = draw, list(range(FIRST, FIRST + accounts))
+    def __init__(self, draw, accounts, version=2, most_accounts=2000, most_offers=500):
+        self.draw, self.version, self.accounts = draw, version, list(range(FIRST, FIRST + accounts))
+        self.last_id, self.most_offers = FIRST + most_accounts, most_offers
         self.next_id = FIRST + accounts
         self.used, self.sent, self.last = {}, {}, {}
         self.offers = []
@@ -48,16 +49,18 @@ class Traders:
     def candidate(self):
         draw = self.draw
         account = draw.choice(self.accounts)
+        if draw.random() < 0.04:
+            return self.wrong(account)
         number = self.number(account)
-        kind = draw.choices(KINDS, (55, 4, 33, 8))[0]
+        kind = draw.choices(KINDS, (55, 4, 33, 8 if len(self.offers) < self.most_offers else 60))[0]
         if kind == entries.CANCEL and self.offers:
             # an own offer, which may be filled or cancelled by then
             self.sent[account].discard(number)
             account, sold, bought, limit, made = draw.choice(self.offers)
             return transaction(account, self.number(account), kind, sold, bought, limit, made)
         if kind == entries.CREATE:
-            self.next_id += draw.random() < 0.7
-            return transaction(account, number, kind, self.next_id)
+            self.next_id = min(self.last_id, self.next_id + (draw.random() < 0.7))
+            return transaction(account, number, kind, self.next_id - 1)
         if kind == entries.PAY:
             payee = draw.choice(self.accounts) if draw.random() < 0.97 else 7
             return transaction(account, number, kind, payee, draw.randrange(ASSETS), self.amount())
@@ -66,6 +69,22 @@ class Traders:
         if draw.random() < 0.02:
             return transaction(account, number, entries.SELL, sold, bought, 1, 1)
         return transaction(account, number, entries.SELL, sold, bought, limit, self.amount())
+
+    def wrong(self, account):
+        """A candidate that a ledger refuses by itself."""
+        last, used = self.last.get(account, 0), self.used.get(account, set())
+        way = self.draw.randrange(6)
+        if way == 0:
+            return transaction(3, 1, entries.PAY, account, 0, 1)
+        if way == 1:
+            return transaction(account, max(1, last), entries.CANCEL, 0, 1, ONE, 1)
+        if way == 2:
+            return transaction(account, last + 65 + self.draw.randrange(9), entries.PAY, account, 0, 1)
+        if way == 3 and used:
+            return transaction(account, max(used), entries.PAY, account, 0, 1)
+        if way == 4:
+            return transaction(account, last + 64, entries.PAY, account, ASSETS, 1)
+        return transaction(account, last + 63, entries.CANCEL, 0, 1, 3, 1)
 
     def amount(self):
         return self.draw.randint(1, 3000) if self.draw.random() < 0.97 else self.draw.randint(200_000, 900_000)
@@ -76,12 +95,14 @@ class Traders:
         self.sent.setdefault(account, set()).discard(number)
         if not accepted:
             return
-        used = self.used.setdefault(account, set())
+        used, last = self.used.setdefault(account, set()), self.last.get(account, 0)
         used.add(number)
-        last = self.last.get(account, 0)
+        if self.version == 1:
+            # numbers that were left out are lost
+            last = max(last, number)
         while last + 1 in used:
             last += 1
-            used.discard(last)
+        used -= {it for it in used if it <= last}
         self.last[account] = last
         if kind == entries.CREATE:
             (id,) = struct.unpack_from(">Q", candidate, 17)
@@ -89,8 +110,8 @@ class Traders:
         elif kind == entries.SELL:
             sold, bought, limit, _ = entries.OFFER.unpack_from(candidate, 17)
             self.offers.append((account, sold, bought, limit, number))
-            if len(self.offers) > 2000:
-                del self.offers[: len(self.offers) - 1000]
+            if len(self.offers) > 2 * self.most_offers:
+                del self.offers[: self.most_offers]
 
 
 def broken(draw, body):

@@ -145,8 +145,7 @@ class Service:
             ("entries_passed_total", "counter", "Entries that were passed over, since their block was not valid."),
             ("lag_entries", "gauge", "Entries that came from the log and were not judged yet."),
             ("lag_seconds", "gauge", "Seconds since the oldest such entry was published; 0 if there is none."),
-            ("block_seconds", "gauge", "Seconds that the last block took from its seal to its end here."),
-            ("block_seconds_total", "counter", "The sum of these."),
+            ("judge_seconds", "gauge", "Seconds that judging the last entries that came took."),
             ("connected", "gauge", "1 if there is a connection to a broker."),
             ("connections_total", "counter", "Connections that were made."),
             ("save_failures_total", "counter", "Times that the head could not be written."),
@@ -257,11 +256,14 @@ class Service:
         began, tag = time.monotonic(), self.last_tag
         self.metrics.set("lag_entries", len(came))
         self.metrics.set("lag_seconds", max(0.0, time.time() - came[0][2]))
-        before = self.head.next
+        before, applied = self.head.next, []
         found = [(offset, body) for offset, body, _, _ in came]
-        applied = self.meanwhile(self.head.apply, self.program, found)
-        for offset, entry in applied:
-            self.applied(offset, entry)
+        try:
+            self.meanwhile(self.head.apply, self.program, found, applied)
+        finally:
+            for offset, entry in applied:
+                self.applied(offset, entry)
+        self.metrics.set("judge_seconds", time.monotonic() - began)
         self.metrics.add("entries_applied_total", len(applied))
         self.metrics.add("entries_passed_total", self.head.next - before - len(applied))
         self.metrics.set("lag_entries", len(self.came))
