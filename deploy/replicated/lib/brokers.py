@@ -221,7 +221,7 @@ class Cluster:
         found = {"vhosts": [{"name": "/"}], "users": users, "permissions": permissions}
         (self.folder / "definitions.json").write_text(json.dumps(found))
 
-    def start(self, seconds=120):
+    def start(self, seconds=300):
         for node in self.nodes:
             node.start()
             time.sleep(1)
