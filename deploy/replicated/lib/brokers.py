@@ -86,8 +86,7 @@ class Node:
             "cluster_formation.peer_discovery_backend = classic_config",
             *nodes,
             "cluster_partition_handling = pause_minority",
-            "net_ticktime = 4",
-            "heartbeat = 5",
+            f"net_ticktime = {4 * self.cluster.patience}",
             "disk_free_limit.absolute = 50MB",
             "vm_memory_high_watermark.absolute = 2GB",
             "log.file.level = info",
@@ -171,8 +170,8 @@ class Node:
 
 
 class Cluster:
-    def __init__(self, folder, apart):
-        self.folder, self.apart = pathlib.Path(folder), apart
+    def __init__(self, folder, apart, patience=1):
+        self.folder, self.apart, self.patience = pathlib.Path(folder), apart, patience
         self.epmd_port = 4369 if apart else free_ports(1)[0]
         self.tls = self.folder / "tls"
         self.passwords = {user: secrets.token_urlsafe(18) for user in USERS}
@@ -221,7 +220,7 @@ class Cluster:
         found = {"vhosts": [{"name": "/"}], "users": users, "permissions": permissions}
         (self.folder / "definitions.json").write_text(json.dumps(found))
 
-    def start(self, seconds=300):
+    def start(self, seconds=120):
         for node in self.nodes:
             node.start()
             time.sleep(1)
@@ -246,7 +245,7 @@ class Cluster:
         """Of each queue its leader and which of its replicas answer, as a node says that does, or nothing."""
         for node in self.nodes:
             if self.answers(node):
-                text = node.ask("list_queues", "name", "leader", "online", "messages", "--formatter", "json", seconds=10)
+                text = node.ask("list_queues", "name", "leader", "online", "messages", "--formatter", "json", seconds=10 * self.patience)
                 if text:
                     return {it["name"]: it for it in json.loads(text)}
         return {}
@@ -269,7 +268,7 @@ class Cluster:
         broker = {
             "hosts": " ".join(f"{it.address}:{it.port}" for it in self.nodes),
             "user": user, "password_file": self.folder / f"{user}.password",
-            "ca_file": self.tls / "ca.pem", "heartbeat": 5,
+            "ca_file": self.tls / "ca.pem", "heartbeat": 5 * self.patience,
         }  # fmt: skip
         lines = []
         for section, pairs in {"broker": broker, **sections}.items():
