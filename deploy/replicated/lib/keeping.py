@@ -100,11 +100,12 @@ class Head:
                 raise Broken(f"the log goes on at {found[0][0]}, and this node has to read {self.next} first")
             linked, taken = self.linked(found)
             left = self.left_by(program, linked)
-            if left is None and len(linked) > 1:
-                # one of them is not valid: the first alone, so that the others are judged on what it leaves
-                first = next(place for place, it in enumerate(found) if it[0] == linked[0][0])
-                linked, taken = linked[:1], first + 1
-                left = self.left_by(program, linked)
+            if left is None and linked:
+                # one of them is not valid: only the first is judged now, and the others on what it leaves
+                if len(linked) > 1:
+                    linked = linked[:1]
+                    left = self.left_by(program, linked)
+                taken = linked[0][0] - self.next + 1
             if left is not None:
                 self.take(left)
                 for _, entry in linked:
