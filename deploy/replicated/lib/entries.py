@@ -94,7 +94,7 @@ def split_candidates(body):
 
 
 def candidates_record(candidates):
-    """The record of these candidates, each of which may be the bytes of several; or of (count, bytes)."""
+    """The record of candidates, each given as its bytes."""
     return record(CANDIDATES, COUNT.pack(len(candidates)) + b"".join(candidates))
 
 

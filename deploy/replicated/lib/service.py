@@ -135,7 +135,7 @@ class Service:
             sys.exit(f"{what}: [node] folder is missing")
         words = shlex.split(self.settings["sealer"]["seal_words"])
         self.program = keeping.Program(shlex.split(self.node["program"]), words)
-        self.pool = concurrent.futures.ThreadPoolExecutor(2)
+        self.pool = concurrent.futures.ThreadPoolExecutor(4)
         self.stopping, self.connection, self.alive, self.trouble = False, None, time.monotonic(), None
         self.metrics = Metrics()
         for name, kind, meaning in (
