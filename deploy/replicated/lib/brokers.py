@@ -6,6 +6,7 @@ does not, the nodes share the loopback and differ in their ports, and to cut a n
 """
 
 import base64
+import contextlib
 import hashlib
 import json
 import os
@@ -146,6 +147,10 @@ class Node:
         """SIGKILL to all processes of this node, which are one session that we began."""
         os.killpg(self.process.pid, signal.SIGKILL)
         self.process.wait()
+        # in name spaces of its own the kernel hands their children to this program
+        with contextlib.suppress(ChildProcessError):
+            while True:
+                os.waitpid(-self.process.pid, 0)
 
     def cut_off(self):
         if self.cluster.apart:

@@ -6,8 +6,9 @@ of the entries up to it, and all nodes have the same one. `speedex follow` is wh
 
 The file `head` of a node's folder has all of it, so that a crash at any moment leaves the old whole or the new whole:
 
-    a line of JSON   next: the offset of the next entry to read; height; state and names: how many bytes and names follow;
-                     digest: SHA-256 of the state record; whole: SHA-256 of all that follows the line
+    a line of JSON   next: the offset of the next entry to read; last: SHA-256 of the entry before it, or nothing; height;
+                     state and names: how many bytes and names follow; digest: SHA-256 of the state record; whole: SHA-256
+                     of all that follows the line
     the state record, as the program reads and writes it
     the names of the messages that were decided last, of 16 bytes each, the oldest first
 """
@@ -24,6 +25,9 @@ import entries
 HEAD = "head"
 # how much one call of the program is given at most: bytes and blocks
 MOST_BYTES, MOST_BLOCKS = 64 << 20, 256
+# what bin/speedex asks of the C library: huge pages, and memory that is kept
+KEEP = "mmap_threshold=4294967296:glibc.malloc.trim_threshold=4294967296:glibc.malloc.top_pad=67108864"
+TUNABLES = f"glibc.malloc.hugetlb=1:glibc.malloc.{KEEP}:glibc.malloc.arena_max=1"
 MALFORMED, REFUSED = 5, 6
 TAG = 2
 
@@ -40,7 +44,10 @@ class Program:
 
     def run(self, words, *pieces):
         """The exit code, the output and the line on standard error."""
-        done = subprocess.run([*self.command, *words], input=b"".join(pieces), capture_output=True, check=False)
+        environment = {"GLIBC_TUNABLES": TUNABLES, **os.environ}
+        done = subprocess.run(
+            [*self.command, *words], input=b"".join(pieces), capture_output=True, check=False, env=environment
+        )
         return done.returncode, done.stdout, done.stderr.decode(errors="replace").strip()
 
     def seal(self, state, candidates):
@@ -70,8 +77,8 @@ class Program:
 class Head:
     """A ledger, the offset of the next entry, and the names of the messages that were decided last."""
 
-    def __init__(self, state, offset=0, names=(), remember=100_000):
-        self.next, self.remember = offset, remember
+    def __init__(self, state, offset=0, last="", names=(), remember=100_000):
+        self.next, self.last, self.remember = offset, last, remember
         self.names = collections.OrderedDict.fromkeys(names)
         self.foreseen = None
         self.take(state)
@@ -94,6 +101,9 @@ class Head:
     def apply(self, program, found, applied):
         """Judges entries, given as (offset, bytes) in the order of the log, and adds those that it applies to a list. If
         it ends with an exception, the list and this head have what was judged until then."""
+        for offset, data in found:
+            if offset == self.next - 1 and self.last != hashlib.sha256(data).hexdigest():
+                raise Broken(f"the log has another entry at {offset} than this node read there: it is another log")
         found = [(offset, data) for offset, data in found if offset >= self.next]
         while found:
             if found[0][0] != self.next:
@@ -111,6 +121,7 @@ class Head:
                 for _, entry in linked:
                     self.name(entry.names())
                 applied += linked
+            self.last = hashlib.sha256(found[taken - 1][1]).hexdigest()
             self.next = found[taken - 1][0] + 1
             found = found[taken:]
 
@@ -148,7 +159,8 @@ class Head:
     def save(self, folder):
         """Writes the file: the whole of it under another name, then to the disk, then renamed, then the folder."""
         names = b"".join(self.names)
-        line = {"next": self.next, "height": self.height, "state": len(self.state), "names": len(self.names)}
+        line = {"next": self.next, "last": self.last, "height": self.height}
+        line |= {"state": len(self.state), "names": len(self.names)}
         line |= {"digest": self.digest.hex(), "whole": hashlib.sha256(self.state + names).hexdigest()}
         path, fresh = os.path.join(folder, HEAD), os.path.join(folder, HEAD + ".new")
         with open(fresh, "wb") as file:
@@ -175,7 +187,8 @@ class Head:
         if hashlib.sha256(rest).hexdigest() != line["whole"]:
             raise Broken(f"{folder}/{HEAD} is damaged: copy that of another node, or begin with the first state")
         state, names = rest[: line["state"]], rest[line["state"] :]
-        head = cls(state, line["next"], (names[at : at + 16] for at in range(0, len(names), 16)), remember)
+        names = (names[at : at + 16] for at in range(0, len(names), 16))
+        head = cls(state, line["next"], line["last"], names, remember)
         if (head.height, head.digest.hex(), len(head.names)) != (line["height"], line["digest"], line["names"]):
             raise Broken(f"{folder}/{HEAD} is damaged: its line is for another state")
         return head

@@ -235,11 +235,12 @@ class Service:
         return running.result()
 
     def read_log(self):
-        """Has the entries from the next one on put into `self.came`, each (offset, bytes, when published, token)."""
+        """Has the entries put into `self.came`, each (offset, bytes, when published, token), from the one before the next
+        on: that one is compared with the one that was read."""
         self.came = []
         self.channel = self.connection.channel()
         self.channel.basic_qos(prefetch_count=self.node.getint("read_ahead"))
-        start = {"x-stream-offset": self.head.next}
+        start = {"x-stream-offset": max(0, self.head.next - 1)}
         self.channel.basic_consume(BLOCKS, self.entry_came, arguments=start)
 
     def entry_came(self, channel, method, properties, body):
