@@ -28,6 +28,13 @@ USERS = {
     "client": ("", "^candidates$", "^outcomes$"),
     "auditor": ("", "", "^(blocks|outcomes)$"),
 }
+QUEUES = """lists:flatten([begin
+    I = rabbit_amqqueue:info(Q, [name, leader, online]),
+    {resource, _, queue, Name} = proplists:get_value(name, I),
+    Online = length(proplists:get_value(online, I)),
+    io_lib:format("~s ~s ~b~n", [Name, proplists:get_value(leader, I), Online])
+end || Q <- rabbit_amqqueue:list()]).
+"""
 INSIDE = "SPEEDEX_NAME_SPACES"
 
 
@@ -164,14 +171,13 @@ class Node:
         else:
             os.killpg(self.process.pid, signal.SIGCONT)
 
-    def ask(self, *words, seconds=60):
-        """The output of rabbitmqctl at this node, or None."""
-        done = subprocess.run(
-            [*self.within(), f"{BIN}/rabbitmqctl", "--quiet", "--node", self.name]
-            + (["--longnames"] if self.cluster.apart else []) + ["--timeout", str(seconds), *words],
-            env=self.environment(), stdin=subprocess.DEVNULL, capture_output=True, text=True,
-        )  # fmt: skip
-        return done.stdout if done.returncode == 0 else None
+    def queues(self, seconds):
+        """Of each queue its leader and how many of its replicas answer, as this node says, or nothing. `erl_call` of
+        Erlang asks it, which takes a hundredth of the time that rabbitmqctl takes."""
+        words = [*self.within(), "erl_call", "-address", f"{self.address}:{self.link_port}", "-timeout", str(seconds), "-e"]
+        done = subprocess.run(words, env=self.environment(), input=QUEUES, capture_output=True, text=True)
+        lines = done.stdout.partition('{ok, "')[2].rpartition('"}')[0].split("\\n")
+        return {name: (leader, int(count)) for name, leader, count in (it.split() for it in lines if it)}
 
 
 class Cluster:
@@ -247,12 +253,11 @@ class Cluster:
             return False
 
     def queues(self):
-        """Of each queue its leader and which of its replicas answer, as a node says that does, or nothing."""
+        """The same, as the first node says that answers."""
         for node in self.nodes:
-            if self.answers(node):
-                text = node.ask("list_queues", "name", "leader", "online", "messages", "--formatter", "json", seconds=10 * self.patience)
-                if text:
-                    return {it["name"]: it for it in json.loads(text)}
+            found = node.queues(10 * self.patience) if self.answers(node) else {}
+            if found:
+                return found
         return {}
 
     def stop(self):
