@@ -148,7 +148,7 @@ class Node:
             self.process = subprocess.Popen(
                 [*self.within(), f"{BIN}/rabbitmq-server"],
                 env=self.environment(), stdin=subprocess.DEVNULL, stdout=out, stderr=out, start_new_session=True,
-            )  # fmt: skip
+            )
 
     def kill(self):
         """SIGKILL to all processes of this node, which are one session that we began."""
@@ -222,7 +222,7 @@ class Cluster:
             users.append(
                 {"name": user, "password_hash": base64.b64encode(digest).decode(), "tags": "",
                  "hashing_algorithm": "rabbit_password_hashing_sha256"}
-            )  # fmt: skip
+            )
             rights = {"configure": configure, "write": write, "read": read}
             permissions.append({"user": user, "vhost": "/", **rights})
             path = self.folder / f"{user}.password"
@@ -279,7 +279,7 @@ class Cluster:
             "hosts": " ".join(f"{it.address}:{it.port}" for it in self.nodes),
             "user": user, "password_file": self.folder / f"{user}.password",
             "ca_file": self.tls / "ca.pem", "heartbeat": 5 * self.patience,
-        }  # fmt: skip
+        }
         lines = []
         for section, pairs in {"broker": broker, **sections}.items():
             lines += [f"[{section}]", *(f"{name} = {value}" for name, value in pairs.items())]

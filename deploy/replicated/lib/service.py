@@ -1,6 +1,7 @@
 """What the programs of this folder share: settings, log lines, metrics, health, signals and the broker."""
 
 import argparse
+import collections
 import concurrent.futures
 import configparser
 import contextlib
@@ -48,7 +49,7 @@ class Settings:
             "candidates": "100000", "wait_seconds": "0.5", "messages": "2000", "seal_words": "",
         },
         "follower": {"outcomes": "no"},
-    }  # fmt: skip
+    }
 
     def __init__(self, path):
         self.ini = configparser.ConfigParser(interpolation=None)
@@ -194,12 +195,14 @@ class Service:
 
     def applied(self, offset, entry):
         """Called once for each entry that is applied."""
-        for _, refused, outcomes in entry.fates():
+        for _, refused, _ in entry.messages:
             if refused:
                 self.metrics.add("refused_messages_total", 1, f'{{reason="{refused}"}}')
-            for outcome in outcomes:
-                name = entries.OUTCOME_NAMES[outcome[0]] + (f" {outcome[1]}" if outcome[0] == 1 else "")
-                self.metrics.add("candidates_total", 1, f'{{outcome="{name}"}}')
+        # of an overdraft the first byte alone, and of a static refusal its number too
+        for start, count in collections.Counter(it[:2] for it in entry.outcomes if it[0] != 5).items():
+            self.metrics.add("candidates_total", count, f'{{outcome="{entries.outcome_text(start)}"}}')
+        overdrafts = sum(1 for it in entry.outcomes if it[0] == 5)
+        self.metrics.add("candidates_total", overdrafts, '{outcome="overdraft"}')
 
     # ---- the broker
 
@@ -245,8 +248,9 @@ class Service:
 
     def entry_came(self, channel, method, properties, body):
         headers = properties.headers or {}
-        published = headers.get("published", 0) / 1000
-        self.came.append((headers["x-stream-offset"], body, published, properties.message_id))
+        published = headers.get("published")
+        when = published / 1000 if isinstance(published, int) else time.time()
+        self.came.append((headers["x-stream-offset"], body, when, properties.message_id))
         self.last_tag = method.delivery_tag
 
     def judge(self):
@@ -276,7 +280,7 @@ class Service:
                 "info", "applied", height=entry.block.height, offset=offset, after=entry.block.after.hex(),
                 transactions=entry.block.count, candidates=len(entry.outcomes),
                 seconds=round(time.monotonic() - began, 4), behind=round(time.time() - published[offset], 4),
-            )  # fmt: skip
+            )
         passed = self.head.next - before - len(applied)
         if passed:
             self.log("info", "passed over", entries=passed, height=self.head.height)
