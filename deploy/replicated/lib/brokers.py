@@ -1,8 +1,8 @@
 """Three nodes of RabbitMQ on this machine, for the trial and for measuring: started, killed, cut off and stopped.
 
-Where the machine lets us, everything runs in name spaces of its own (network, mounts and processes): each node then has
-an address of its own on a bridge that leads nowhere else, and the kernel ends all processes with the first one. Where it
-does not, the nodes share the loopback and differ in their ports, and to cut a node off is to halt its processes.
+If the machine lets us, everything runs in name spaces of its own (network, mounts and processes): each node then has an
+address of its own on a bridge that leads nowhere else, and the kernel ends all processes with the first one. Otherwise
+the nodes share the loopback and differ in their ports, and to cut a node off is to halt its processes.
 """
 
 import base64
@@ -143,11 +143,17 @@ class Node:
     def start(self):
         if self.epmd is None and (self.cluster.apart or self.number == 1):
             words = [*self.within(), "epmd", "-port", str(self.cluster.epmd_port), "-address", self.address]
-            self.epmd = subprocess.Popen(words, env=self.environment(), stdout=subprocess.DEVNULL, stderr=subprocess.DEVNULL)
+            self.epmd = subprocess.Popen(
+                words, env=self.environment(), stdout=subprocess.DEVNULL, stderr=subprocess.DEVNULL
+            )
         with open(self.folder / "out", "ab") as out:
             self.process = subprocess.Popen(
                 [*self.within(), f"{BIN}/rabbitmq-server"],
-                env=self.environment(), stdin=subprocess.DEVNULL, stdout=out, stderr=out, start_new_session=True,
+                env=self.environment(),
+                stdin=subprocess.DEVNULL,
+                stdout=out,
+                stderr=out,
+                start_new_session=True,
             )
 
     def kill(self):
@@ -174,7 +180,15 @@ class Node:
     def queues(self, seconds):
         """Of each queue its leader and how many of its replicas answer, as this node says, or nothing. `erl_call` of
         Erlang asks it, which takes a hundredth of the time that rabbitmqctl takes."""
-        words = [*self.within(), "erl_call", "-address", f"{self.address}:{self.link_port}", "-timeout", str(seconds), "-e"]
+        words = [
+            *self.within(),
+            "erl_call",
+            "-address",
+            f"{self.address}:{self.link_port}",
+            "-timeout",
+            str(seconds),
+            "-e",
+        ]
         done = subprocess.run(words, env=self.environment(), input=QUEUES, capture_output=True, text=True)
         lines = done.stdout.partition('{ok, "')[2].rpartition('"}')[0].split("\\n")
         return {name: (leader, int(count)) for name, leader, count in (it.split() for it in lines if it)}
@@ -220,8 +234,12 @@ class Cluster:
             salt = secrets.token_bytes(4)
             digest = salt + hashlib.sha256(salt + self.passwords[user].encode()).digest()
             users.append(
-                {"name": user, "password_hash": base64.b64encode(digest).decode(), "tags": "",
-                 "hashing_algorithm": "rabbit_password_hashing_sha256"}
+                {
+                    "name": user,
+                    "password_hash": base64.b64encode(digest).decode(),
+                    "tags": "",
+                    "hashing_algorithm": "rabbit_password_hashing_sha256",
+                }
             )
             rights = {"configure": configure, "write": write, "read": read}
             permissions.append({"user": user, "vhost": "/", **rights})
@@ -277,8 +295,10 @@ class Cluster:
         """The text of a file of settings for one of the users."""
         broker = {
             "hosts": " ".join(f"{it.address}:{it.port}" for it in self.nodes),
-            "user": user, "password_file": self.folder / f"{user}.password",
-            "ca_file": self.tls / "ca.pem", "heartbeat": 5 * self.patience,
+            "user": user,
+            "password_file": self.folder / f"{user}.password",
+            "ca_file": self.tls / "ca.pem",
+            "heartbeat": 5 * self.patience,
         }
         lines = []
         for section, pairs in {"broker": broker, **sections}.items():

@@ -2,8 +2,8 @@
 
 A message of the queue `candidates` is one candidates record, as docs/FORMATS.md has it.
 
-An entry of the stream `blocks` is what `seal` wrote, a block record and an outcomes record, and behind them a note of 21
-bytes for each message that the block decides, in the order of their candidates:
+An entry of the stream `blocks` is what `seal` wrote, a block record and an outcomes record, and behind them a note of
+21 bytes for each message that the block decides, in the order of their candidates:
 
     name      16 bytes   the first bytes of SHA-256 over the message's id, a zero byte and the message's body
     refused   u8         0, or why the message was refused as a whole: a form fault of docs/FORMATS.md, or 200 or 201

@@ -1,16 +1,16 @@
 """The ledger that a node keeps: what the entries of the log leave, with the place where it goes on reading.
 
 An entry is judged once, at its place in the log: it is applied if its block is valid for the ledger that the entries
-before it left, and passed over for good if it is not. So the ledger after an entry is a function of the first ledger and
-of the entries up to it, and all nodes have the same one. `speedex follow` is what judges.
+before it left, and passed over for good if it is not. So the ledger after an entry is a function of the first ledger
+and of the entries up to it, and all nodes have the same one. `speedex follow` is what judges.
 
 The file `head` of a node's folder has all of it, so that a crash at any moment leaves the old whole or the new whole:
 
-    a line of JSON   next: the offset of the next entry to read; last: SHA-256 of the entry before it, or nothing; height;
-                     state and names: how many bytes and names follow; digest: SHA-256 of the state record; whole: SHA-256
-                     of all that follows the line
-    the state record, as the program reads and writes it
-    the names of the messages that were decided last, of 16 bytes each, the oldest first
+    a line of JSON      next: the offset of the next entry to read; last: SHA-256 of the entry before it, or nothing;
+                        height; state and names: how many bytes and names follow; digest: SHA-256 of the state record;
+                        whole: SHA-256 of all that follows the line
+    the state record    as the program reads and writes it
+    the names           of the messages that were decided last, of 16 bytes each, the oldest first
 """
 
 import collections
@@ -99,8 +99,8 @@ class Head:
             self.names.popitem(last=False)
 
     def apply(self, program, found, applied):
-        """Judges entries, given as (offset, bytes) in the order of the log, and adds those that it applies to a list. If
-        it ends with an exception, the list and this head have what was judged until then."""
+        """Judges entries, given as (offset, bytes) in the order of the log, and adds those that it applies to a list.
+        If it ends with an exception, the list and this head have what was judged until then."""
         for offset, data in found:
             if offset == self.next - 1 and self.last != hashlib.sha256(data).hexdigest():
                 raise Broken(f"the log has another entry at {offset} than this node read there: it is another log")

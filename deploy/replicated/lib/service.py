@@ -38,15 +38,32 @@ class Settings:
 
     DEFAULTS = {
         "broker": {
-            "hosts": "localhost", "user": "guest", "password_file": "", "virtual_host": "/", "heartbeat": "10",
-            "ca_file": "", "server_name": "", "certificate_file": "", "key_file": "",
+            "hosts": "localhost",
+            "user": "guest",
+            "password_file": "",
+            "virtual_host": "/",
+            "heartbeat": "10",
+            "ca_file": "",
+            "server_name": "",
+            "certificate_file": "",
+            "key_file": "",
         },
         "node": {
-            "name": socket.gethostname(), "folder": "", "first_state": "", "program": "speedex", "remember": "100000",
-            "read_ahead": "16", "save_seconds": "0", "metrics": "", "stop_seconds": "20",
+            "name": socket.gethostname(),
+            "folder": "",
+            "first_state": "",
+            "program": "speedex",
+            "remember": "100000",
+            "read_ahead": "16",
+            "save_seconds": "0",
+            "metrics": "",
+            "stop_seconds": "20",
         },
         "sealer": {
-            "candidates": "100000", "wait_seconds": "0.5", "messages": "2000", "seal_words": "",
+            "candidates": "100000",
+            "wait_seconds": "0.5",
+            "messages": "2000",
+            "seal_words": "",
         },
         "follower": {"outcomes": "no"},
     }
@@ -238,8 +255,8 @@ class Service:
         return running.result()
 
     def read_log(self):
-        """Has the entries put into `self.came`, each (offset, bytes, when published, token), from the one before the next
-        on: that one is compared with the one that was read."""
+        """Has the entries put into `self.came`, each (offset, bytes, when published, token), from the one before the
+        next on: that one is compared with the one that was read."""
         self.came = []
         self.channel = self.connection.channel()
         self.channel.basic_qos(prefetch_count=self.node.getint("read_ahead"))
@@ -277,9 +294,15 @@ class Service:
         published = {offset: when for offset, _, when, _ in came}
         for offset, entry in applied:
             self.log(
-                "info", "applied", height=entry.block.height, offset=offset, after=entry.block.after.hex(),
-                transactions=entry.block.count, candidates=len(entry.outcomes),
-                seconds=round(time.monotonic() - began, 4), behind=round(time.time() - published[offset], 4),
+                "info",
+                "applied",
+                height=entry.block.height,
+                offset=offset,
+                after=entry.block.after.hex(),
+                transactions=entry.block.count,
+                candidates=len(entry.outcomes),
+                seconds=round(time.monotonic() - began, 4),
+                behind=round(time.time() - published[offset], 4),
             )
         passed = self.head.next - before - len(applied)
         if passed:
