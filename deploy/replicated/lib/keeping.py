@@ -186,8 +186,8 @@ class Head:
             raise Broken(f"{folder}/{HEAD} does not begin with its line") from error
         if hashlib.sha256(rest).hexdigest() != line["whole"]:
             raise Broken(f"{folder}/{HEAD} is damaged: copy that of another node, or begin with the first state")
-        state, names = rest[: line["state"]], rest[line["state"] :]
-        names = (names[at : at + 16] for at in range(0, len(names), 16))
+        state, rest = rest[: line["state"]], rest[line["state"] :]
+        names = [rest[at : at + 16] for at in range(0, len(rest), 16)]
         head = cls(state, line["next"], line["last"], names, remember)
         if (head.height, head.digest.hex(), len(head.names)) != (line["height"], line["digest"], line["names"]):
             raise Broken(f"{folder}/{HEAD} is damaged: its line is for another state")
