@@ -8,17 +8,22 @@ use sx_state::read_state;
 use sx_tally::precheck;
 use sx_tx::Tx;
 
+// Puts a payment of units of the first asset behind others.
+fn push_payment(txs: &mut Vec<Tx>, from: u64, seq: u64, to: u64, units: u64) -> Option<()> {
+    txs.push(pay(from, seq, to, units)?).ok()
+}
+
 // First 256 payments of one unit: 64 by each of the accounts 1 to 4 to the next of them. Then six payments of 2^62
 // units by account 5 to account 1, whose sums have to keep what they were.
 fn payments(alloc: Global) -> Option<Vec<Tx>> {
     let mut txs = Vec::new(alloc);
     for seq in 1..65 {
         for from in 1..5 {
-            txs.push(pay(from, seq, from % 4 + 1, 1)?).ok()?;
+            push_payment(&mut txs, from, seq, from % 4 + 1, 1)?;
         }
     }
     for seq in 1..7 {
-        txs.push(pay(5, seq, 1, 1 << 62)?).ok()?;
+        push_payment(&mut txs, 5, seq, 1, 1 << 62)?;
     }
     Some(txs)
 }
