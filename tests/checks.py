@@ -43,7 +43,7 @@ def find_program():
 def documents():
     """The documents that say what is so; the changelog says what was."""
     found = [*TOP.glob("*.md"), *TOP.glob("docs/*.md"), *TOP.glob("examples/**/README.md")]
-    found += [TOP / folder / "README.md" for folder in ("release", "python", "deploy", "bench", "mutants")]
+    found += [TOP / folder / "README.md" for folder in ("release", "python", "deploy/replicated", "bench", "mutants")]
     return sorted(path for path in found if path.is_file() and path.name != "CHANGELOG.md")
 
 

@@ -17,8 +17,10 @@ import collections
 import hashlib
 import json
 import os
+import pathlib
 import struct
 import subprocess
+import sys
 
 import entries
 
@@ -34,6 +36,15 @@ TAG = 2
 
 class Broken(Exception):
     """The program did not answer, or a file is not what was written: nothing may be concluded from it."""
+
+
+def standing_program():
+    """The file of the program that stands for the sources of this repository. It builds none, but ends this process."""
+    top = pathlib.Path(__file__).resolve().parents[3]
+    found = subprocess.run([top / "bin/speedex", "--path"], stdout=subprocess.PIPE, text=True, check=False)
+    if found.returncode:
+        sys.exit(found.returncode)
+    return found.stdout.strip()
 
 
 class Program:
