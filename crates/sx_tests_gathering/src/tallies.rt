@@ -1,16 +1,25 @@
 //! What a tally tells where all amounts together do not fit 8 bytes.
 
-use crate::markets::{five_accounts, pay};
+use crate::markets::five_accounts;
 use std::alloc::Global;
-use sx_base::{AccountId, AssetId};
+use sx_base::{AccountId, Amount, AssetId, Seq};
 use sx_ledger::Overdraft;
 use sx_state::read_state;
 use sx_tally::precheck;
-use sx_tx::Tx;
+use sx_tx::{Kind, Tx};
 
 // Puts a payment of units of the first asset behind others.
 fn push_payment(txs: &mut Vec<Tx>, from: u64, seq: u64, to: u64, units: u64) -> Option<()> {
-    txs.push(pay(from, seq, to, units)?).ok()
+    txs.push(Tx {
+        account: AccountId(from),
+        seq: Seq::new(seq).ok()?,
+        kind: Kind::Pay {
+            asset: AssetId::new(0).ok()?,
+            to: AccountId(to),
+            amount: Amount::new(units).ok()?,
+        },
+    })
+    .ok()
 }
 
 // First 256 payments of one unit: 64 by each of the accounts 1 to 4 to the next of them. Then six payments of 2^62
