@@ -4,7 +4,7 @@ ghost use Rattle.std.specs.Prelude.{◌≡◌, ◌+◌, ◌<◌, ◌≤◌, All,
 ghost use Rattle.sx_block.specs.Validity.{IsValid, flow_of_block, high_in, low_in};
 ghost use Rattle.sx_block.specs.Dropping.{DropsExactly};
 ghost use Rattle.sx_clear.specs.Found.{HasBoundsAt, IsBodyOf};
-ghost use Rattle.sx_multi.specs.Quotes.{imbalance_at, posted_at, searched_at};
+ghost use Rattle.sx_multi.specs.Quotes.{imbalance_at, searched_at};
 ghost use Rattle.sx_clear.specs.Searches.{IsCounted};
 ghost use Rattle.sx_clear.specs.Trading.{IsCountedAt, IsTrading};
 ghost use Rattle.sx_dual.specs.Circulation.{IsGreatest};
@@ -14,12 +14,12 @@ ghost use Rattle.sx_price.specs.Limits.{IsPrice};
 ghost use Rattle.sx_clear.specs.TradeSearches.{most_clearing_searches};
 ghost use Rattle.sx_tx.specs.Transactions.{most_transactions};
 
+use crate::clearing_in_place::clear_in_place;
 use crate::filling::{Filled, fill};
 use crate::heading::{Terms, block_of};
-use crate::leaving::{digest_left, digests_around};
+use crate::leaving::digest_left;
 use crate::prices::{
-    Body, Digests, Opened, Search, digest_and_prices, digest_of_body, digest_of_parent, open_at,
-    price_ranges,
+    Body, Digests, Opened, digest_of_body, digest_of_parent, open_at, price_ranges,
 };
 use crate::trade::{Trade, trade_within};
 use std::alloc::Global;
@@ -27,7 +27,8 @@ use std::snapshot::Snapshot;
 use std::sync::ledger;
 use std::thread::Threads;
 use sx_block::Block;
-use sx_bytes::NoMemory;
+use sx_bytes::{NoMemory, Writer};
+use sx_digests::{StateDigest, ledger_digest};
 use sx_dual::Bounds;
 use sx_ledger::Ledger;
 use sx_multi::posted_laws;
@@ -136,9 +137,7 @@ pub fn clear_at<L: ledger::Ledger>(
 /// The block of a body at the prices that the search from those of the ledger ends at, in at most so many
 /// rounds. The sum over all assets of what is wanted or sold in excess is at most that at the ledger's
 /// prices. With 0 rounds the prices are the ledger's own, and no curves are built. All else is as in
-/// [`clear_at`]. The digest of a large body is made on a thread of its own meanwhile, and that of a large ledger while
-/// the ledger after the block is made. Four threads look up what a large body names. The call returns where these
-/// threads return. Where no thread can be started, all is done in turn.
+/// [`clear_at`]: it is [`clear_in_place`] with one search, on a copy of the ledger.
 pub fn clear<R: Threads + Sync, L: ledger::Ledger>(
     rt: &R,
     alloc: Global,
@@ -164,81 +163,9 @@ pub fn clear<R: Threads + Sync, L: ledger::Ledger>(
     ensures rising { steps.old ≤ steps.new }
 {
     posted_laws();
-    clear_many(rt, alloc, ledger, txs, mu, rounds, 1, steps)
-}
-
-/// The block of a body at the prices of the best of 1 to 8 searches from those of the ledger, each of at most
-/// so many rounds, by `search_many` of `sx_multi`. One search is that of [`clear`], and all else is as there.
-/// The searches run on threads of their own.
-pub fn clear_many<R: Threads + Sync, L: ledger::Ledger>(
-    rt: &R,
-    alloc: Global,
-    ledger: &Ledger,
-    txs: TxList,
-    mu: Mu,
-    rounds: u32,
-    searches: u32,
-    steps: &mut Steps<L>,
-) -> Result<Block, NoMemory>
-    requires admissible { IsAdmissible ledger.now txs }
-    requires few { length txs ≤ most_transactions }
-    requires below_last { ledger.now.height < most_height }
-    requires some_search { 1 ≤ searches }
-    requires few_searches { searches ≤ 8 }
-    ensures valid { IfOk result (IsValid ledger.now) }
-    ensures version { IfOk result (λ block. block.header.version ≡ 1) }
-    ensures txs { IfOk result (λ block. block.txs ≡ txs) }
-    ensures mu { IfOk result (λ block. block.header.mu ≡ mu) }
-    ensures prices { IfOk result (λ block. block.header.prices ≡ posted_at ledger.now block.txs mu rounds searches) }
-    ensures mends { IfOk result (λ block. imbalance_at ledger.now block.txs mu block.header.prices ≤ imbalance_at ledger.now block.txs mu ledger.now.prices) }
-    ensures greatest { IfOk result (λ block. IsGreatest (assets_of ledger.now) (low_in ledger.now block) (high_in ledger.now block) (flow_of_block block)) }
-    ensures dropped { IfOk result (DropsExactly ledger.now) }
-    ensures counted { IfOk result (IsCounted ledger.now steps.old steps.new) }
-    ensures limited { steps.new ≤ steps.old + most_clearing_searches }
-    ensures rising { steps.old ≤ steps.new }
-{
-    let by = Search {
-        mu,
-        rounds,
-        searches,
-    };
-    let (hash, opened) = digest_and_prices(rt, alloc, ledger, txs.items(), by);
-    let hash = hash?;
-    let Opened {
-        body,
-        prices,
-        bounds,
-    } = opened?;
-    let Trading { trade, filled } = trade_body(
-        alloc,
-        ledger,
-        txs.items(),
-        mu,
-        &body,
-        &prices,
-        bounds,
-        steps,
-    )?;
-    let Filled { fills, rounding } = filled;
-    let (parent, after) = digests_around(
-        rt,
-        alloc,
-        ledger,
-        body,
-        &prices,
-        &rounding,
-        fills.items(),
-    );
-    let parent = parent?;
-    let after = after?;
-    let digests = Digests { parent, body: hash };
-    let terms = Terms {
-        mu,
-        prices,
-        trade,
-        rounding,
-        after,
-    };
-    let height = ledger.height() + 1;
-    Ok(block_of(Snapshot::of(ledger), height, txs, digests, terms))
+    let copy = ledger.copy()?;
+    let parent = StateDigest::Known(ledger_digest(alloc, ledger)?);
+    let spare = Writer::new(alloc);
+    let cleared = clear_in_place(rt, alloc, copy, parent, txs, mu, rounds, 1, spare, steps)?;
+    Ok(cleared.block)
 }

@@ -98,8 +98,11 @@ fn closed<R: Threads + Sync>(
     Ok(block_of(snapshot, height, txs, digests, terms))
 }
 
-/// The block that [`clear_many`](crate::clear_many) answers, of a ledger that the caller needs no more and whose digest
-/// it knows or has a thread make. The ledger changes in place to what the block leaves, and so no copy of it is made.
+/// The block of a body at the prices of the best of 1 to 8 searches from those of the ledger, each of at most so many
+/// rounds, by `search_many` of `sx_multi`. One search is that of [`clear`](crate::clear), and all that a block promises
+/// is as there. The searches run on threads of their own.
+///
+/// The caller needs the ledger no more, and knows its digest or has a thread make it. The ledger changes in place to what the block leaves, and so no copy of it is made.
 /// Threads change the accounts where there are many, and credit the sellers where many offers trade, each in a part of
 /// the accounts. Where 32,768 offers or more are left, one encodes these, in 34 bytes each, while the accounts are
 /// hashed. The call waits last of all for the thread that makes the digest. Where it fails before that, this thread is

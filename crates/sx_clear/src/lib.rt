@@ -3,21 +3,20 @@
 //! [`clear`] answers a valid block for a ledger and an admissible body. It searches prices from those of
 //! the ledger, and at the prices that it finds it takes a circulation of greatest value within the
 //! bounds of the offers after the body. Where no circulation keeps the lower bounds, they are dropped and
-//! the block names a cut that shows it; they are dropped nowhere else. [`clear_many`] takes the prices of the best
-//! of several searches, [`clear_in_place`] does the same without a copy of the ledger, and [`clear_at`] takes prices that
-//! are given.
+//! the block names a cut that shows it; they are dropped nowhere else. [`clear_in_place`] is the form that the others
+//! follow: it takes the prices of the best of several searches, and no copy of the ledger. [`clear_at`] takes prices that
+//! are given, and starts no thread.
 //!
 //! The method: what the body does, the prices and the bounds of each pair are found first (`prices`). Then
 //! `trade_within` answers a circulation of greatest value within the bounds, with lower bounds dropped where
 //! a cut shows that none keeps them. The value is shared out among the offers of each pair in their order, rounded to
 //! whole units. What the block leaves of the ledger, or of a copy, is hashed for its header.
 //!
-//! A thread makes the digest of a large body beside the search for prices, and that of a large ledger beside a copy and
-//! its digest. In [`clear_in_place`] that thread writes the body, and others hash what it has written; the block and
-//! the body as it was written are answered. Threads also look up the accounts and offers that a large body names, but
-//! in [`clear_at`]. In [`clear_in_place`] they change the accounts too where there are many, and credit the sellers
-//! where many offers trade, each in a part of the accounts (`sx_spread`), and one encodes the offers that are left if
-//! these are many, while the accounts are hashed.
+//! In [`clear_in_place`], and so in [`clear`], threads look up the accounts and offers that a large body names. One thread
+//! writes such a body beside the search for prices, and others hash what it has written; the block and the body as it was
+//! written are answered. They change the accounts too where there are many, and credit the sellers where many offers
+//! trade, each in a part of the accounts (`sx_spread`), and one encodes the offers that are left if these are many, while
+//! the accounts are hashed.
 //!
 //! ```text
 //!                              .-> prices -.                          .-> fills, rounding -.
@@ -46,6 +45,6 @@ mod leaving;
 mod prices;
 mod trade;
 
-pub use clearing::{clear, clear_at, clear_many};
+pub use clearing::{clear, clear_at};
 pub use clearing_in_place::{Cleared, clear_in_place};
 pub use prices::curves_of;

@@ -10,8 +10,8 @@
 //!          \-> digest, or encoding and digest
 //! ```
 //!
-//! [`digest_and_prices`] makes the digest of the body beside that, by a thread of its own where the body is large, and
-//! [`written_and_opened`] the encoding with it. [`curves_of`] answers the curves alone.
+//! [`written_and_opened`] makes the encoding of the body and its digest beside that, by a thread of its own if the body is
+//! large. [`curves_of`] answers the curves alone.
 //!
 //! Cost: for n transactions and offers, n log n for looking up, and for sorting where the offers do not stand in order. A
 //! round of the search grows with the logarithm of n alone, and the bounds take two searches in each pair's curve.
@@ -33,5 +33,5 @@ mod ranges;
 pub use body::Body;
 pub use curves::curves_of;
 pub use digests::{Digests, digest_of_body, digest_of_parent};
-pub use opening::{Opened, Search, WORKERS, digest_and_prices, open_at, written_and_opened};
+pub use opening::{Opened, Search, WORKERS, open_at, written_and_opened};
 pub use ranges::price_ranges;

@@ -1,9 +1,9 @@
-//! What is found of a body before it is cleared: its digest or its encoding with it, what it does, the prices, and the
-//! bounds at these.
+//! What is found of a body before it is cleared: its encoding and digest, what it does, the prices, and the bounds at
+//! these.
 
 ghost use Rattle.std.specs.Prelude.{◌≡◌, ◌≤◌, false, IfOk, length};
 ghost use Rattle.sx_fill.specs.Bounds.{AreOffers, HasBounds};
-ghost use Rattle.sx_clear.specs.Digests.{IsBodyDigest, IsWrittenBody};
+ghost use Rattle.sx_clear.specs.Digests.{IsWrittenBody};
 ghost use Rattle.sx_clear.specs.Found.{HasBoundsAt, IsBodyOf};
 ghost use Rattle.sx_multi.specs.Quotes.{posted_at, quotes_of};
 ghost use Rattle.sx_dual.specs.Tables.{IsAssetCount};
@@ -16,11 +16,10 @@ ghost use Rattle.sx_tx.specs.Transactions.{most_transactions};
 use crate::prices::body::{Body, body_of, par_body_of};
 use crate::prices::bounding::bounds_by_curves;
 use crate::prices::curves::offer_curves;
-use crate::prices::digests::{digest_of_body, written_body};
+use crate::prices::digests::written_body;
 use crate::prices::ranges::price_ranges;
 use std::alloc::Global;
 use std::thread::Threads;
-use sx_block::Digest;
 use sx_bytes::{NoMemory, Writer};
 use sx_digests::WrittenBody;
 use sx_dual::Bounds;
@@ -31,7 +30,7 @@ use sx_multi::{posted_laws, search_many};
 use sx_price::{Mu, Prices};
 use sx_tx::Tx;
 
-// From how many transactions on the digest is made on a thread of its own. Hashing takes a millisecond there, and to
+// From how many transactions on a thread writes and hashes them beside the search. That takes a millisecond there, and to
 // start a thread a small part of one.
 const MANY_TRANSACTIONS: usize = 1 << 13;
 
@@ -146,44 +145,6 @@ fn open<R: Threads + Sync>(
         prices,
         bounds,
     })
-}
-
-/// The digest of a body, made on a thread of its own if that is worth it, and beside it what the body does, the prices
-/// and the bounds.
-pub fn digest_and_prices<R: Threads + Sync>(
-    rt: &R,
-    alloc: Global,
-    ledger: &Ledger,
-    txs: &[Tx],
-    by: Search,
-) -> (Result<Digest, NoMemory>, Result<Opened, NoMemory>)
-    requires admissible { IsAdmissible ledger.now txs.now }
-    requires few { length txs.now ≤ most_transactions }
-    requires some_search { 1 ≤ by.searches }
-    requires few_searches { by.searches ≤ 8 }
-    ensures hash { IfOk result.0 (IsBodyDigest txs.now) }
-    ensures body { IfOk result.1 (λ opened. IsBodyOf ledger.now txs.now opened.body) }
-    ensures prices { IfOk result.1 (λ opened. opened.prices ≡ posted_at ledger.now txs.now by.mu by.rounds by.searches) }
-    ensures bounds { IfOk result.1 (λ opened. HasBoundsAt ledger.now txs.now opened.prices by.mu opened.bounds) }
-{
-    if txs.len() < MANY_TRANSACTIONS {
-        let digest = digest_of_body(alloc, txs);
-        return (digest, open(rt, alloc, ledger, txs, by));
-    }
-    fork(
-        rt,
-        true,
-        || -> Result<Digest, NoMemory>
-            requires { length txs.now ≤ most_transactions }
-            ensures { IfOk result (IsBodyDigest txs.entry.now) }
-        { digest_of_body(alloc, txs) },
-        || -> Result<Opened, NoMemory>
-            requires { IsAdmissible ledger.now txs.now × (1 ≤ by.searches) × (by.searches ≤ 8) }
-            ensures body { IfOk result (λ opened. IsBodyOf ledger.entry.now txs.entry.now opened.body) }
-            ensures prices { IfOk result (λ opened. opened.prices ≡ posted_at ledger.entry.now txs.entry.now by.mu by.rounds by.searches) }
-            ensures bounds { IfOk result (λ opened. HasBoundsAt ledger.entry.now txs.entry.now opened.prices by.mu opened.bounds) }
-        { open(rt, alloc, ledger, txs, by) },
-    )
 }
 
 /// The encoding of a body, written over what is spare, and its digest, made by other threads if that is worth it, and
