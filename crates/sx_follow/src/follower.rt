@@ -15,6 +15,7 @@ use crate::finding::find;
 use crate::in_turn::apply_in_turn;
 use crate::leaving::Leaving;
 use crate::spare::Spare;
+use crate::stepping::{Alone, Stepping};
 use crate::waiting::Waiting;
 use std::alloc::Global;
 use std::marker::Model;
@@ -23,8 +24,8 @@ use sx_block::{Block, Digest, block_effect_laws, check_laws};
 use sx_bytes::NoMemory;
 use sx_ledger::Ledger;
 
-// How many blocks change one copy of the head at most.
-const MOST_IN_TURN: u32 = 32;
+// How many blocks are applied at once at most, to one copy of the head.
+const MOST_AT_ONCE: u32 = 32;
 
 /// A ledger, blocks that were proposed on top of it, and the ledger after as many blocks of their chain as it has
 /// applied. Contracts see a `Followed`.
@@ -37,6 +38,8 @@ pub struct Follower {
     head: Ledger,
     digest: Digest,
     spare: Spare,
+    // how many blocks are tried at once: fewer after one of them was refused
+    reach: u32,
 }
 
 impl Model for Follower {
@@ -82,6 +85,7 @@ impl Follower {
             head,
             digest,
             spare,
+            reach: MOST_AT_ONCE,
         })
     }
 
@@ -108,9 +112,9 @@ impl Follower {
         }
     }
 
-    /// Applies the first block that is valid for the head, and answers whether there was one. It works on a copy
-    /// of the head.
-    pub fn advance(&mut self) -> Result<bool, NoMemory>
+    // Applies the first block that is valid for the head, and answers whether there was one.
+    fn advance_by<S: Stepping>(&mut self, by: &S) -> Result<bool, NoMemory>
+        requires ready { S.is_ready }
         ensures advances { result ≡ Ok true → Advances self.old self.new }
         ensures stays { result ≡ Ok false → NoneIsValid self.old.head self.old.blocks × (self.new ≡ self.old) }
         ensures kept { OnErr result (self.new ≡ self.old) }
@@ -120,6 +124,7 @@ impl Follower {
         let head = &self.head;
         let places = self.waiting.at(head.height() + 1);
         match find(
+            by,
             alloc,
             head,
             &self.digest,
@@ -133,6 +138,31 @@ impl Follower {
             }
             None => Ok(false),
         }
+    }
+
+    /// Applies the first block that is valid for the head, and answers whether there was one. It works on a copy
+    /// of the head.
+    pub fn advance(&mut self) -> Result<bool, NoMemory>
+        ensures advances { result ≡ Ok true → Advances self.old self.new }
+        ensures stays { result ≡ Ok false → NoneIsValid self.old.head self.old.blocks × (self.new ≡ self.old) }
+        ensures kept { OnErr result (self.new ≡ self.old) }
+        ensures follows { IsFollower self.new }
+    {
+        self.advance_by(&Alone)
+    }
+
+    // Tries twice as many blocks at once from now on, up to the most.
+    fn reach_further(&mut self)
+        ensures { self.new ≡ self.old }
+    {
+        self.reach = self.reach.saturating_mul(2).min(MOST_AT_ONCE);
+    }
+
+    // Tries one block alone next.
+    fn reach_no_further(&mut self)
+        ensures { self.new ≡ self.old }
+    {
+        self.reach = 1;
     }
 
     // Makes what the next block leaves the head.
@@ -208,15 +238,24 @@ impl Follower {
             &self.waiting,
             height,
             &self.digest,
-            MOST_IN_TURN,
+            self.reach.min(MOST_AT_ONCE),
         )?;
         if places.len() < 2 {
             return Ok(false);
         }
         match self.try_in_turn(&places)? {
-            None => Ok(true),
-            Some(0) => Ok(false),
-            Some(count) => Ok(self.try_in_turn(&places[..count])?.is_none()),
+            None => {
+                self.reach_further();
+                Ok(true)
+            }
+            Some(0) => {
+                self.reach_no_further();
+                Ok(false)
+            }
+            Some(count) => {
+                self.reach_no_further();
+                Ok(self.try_in_turn(&places[..count])?.is_none())
+            }
         }
     }
 
@@ -231,7 +270,9 @@ impl Follower {
         if self.advance_in_turn()? {
             return Ok(true);
         }
-        self.advance()
+        let found = self.advance()?;
+        self.reach_further();
+        Ok(found)
     }
 
     /// Applies blocks until none is valid for the head. Where memory runs out, those stay applied that were by then.

@@ -35,9 +35,10 @@
 //! digests are the named ones, these blocks are steps of the follower, and the ledger that the last of them left is the
 //! head. It ends where [`Follower::advance_all`] does.
 //!
-//! A forged block costs time: what was applied on top of it is dropped, those of its 32 that stand before it are
-//! applied once more, and the other blocks of its height are tried one by one. So it costs at most 64 blocks that are
-//! applied in vain or twice.
+//! A forged block costs time: what was applied on top of it is dropped, those that were applied with it and stand before it
+//! are applied once more, and the other blocks of its height are tried one by one. After it the follower applies one
+//! block, then at most 2 at a time, then 4, and so on up to 32 again. So the first of many forged blocks costs at most 64
+//! blocks that are applied in vain or twice, and one that stands soon after another costs few.
 //!
 //! Where nothing is applied ahead, threads only share the work of a block of 8,192 transactions or more.
 //!
@@ -55,6 +56,7 @@ mod leaving;
 mod refilling;
 mod spare;
 mod spreading;
+mod stepping;
 mod waiting;
 
 pub use follower::Follower;

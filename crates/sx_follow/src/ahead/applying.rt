@@ -116,19 +116,20 @@ fn apply_chosen<R: Threads + Sync>(
     })
 }
 
-// The places of the blocks that are to be applied ahead of a ledger of this digest. There are none where fewer than two
-// are found.
+// The places of the blocks that are to be applied ahead of a ledger of this digest, at most so many. There are none where
+// fewer than two are found.
 fn chosen(
     alloc: Global,
     ledger: &Ledger,
     digest: &Digest,
     blocks: &[Block],
     waiting: &Waiting,
+    reach: u32,
 ) -> Result<Vec<u32>, NoMemory>
     requires { AreWaiting blocks.now waiting.now }
     ensures { IfOk result (λ places. AreChosen (ledger.now.height + 1) digest.now blocks.now places.items) }
 {
-    let most = most_ahead(ledger);
+    let most = most_ahead(ledger).min(reach);
     let mut places = choose(alloc, blocks, waiting, ledger.height() + 1, digest, most)?;
     if places.len() < 2 {
         places.clear();
@@ -146,11 +147,11 @@ pub fn goes_ahead(
 ) -> Result<bool, NoMemory>
     requires { AreWaiting blocks.now waiting.now }
 {
-    Ok(!chosen(alloc, ledger, digest, blocks, waiting)?.is_empty())
+    Ok(!chosen(alloc, ledger, digest, blocks, waiting, MOST_BLOCKS)?.is_empty())
 }
 
-/// Blocks that go on from a ledger of this digest by the digests that they name, applied one on the other. There are
-/// none where fewer than two are found, where the first cannot be applied, and where hashing a state as long is not
+/// At most `reach` blocks that go on from a ledger of this digest by the digests that they name, applied one on the
+/// other. There are none where fewer than two are found, where the first cannot be applied, and where hashing a state as long is not
 /// worth a thread.
 pub fn ahead<R: Threads + Sync>(
     rt: &R,
@@ -161,13 +162,14 @@ pub fn ahead<R: Threads + Sync>(
     bodies: &Bodies,
     waiting: &Waiting,
     spare: &mut Spare,
+    reach: u32,
 ) -> Result<Option<Batch>, NoMemory>
     requires form { All IsBlock blocks.now }
     requires bodies { AreBodies blocks.now bodies.now }
     requires waiting { AreWaiting blocks.now waiting.now }
     ensures { IfOk result (λ found. IfSome found (IsBatch ledger.now digest.now blocks.now)) }
 {
-    let places = chosen(alloc, ledger, digest, blocks, waiting)?;
+    let places = chosen(alloc, ledger, digest, blocks, waiting, reach)?;
     if places.is_empty() {
         return Ok(None);
     }

@@ -34,7 +34,7 @@ pub struct Hashed {
     pub next: Option<Batch>,
 }
 
-/// Has so many threads hash the states of a batch, while one more applies the batch on top.
+/// Has so many threads hash the states of a batch, while one more applies the batch on top, of at most `reach` blocks.
 pub fn hash_and_apply<R: Threads + Sync>(
     rt: &R,
     alloc: Global,
@@ -43,6 +43,7 @@ pub fn hash_and_apply<R: Threads + Sync>(
     bodies: &Bodies,
     waiting: &Waiting,
     spare: &mut Spare,
+    reach: u32,
     threads: usize,
 ) -> Result<Hashed, NoMemory>
     requires some { 1 ≤ threads }
@@ -73,6 +74,7 @@ pub fn hash_and_apply<R: Threads + Sync>(
                 bodies,
                 waiting,
                 spare,
+                reach,
             )
         },
     );

@@ -9,9 +9,8 @@ ghost use Rattle.sx_block.specs.Chain.{NoneIsValid};
 ghost use Rattle.sx_follow.specs.Follower.{Advances, HasWholeChain, IsFollower};
 
 use crate::ahead::{Batch, Bodies, Hashed, ahead, goes_ahead, hash_and_apply, keep_states};
-use crate::choosing::first_named;
 use crate::follower::Follower;
-use crate::spreading::{is_long, par_step};
+use crate::stepping::Spread;
 use std::mem;
 use std::thread::Threads;
 use sx_block::validity_laws;
@@ -27,25 +26,7 @@ impl Follower {
         ensures kept { OnErr result (self.new ≡ self.old) }
         ensures follows { IsFollower self.new }
     {
-        let alloc = *self.blocks.allocator();
-        let height = self.head.height() + 1;
-        if let Some(place) = first_named(&self.blocks, &self.waiting, height, &self.digest) {
-            let block = &self.blocks[place as usize];
-            if is_long(block) {
-                if let Some(left) = par_step(
-                    rt,
-                    alloc,
-                    &self.head,
-                    block,
-                    &mut self.spare,
-                    workers,
-                )? {
-                    self.take(left);
-                    return Ok(true);
-                }
-            }
-        }
-        self.advance()
+        self.advance_by(&Spread { rt, workers })
     }
 
     // Makes what a batch leaves the head, where each block of it leaves what it names.
@@ -74,7 +55,7 @@ impl Follower {
     }
 
     // Applies at most so many blocks, one after the other.
-    fn advance_by<R: Threads + Sync>(
+    fn advance_one_by_one<R: Threads + Sync>(
         &mut self,
         rt: &R,
         count: usize,
@@ -126,14 +107,17 @@ impl Follower {
             bodies,
             &self.waiting,
             &mut self.spare,
+            self.reach,
             (workers as usize - 1).max(1),
         )?;
         if right >= batch.claims.len() {
             self.take_batch(batch);
+            self.reach_further();
             return Ok(next);
         }
         batch.keep_with(next, &mut self.spare);
-        self.advance_by(rt, right, workers)?;
+        self.reach_no_further();
+        self.advance_one_by_one(rt, right, workers)?;
         Ok(None)
     }
 
@@ -162,6 +146,7 @@ impl Follower {
             bodies,
             &self.waiting,
             &mut self.spare,
+            self.reach,
         )?;
         while let Some(made) = batch {
             batch = self.next_batch(rt, made, bodies, workers)?;
@@ -212,7 +197,9 @@ impl Follower {
     {
         self.make_bodies(rt, bodies, workers)?;
         self.run_ahead(rt, bodies, workers)?;
-        self.par_advance(rt, workers)
+        let found = self.par_advance(rt, workers)?;
+        self.reach_further();
+        Ok(found)
     }
 
     /// The same as [`Follower::advance_all`], by several threads. Blocks that follow one another by the digests that

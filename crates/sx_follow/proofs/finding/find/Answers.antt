@@ -10,12 +10,12 @@ use Rattle.sx_follow.proofs.NextBlock.{first_valid, none_valid}
 use Rattle.sx_follow.proofs.finding.find.Goals as goal
 
 pub bounds-blocks-place : goal.bounds-blocks-place
-bounds-blocks-place c =
+bounds-blocks-place g c =
     places_within (c.args.head.now.height + 1) c.args.blocks.now c.args.places.now c.requires.places c.loop-place.place-index
     c.loop-place-test.true
 
 pub step-requires-clause-form : goal.step-requires-clause-form
-step-requires-clause-form c =
+step-requires-clause-form g c =
     let block = c.index-blocks-place.result in
     let within =
     places_within (c.args.head.now.height + 1) c.args.blocks.now c.args.places.now c.requires.places c.loop-place.place-index
@@ -24,7 +24,7 @@ step-requires-clause-form c =
     (c.requires.form (get_or c.args.places.now c.loop-place.place-index 0) block within)
 
 pub returns-in-Some-clause-found : goal.returns-in-Some-clause-found
-returns-in-Some-clause-found c =
+returns-in-Some-clause-found g c =
     let head = c.args.head.now in
     let block = c.index-blocks-place.result in
     let leaves : Leaves head block c.in-Some.left = rw c.in-Some.is at c.in_ok-left.ensures.valid in
@@ -37,7 +37,7 @@ returns-in-Some-clause-found c =
     }
 
 pub loop-place-preserved : goal.loop-place-preserved
-loop-place-preserved c = λ i d lt valid.
+loop-place-preserved g c = λ i d lt valid.
     let head = c.args.head.now in
     let blocks = c.args.blocks.now in
     let places = c.args.places.now in
@@ -57,6 +57,6 @@ loop-place-preserved c = λ i d lt valid.
     ]
 
 pub returns-clause-none : goal.returns-clause-none
-returns-clause-none c =
+returns-clause-none g c =
     none_valid c.args.head.now c.args.blocks.now c.args.places.now c.requires.places
     (λ i d lt. c.loop-place.invariant i d (omega arith))

@@ -1,6 +1,6 @@
 use Rattle.std.proofs.Common.{◌≡◌, ◌≤◌}
 use Rattle.sx_follow.specs.Follower.{IsFollower}
-use Rattle.sx_follow.proofs.follower.Follower.advance_by.Given as goal
+use Rattle.sx_follow.proofs.follower.Follower.advance_one_by_one.Given as goal
 
 abbrev pub invariant-loop : goal.invariant-loop
 invariant-loop g l = record {
