@@ -9,5 +9,6 @@ pub mod Segments
 pub mod BelowSums
 pub mod PointSums
 pub mod Kept
+pub mod Bare
 pub mod Listing
 pub mod Building

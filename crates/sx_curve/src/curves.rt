@@ -1,11 +1,11 @@
 //! The supply curve of each pair.
 
-ghost use Rattle.std.specs.Prelude.{◌≡◌, ◌*◌, ◌≤◌, ◌^◌, length, IfOk};
+ghost use Rattle.std.specs.Prelude.{◌≡◌, ◌*◌, ◌≤◌, ◌^◌, [], true, length, IfOk};
 ghost use Rattle.std.specs.Bool.{OnTrue};
 ghost use Rattle.std.specs.List.Sorted.{IsPermutation};
 ghost use Rattle.sx_curve.specs.Curves.{AreCurves, AreInOrder, AreQuotes, DoPairsFit, IsPairRange, IsUpTo};
 ghost use Rattle.sx_curve.specs.Listed.{quotes_of};
-ghost use Rattle.sx_curve.specs.Quotes.{amounts, quotes_below, weighted_amounts};
+ghost use Rattle.sx_curve.specs.Quotes.{amounts, pair_of, quotes_below, weighted_amounts};
 
 use crate::begins::place_of;
 use crate::curves_builder::CurvesBuilder;
@@ -136,6 +136,14 @@ impl Curves {
     {
         let place = place_of(sell, buy);
         (self.begins[place], self.begins[place + 1])
+    }
+
+    /// Whether no quote sells `sell` for `buy`, by two look-ups. Where it answers true there is none.
+    pub fn is_bare(&self, sell: AssetId, buy: AssetId) -> bool
+        ensures { result ≡ true → pair_of sell buy self.now.quotes ≡ [] }
+    {
+        let (begin, end) = self.ends_of(sell, buy);
+        begin == end
     }
 
     /// The sums over the quotes that sell `sell` for `buy` at a limit of at most `num` over `den`, in

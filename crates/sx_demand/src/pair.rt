@@ -22,12 +22,16 @@ pub(crate) struct Pair {
 }
 
 // The value that the quotes of a pair sell, at most 2^102: all of what must trade, and a part of what
-// may and need not. The products on the way are at most 2^126.
+// may and need not. The products on the way are at most 2^126. In a sparse market most pairs have no quote, so that is
+// looked at first.
 pub(crate) fn value_of(curves: &Curves, pair: &Pair, mu: Mu, guesses: &mut Guesses) -> u128
     ensures value { result ≡ pair_value pair.now.sell_price pair.now.buy_price mu
         (pair_of pair.now.sell pair.now.buy curves.now.quotes) }
     ensures in_range { result ≤ 2 ^ 102 }
 {
+    if curves.is_bare(pair.sell, pair.buy) {
+        return 0;
+    }
     let parts = parts_of(curves, pair, mu, guesses);
     let sell_price = u128::from(pair.sell_price.get());
     let buy_price = u128::from(pair.buy_price.get());
