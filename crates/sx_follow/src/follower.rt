@@ -253,8 +253,9 @@ impl Follower {
                 Ok(false)
             }
             Some(count) => {
+                let found = self.try_in_turn(&places[..count])?.is_none();
                 self.reach_no_further();
-                Ok(self.try_in_turn(&places[..count])?.is_none())
+                Ok(found)
             }
         }
     }
