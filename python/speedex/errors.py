@@ -190,6 +190,10 @@ class TextError(SpeedexError, ValueError):
         return self.reason
 
 
+class NumberError(SpeedexError, ValueError):
+    """A text that is no number, or a number that has no place where it is to go, as a limit price of 0."""
+
+
 _MALFORMED = re.compile(r"malformed at (\d+): (\d+) (\w+)")
 _REFUSED = re.compile(r"refused block (\d+): (\d+) (\w+)((?: \w+ -?\w+)*)")
 _OTHERS = {error.code: error for error in (UsageError, ReadFaultError, WriteFaultError, OutOfMemoryError)}

@@ -54,12 +54,15 @@ rest is what the ledger before it has. ``show`` writes every line.
 
 from __future__ import annotations
 
+import re
 from typing import Callable, Dict, Iterable, Iterator, List, Optional, Tuple, Type
 
 from . import records as it
 from .drafts import DRAFTS, OUTCOME_NAMES, WRONG, Draft
 from .errors import TextError
 from .writing import encode
+
+_POINT = re.compile(r"[0-9][.,/][0-9]")
 
 
 def show(*records: it.Record) -> str:
@@ -107,7 +110,8 @@ def _drafted(lines: Iterable[str]) -> Iterator[Tuple[it.Record, int]]:
             else:
                 draft.add(words)
         except WRONG:
-            raise TextError(number, f"line {number} is not understood: {line.strip()}") from None
+            why = "its numbers have to be whole: " if any(map(_POINT.search, words)) else ""
+            raise TextError(number, f"line {number} is not understood: {why}{line.strip()}") from None
     if draft is not None:
         yield _completed(draft, state, begin)[0], begin
 

@@ -6,6 +6,7 @@ import io
 import random
 import unittest
 from fractions import Fraction
+from typing import List
 
 import speedex
 from speedex import decimals, tables
@@ -20,6 +21,31 @@ class Decimals(unittest.TestCase):
         self.assertEqual(decimals.limit_price("1/66", 2, 3), 2542003)
         self.assertEqual(decimals.rounded(decimals.rate_of(108716360, 3, 2), 6), "64.800000")
 
+    def test_quotients_of_decimals_are_exact(self) -> None:
+        rates: List[decimals.Number] = ["10/22", "1/2.20", "1.00/2.2", "0.5/1.10", "+1/2.2", Fraction(10, 22)]
+        for rate in rates:
+            self.assertEqual(decimals.limit_price(rate, 2, 3), 76260073)
+        self.assertEqual(decimals.fraction_of("1/2.20"), Fraction(5, 11))
+        self.assertEqual(decimals.fraction_of("-0.3/0.1"), -3)
+        # no float is as near to a third: 10^20 units of it would differ
+        self.assertEqual(decimals.to_units("0.1/0.3", 20, decimals.UP), 33333333333333333334)
+        for wrong in ("1/0", "1/0.00", "1/", "/2", "1/2/3", "1/-2", "1 / 2", "1/1e3", "1" * 1001, "1/" + "9" * 5000):
+            with self.assertRaises(speedex.NumberError):
+                decimals.fraction_of(wrong)
+            with self.assertRaises(speedex.NumberError):
+                decimals.limit_price(wrong)
+
+    def test_a_limit_price_is_in_range(self) -> None:
+        self.assertEqual(decimals.limit_price(Fraction(1, 2**24)), 1)
+        self.assertEqual(decimals.limit_price(Fraction(1, 2**30)), 1)
+        self.assertEqual(decimals.limit_price(Fraction(2**56 - 1, 2**24)), 2**56 - 1)
+        for low in ("0", "-1.5"):
+            with self.assertRaisesRegex(speedex.NumberError, "is below 1, in units of"):
+                decimals.limit_price(low)
+        for high in (2**32, 10**5000):
+            with self.assertRaisesRegex(speedex.NumberError, "is above 2\\^56 - 1, in units of"):
+                decimals.limit_price(high)
+
     def test_each_fixed_number_is_its_decimal_again(self) -> None:
         chosen = random.Random(7)
         numbers = [0, 1, 2**24 - 1, 2**24, 2**56 - 1, 2**102, *(chosen.randrange(2**64) for _ in range(500))]
@@ -29,7 +55,7 @@ class Decimals(unittest.TestCase):
             self.assertEqual(Fraction(text), Fraction(number, 2**24))
 
     def test_rounding_is_said(self) -> None:
-        with self.assertRaisesRegex(ValueError, "no multiple of 2\\^-24"):
+        with self.assertRaisesRegex(speedex.NumberError, "no multiple of 2\\^-24"):
             decimals.to_fixed("6.48")
         self.assertEqual(decimals.to_fixed("6.48", decimals.UP), 108716360)
         self.assertEqual(decimals.to_fixed("6.48", decimals.DOWN), 108716359)
@@ -41,7 +67,7 @@ class Decimals(unittest.TestCase):
         self.assertEqual(decimals.from_units(50125, 3), "50.125")
         self.assertEqual(decimals.from_units(-5, 3), "-0.005")
         for wrong in ("", "1.", ".5", "1e3", "1,5", "NaN", "½", "1/0", " 1"):
-            with self.assertRaises(ValueError):
+            with self.assertRaises(speedex.NumberError):
                 decimals.to_units(wrong, 3)
         with self.assertRaises(TypeError):
             decimals.to_units(1.5, 3)  # type: ignore[arg-type]

@@ -165,6 +165,11 @@ class Text(unittest.TestCase):
             self.assertEqual(caught.exception.line, number, lines)
             self.assertIn(str(number), str(caught.exception))
 
+    def test_a_decimal_is_named(self) -> None:
+        for word in ("0.4", "1/66", "1,000"):
+            with self.assertRaisesRegex(speedex.TextError, "line 2 is not understood: its numbers have to be whole: tx"):
+                speedex.parse(f"candidates\ntx 1 1 offer 0 1 limit {word} amount 5")
+
     def test_what_a_block_leaves_out_is_filled_in(self) -> None:
         lines = (
             "state height 0 assets 2", "asset 0 price 16777216 rounding 0", "asset 1 price 16777216 rounding 0",
