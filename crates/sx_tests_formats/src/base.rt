@@ -1,22 +1,34 @@
 //! Whole calls over a source and a sink in memory, and one row for each that adapts `std::io`.
 
-use std::alloc::AllocError;
+use std::alloc::{AllocError, Global};
 use std::io;
 use std::io::{ErrorKind, Read, Write};
 use sx_base::*;
+
+// Whether four bytes come out of a source, then one and its end, and whether the next call fails.
+fn gives_lemon(source: &mut MemSource) -> bool {
+    let mut into = [0; 4];
+    let first = take_exact(source, &mut into) == Ok(());
+    let filled = into.as_slice() == b"lemo".as_slice();
+    let ended = take_exact(source, &mut into) == Err(TakeFault::Ended { got: 1 });
+    let failed = take_exact(source, &mut into) == Err(TakeFault::Failed);
+    first && filled && ended && failed
+}
 
 #[test]
 fn a_slice_is_filled_in_pieces(rt: HostRuntime) -> Result<(), AllocError> {
     let alloc = rt.alloc();
     // Two bytes a call, and the call after four fails.
     let mut source = MemSource::new(b"lemon".to_vec(alloc)?, 2, [4].to_vec(alloc)?);
-    let mut into = [0; 4];
-    assert!(rt; take_exact(&mut source, &mut into) == Ok(()));
-    assert!(rt; into.as_slice() == b"lemo".as_slice());
-    assert!(rt; take_exact(&mut source, &mut into) == Err(TakeFault::Ended { got: 1 }));
-    assert!(rt; take_exact(&mut source, &mut into) == Err(TakeFault::Failed));
-    assert!(rt; source.faults() == 1);
+    assert!(rt; gives_lemon(&mut source) && source.faults() == 1);
     Ok(())
+}
+
+// Whether a sink takes three bytes, and then two of three.
+fn takes_lemon(sink: &mut MemSink) -> bool {
+    let first = put_all(sink, b"lem") == Ok(());
+    let failed = put_all(sink, b"ons") == Err(Failed);
+    first && failed && sink.written() == b"lemon".as_slice()
 }
 
 #[test]
@@ -24,10 +36,7 @@ fn bytes_are_written_in_pieces(rt: HostRuntime) -> Result<(), AllocError> {
     let alloc = rt.alloc();
     // Two bytes a call, and room for five.
     let mut sink = MemSink::new([0; 5].to_vec(alloc)?, 2, Vec::new(alloc));
-    assert!(rt; put_all(&mut sink, b"lem") == Ok(()));
-    assert!(rt; put_all(&mut sink, b"ons") == Err(Failed));
-    assert!(rt; sink.written() == b"lemon".as_slice());
-    assert!(rt; sink.faults() == 1);
+    assert!(rt; takes_lemon(&mut sink) && sink.faults() == 1);
     Ok(())
 }
 
@@ -84,26 +93,46 @@ impl Write for Full {
     }
 }
 
-#[test]
-fn std_readers_are_sources(rt: HostRuntime) {
+// Whether three bytes are read, and then two and the end.
+fn is_read() -> bool {
     let mut source = StdSource::new(b"lemon".as_slice());
     let mut into = [0; 3];
-    assert!(rt; take_exact(&mut source, &mut into) == Ok(()));
-    assert!(rt; into.as_slice() == b"lem".as_slice());
-    assert!(rt; take_exact(&mut source, &mut into) == Err(TakeFault::Ended { got: 2 }));
+    let first = take_exact(&mut source, &mut into) == Ok(());
+    let filled = into.as_slice() == b"lem".as_slice();
+    let ended = take_exact(&mut source, &mut into) == Err(TakeFault::Ended { got: 2 });
+    first && filled && ended
+}
 
+// Whether a reader that fails makes a fault.
+fn is_failed() -> bool {
     let mut broken = StdSource::new(Broken);
-    assert!(rt; take_exact(&mut broken, &mut into) == Err(TakeFault::Failed));
-    assert!(rt; broken.faults() == 1);
+    let mut into = [0; 3];
+    let failed = take_exact(&mut broken, &mut into) == Err(TakeFault::Failed);
+    failed && broken.faults() == 1
+}
+
+#[test]
+fn std_readers_are_sources(rt: HostRuntime) {
+    assert!(rt; is_read());
+    assert!(rt; is_failed());
+}
+
+// Whether bytes are written.
+fn is_written(alloc: Global) -> bool {
+    let mut text = Vec::new(alloc);
+    let put = put_all(&mut StdSink::new(&mut text), b"lemon") == Ok(());
+    put && text.as_slice() == b"lemon".as_slice()
+}
+
+// Whether a writer that takes nothing makes a fault.
+fn is_full() -> bool {
+    let mut full = StdSink::new(Full);
+    let failed = put_all(&mut full, b"lemon") == Err(Failed);
+    failed && full.faults() == 1
 }
 
 #[test]
 fn std_writers_are_sinks(rt: HostRuntime) {
-    let mut text = Vec::new(rt.alloc());
-    assert!(rt; put_all(&mut StdSink::new(&mut text), b"lemon") == Ok(()));
-    assert!(rt; text.as_slice() == b"lemon".as_slice());
-
-    let mut full = StdSink::new(Full);
-    assert!(rt; put_all(&mut full, b"lemon") == Err(Failed));
-    assert!(rt; full.faults() == 1);
+    assert!(rt; is_written(rt.alloc()));
+    assert!(rt; is_full());
 }

@@ -2,30 +2,23 @@
 
 use crate::markets::two_offers;
 use std::alloc::Global;
-use std::test::*;
 use sx_base::{AccountId, Amount, AssetId, Seq};
-use sx_bytes::{Form, FormFault, ReadError, Reader, Writer};
+use sx_bytes::{ReadError, Reader, Writer};
 use sx_ledger::*;
-use sx_price::{Limit, Price};
+use sx_price::Limit;
 use sx_state::*;
 use sx_tx::{Kind, Tx};
 
-fn first_offer() -> Option<Offer> {
-    Some(Offer {
-        sell: AssetId::new(0).ok()?,
-        buy: AssetId::new(1).ok()?,
-        limit: Limit::new(1 << 25).ok()?,
-        account: AccountId(1),
-        seq: Seq::new(3).ok()?,
-        amount: Amount::new(40).ok()?,
-    })
+fn state(alloc: Global) -> Option<Ledger> {
+    read_state(alloc, &two_offers()).ok()
 }
 
 // The price, the rounding, both balances and the total of an asset.
-fn numbers(ledger: &Ledger, asset: AssetId) -> Option<[u64; 5]> {
-    if u32::from(asset.get()) >= ledger.assets() || ledger.accounts() != 2 {
+fn numbers(ledger: &Ledger, asset: u8) -> Option<[u64; 5]> {
+    if u32::from(asset) >= ledger.assets() || ledger.accounts() != 2 {
         return None;
     }
+    let asset = AssetId::new(asset).ok()?;
     Some([
         ledger.price(asset).get(),
         ledger.rounding(asset),
@@ -35,200 +28,217 @@ fn numbers(ledger: &Ledger, asset: AssetId) -> Option<[u64; 5]> {
     ])
 }
 
-// The height, and the numbers of both assets.
-fn read_numbers(alloc: Global) -> Option<(u64, [u64; 5], [u64; 5])> {
-    let ledger = read_state(alloc, &two_offers()).ok()?;
-    let first = numbers(&ledger, AssetId::new(0).ok()?)?;
-    let second = numbers(&ledger, AssetId::new(1).ok()?)?;
-    Some((ledger.height(), first, second))
+// The height, and the numbers of an asset.
+fn read_numbers(alloc: Global, asset: u8) -> Option<(u64, [u64; 5])> {
+    let ledger = state(alloc)?;
+    Some((ledger.height(), numbers(&ledger, asset)?))
 }
 
 // Where the ledger and its index find an account.
 fn found_account(alloc: Global, id: u64) -> Option<[Option<u32>; 2]> {
-    let ledger = read_state(alloc, &two_offers()).ok()?;
+    let ledger = state(alloc)?;
     let index = ledger.index().ok()?;
     Some([ledger.find(AccountId(id)), index.find(AccountId(id))])
 }
 
-// Where the first offer is found, and whether it stands there.
-fn found_offer(alloc: Global) -> Option<(u32, bool)> {
-    let ledger = read_state(alloc, &two_offers()).ok()?;
-    let offer = first_offer()?;
-    let place = ledger.find_offer(&offer.key())?;
+// The first id that is found elsewhere.
+fn first_wrong_account(alloc: Global) -> Option<u64> {
+    for (id, place) in [(0, None), (1, Some(0)), (2, None), (u64::MAX, Some(1))] {
+        if found_account(alloc, id) != Some([place, place]) {
+            return Some(id);
+        }
+    }
+    None
+}
+
+fn first_key() -> Option<Key> {
+    Some(Key {
+        sell: AssetId::new(0).ok()?,
+        buy: AssetId::new(1).ok()?,
+        limit: Limit::new(1 << 25).ok()?,
+        account: AccountId(1),
+        seq: Seq::new(3).ok()?,
+    })
+}
+
+// Where the first offer is found, and what it sells.
+fn found_offer(alloc: Global) -> Option<(u32, u64)> {
+    let ledger = state(alloc)?;
+    let key = first_key()?;
+    let place = ledger.find_offer(&key)?;
     if place >= ledger.offers() {
         return None;
     }
-    Some((place, *ledger.offer(place) == offer))
+    Some((place, ledger.offer(place).amount.get()))
 }
 
 #[test]
 fn a_state_is_read(rt: HostRuntime) {
-    assert_eq!(rt;
-        read_numbers(rt.alloc()),
-        Some((
-            Ledger::MOST_HEIGHT,
-            [1 << 24, 0, 10, 30, 80],
-            [1 << 40, 3, 20, 0, 24]
-        ))
-    );
-    for (id, place) in [(0, None), (1, Some(0)), (2, None), (u64::MAX, Some(1))] {
-        assert_eq!(rt; found_account(rt.alloc(), id), Some([place, place]), "{id}");
-    }
-    assert_eq!(rt; found_offer(rt.alloc()), Some((0, true)));
+    let alloc = rt.alloc();
+    let height = 9_223_372_036_854_775_807;
+    assert!(rt; read_numbers(alloc, 0) == Some((height, [1 << 24, 0, 10, 30, 80])));
+    assert!(rt; read_numbers(alloc, 1) == Some((height, [1 << 40, 3, 20, 0, 24])));
+    assert_eq!(rt; first_wrong_account(alloc), None);
+    assert!(rt; found_offer(alloc) == Some((0, 40)));
 }
 
-// The state and its length once it was read, copied, taken apart and put together.
-fn written(alloc: Global) -> Option<(Writer, u32)> {
-    let ledger = read_state(alloc, &two_offers()).ok()?;
+// Whether a state is written as it was read, once it was copied, taken apart and put together.
+fn is_written(alloc: Global) -> Option<bool> {
+    let ledger = state(alloc)?;
     let again = Ledger::of(ledger.copy().ok()?.into_parts());
     let mut to = Writer::new(alloc);
     write_state(&mut to, &again).ok()?;
-    Some((to, state_length(&again)))
+    Some(to.bytes() == two_offers().as_slice() && state_length(&again) == 182)
 }
 
 #[test]
-fn a_state_is_written(rt: HostRuntime) -> Result<(), Fail> {
-    let (to, length) = written(rt.alloc()).ok_or("memory")?;
-    assert_eq!(rt; to.bytes(), two_offers().as_slice());
-    assert_eq!(rt; length, 182);
+fn a_state_is_written(rt: HostRuntime) {
+    assert!(rt; is_written(rt.alloc()) == Some(true));
     state_laws();
-    Ok(())
 }
 
-#[test]
-fn prices_are_read(rt: HostRuntime) -> Result<(), Fail> {
+// Two prices from byte 10 on, and where the reader is then.
+fn read_two(alloc: Global, from: &mut Reader) -> Option<([u64; 2], usize)> {
+    let prices = read_prices(alloc, from, 2).ok()?;
+    match prices.items() {
+        [first, second] => Some(([first.get(), second.get()], from.place())),
+        _ => None,
+    }
+}
+
+// Whether both prices are read, and where the reader is once it has found that what comes next is none.
+fn prices_then(alloc: Global) -> Option<(bool, usize)> {
     let bytes = two_offers();
     let mut from = Reader::new(&bytes);
-    from.raw(10)?;
-    let prices = read_prices(rt.alloc(), &mut from, 2).ok().ok_or("prices")?;
-    let wanted = [Price::new(1 << 24)?, Price::new(1 << 40)?];
-    assert_eq!(rt; prices.items(), wanted.as_slice());
-    assert_eq!(rt; from.place(), 26);
-    // what comes next is no price
-    assert!(rt; read_prices(rt.alloc(), &mut from, 2).is_err());
-    assert_eq!(rt; from.place(), 26);
-    Ok(())
+    from.raw(10).ok()?;
+    let read = read_two(alloc, &mut from)? == ([1 << 24, 1 << 40], 26);
+    let ended = read_prices(alloc, &mut from, 2).is_err();
+    Some((read && ended, from.place()))
 }
 
-// What the state is refused with once one byte of it is another.
-fn refusal(alloc: Global, place: usize, byte: u8) -> Option<ReadError> {
+#[test]
+fn prices_are_read(rt: HostRuntime) {
+    assert!(rt; prices_then(rt.alloc()) == Some((true, 26)));
+}
+
+// Where the first fault of the state is once one byte of it is another, and the number of it.
+fn refusal(alloc: Global, place: usize, byte: u8) -> Option<(u64, u8)> {
     let mut payload = two_offers();
     *payload.get_mut(place)? = byte;
-    read_state(alloc, &payload).err()
+    match read_state(alloc, &payload) {
+        Err(ReadError::Form(refused)) => Some((refused.at, refused.fault.number())),
+        _ => None,
+    }
+}
+
+// The place of the first byte whose change is refused otherwise.
+fn first_wrong_refusal(alloc: Global) -> Option<usize> {
+    // the place and the byte; where the fault is, and its number
+    for (place, byte, at, number) in [
+        (0, 3, 0, 14),
+        (1, 128, 1, 15),
+        (9, 33, 9, 16),
+        (14, 0, 10, 11),
+        (26, 128, 26, 3),
+        (26, 64, 0, 8),
+        (43, 2, 42, 9),
+        (45, 3, 110, 7),
+        (54, 128, 54, 5),
+        (111, 5, 110, 9),
+        (113, 3, 182, 1),
+        (113, 1, 148, 10),
+        (115, 0, 115, 6),
+        (116, 1, 116, 4),
+        (173, 8, 148, 17),
+    ] {
+        if refusal(alloc, place, byte) != Some((at, number)) {
+            return Some(place);
+        }
+    }
+    None
 }
 
 #[test]
 fn the_first_fault_is_told(rt: HostRuntime) {
-    for (place, byte, at, fault) in [
-        (0, 3, 0, Form::Version),
-        (1, 128, 1, Form::HeightRange),
-        (9, 33, 9, Form::AssetCount),
-        (14, 0, 10, Form::PriceRange),
-        (26, 128, 26, Form::AmountRange),
-        (26, 64, 0, Form::Total),
-        (43, 2, 42, Form::TooMany),
-        (45, 3, 110, Form::Order),
-        (54, 128, 54, Form::SeqRange),
-        (111, 5, 110, Form::TooMany),
-        (113, 3, 182, Form::Short),
-        (113, 1, 148, Form::Rest),
-        (115, 0, 115, Form::AssetRange),
-        (116, 1, 116, Form::LimitRange),
-        (173, 8, 148, Form::Owner),
-    ] {
-        assert_eq!(rt;
-            refusal(rt.alloc(), place, byte),
-            Some(ReadError::Form(FormFault { at, fault })),
-            "byte {place}"
-        );
-    }
+    assert_eq!(rt; first_wrong_refusal(rt.alloc()), None);
 }
 
-// A payment, a creation, an offer, and the end of the first offer.
-fn kinds() -> Option<[Kind; 4]> {
-    let Offer {
-        sell,
-        buy,
-        limit,
-        seq,
-        amount,
-        ..
-    } = first_offer()?;
-    Some([
-        Kind::Pay {
+// A payment, a creation, an offer, and the end of the first offer, by number.
+fn kind(number: u8) -> Option<Kind> {
+    let (sell, buy) = (AssetId::new(0).ok()?, AssetId::new(1).ok()?);
+    let limit = Limit::new(1 << 25).ok()?;
+    let amount = Amount::new(40).ok()?;
+    let seq = Seq::new(3).ok()?;
+    Some(match number {
+        0 => Kind::Pay {
             to: AccountId(1),
             asset: buy,
             amount,
         },
-        Kind::Create { id: AccountId(9) },
-        Kind::Offer {
+        1 => Kind::Create { id: AccountId(9) },
+        2 => Kind::Offer {
             sell,
             buy,
             limit,
             amount,
         },
-        Kind::Cancel {
+        _ => Kind::Cancel {
             sell,
             buy,
             limit,
             seq,
         },
-    ])
+    })
 }
 
-// The places of the payment and of the cancellation, by account 1, with the account looked for at a
-// place first.
-fn placed(alloc: Global, near: u32) -> Option<[Result<Places, Static>; 2]> {
-    let ledger = read_state(alloc, &two_offers()).ok()?;
+// A transaction of account 1 of this kind.
+fn tx(number: u8, seq: u64) -> Option<Tx> {
+    Some(Tx {
+        account: AccountId(1),
+        seq: Seq::new(seq).ok()?,
+        kind: kind(number)?,
+    })
+}
+
+// The place of the account of a transaction, and 100 more than that of the payee or 200 more than that of the
+// offer. The account is looked for at a place first.
+fn placed(alloc: Global, near: u32, number: u8) -> Option<(u32, u32)> {
+    let ledger = state(alloc)?;
     let index = ledger.index().ok()?;
-    let account = AccountId(1);
-    let seq = Seq::new(8).ok()?;
-    let [pay, _, _, cancel] = kinds()?;
-    let pay = Tx {
-        account,
-        seq,
-        kind: pay,
-    };
-    let cancel = Tx {
-        account,
-        seq,
-        kind: cancel,
-    };
-    Some([
-        ledger.places_of(&index, near, &pay),
-        ledger.places_of(&index, near, &cancel),
-    ])
+    let tx = tx(number, 8)?;
+    let places = ledger.places_of(&index, near, &tx).ok()?;
+    match places.target {
+        Target::Payee(place) => Some((places.account, place.checked_add(100)?)),
+        Target::Offer(place) => Some((places.account, place.checked_add(200)?)),
+        _ => None,
+    }
 }
 
 #[test]
 fn places_are_found(rt: HostRuntime) {
     for near in [0, 1, u32::MAX] {
-        let wanted = [Target::Payee(0), Target::Offer(0)].map(|target| Ok(Places {
-            account: 0,
-            target,
-        }));
-        assert_eq!(rt; placed(rt.alloc(), near), Some(wanted), "{near}");
+        assert!(rt; placed(rt.alloc(), near, 0) == Some((0, 100)));
+        assert!(rt; placed(rt.alloc(), near, 3) == Some((0, 200)));
+    }
+}
+
+// The number of what a transaction is refused for, or 0 if it passes.
+fn checked(alloc: Global, number: u8, seq: u64) -> Option<u8> {
+    let ledger = state(alloc)?;
+    match ledger.static_check(&tx(number, seq)?) {
+        Ok(()) => Some(0),
+        Err(why) => Some(why.number()),
     }
 }
 
 #[test]
-fn transactions_pass(rt: HostRuntime) -> Result<(), Fail> {
-    let ledger = read_state(rt.alloc(), &two_offers()).ok().ok_or("a state")?;
-    let account = AccountId(1);
-    let (open, used) = (Seq::new(8)?, Seq::new(7)?);
-    for kind in kinds().ok_or("kinds")? {
-        let mut tx = Tx {
-            account,
-            seq: open,
-            kind,
-        };
-        assert_eq!(rt; ledger.static_check(&tx), Ok(()), "{tx:?}");
-        tx.seq = used;
-        assert_eq!(rt; ledger.static_check(&tx), Err(Static::SeqBehind), "{tx:?}");
+fn transactions_pass(rt: HostRuntime) {
+    for number in [0, 1, 2, 3] {
+        // the number 8 is open, and 7 is used
+        assert!(rt; checked(rt.alloc(), number, 8) == Some(0));
+        assert!(rt; checked(rt.alloc(), number, 7) == Some(2));
     }
-    assert_eq!(rt; Static::SeqBehind.number(), 2);
     posting_laws();
     bound_laws();
     body_laws();
-    Ok(())
 }

@@ -1,14 +1,15 @@
-//! Tests of numbers, ledgers, records, blocks and proofs, of their encodings and texts, of words, and of work that is
+//! Tests of numbers, transactions and ledgers, of their encodings, of words, of the root of a ledger, and of work that is
 //! split among threads.
 //!
-//! Most files are named after the crate that they test; `markets` has states and blocks that several share. They stand in
-//! a crate of their own, so that a crate with tests is not proved twice.
+//! Most files are named after the crate that they test; `markets` has states that several share. They stand in a crate of
+//! their own, so that a crate with tests is not proved twice.
+//!
+//! Not here: what stored cases of the program hold byte for byte, as blocks, digests, records, texts and the proofs of
+//! accounts (`examples/cases`).
 #![tactic(auto)]
 
 #[cfg(test)]
 mod base;
-#[cfg(test)]
-mod block;
 #[cfg(test)]
 mod bytes;
 #[cfg(test)]
@@ -21,8 +22,6 @@ mod ledger;
 mod markets;
 #[cfg(test)]
 mod price;
-#[cfg(test)]
-mod record;
 #[cfg(test)]
 mod texts;
 #[cfg(test)]

@@ -4,7 +4,6 @@ ghost use Rattle.std.specs.Prelude.{◌≡◌, IfSome};
 
 use crate::markets::{create, three_accounts};
 use std::alloc::Global;
-use std::test::Fail;
 use sx_base::{AccountId, AssetId};
 use sx_layout::{Layout, Spot, closing_law, layout_laws};
 use sx_state::read_state;
@@ -18,8 +17,12 @@ fn layout_of(alloc: Global) -> Option<Layout>
     Layout::new(alloc, &ledger, candidates.as_slice(), 2).ok()
 }
 
-// The spots of the last balance, the last account's sequence numbers and the offer.
-fn spots(alloc: Global) -> Option<([Spot; 3], u32)> {
+fn number(spot: Spot) -> (u32, u32) {
+    (spot.shard, spot.word)
+}
+
+// The shards and words of the last balance, the last account's sequence numbers and the offer, and the offer's bit.
+fn spots(alloc: Global) -> Option<([(u32, u32); 3], u32)> {
     let ledger = read_state(alloc, &three_accounts()).ok()?;
     if ledger.accounts() != 3 || ledger.offers() != 1 || ledger.assets() != 2 {
         return None;
@@ -27,38 +30,31 @@ fn spots(alloc: Global) -> Option<([Spot; 3], u32)> {
     let layout = Layout::new(alloc, &ledger, &[], 2).ok()?;
     let (offer, bit) = layout.offer_of(0);
     let purse = layout.purse_of(2, AssetId::new(1).ok()?);
-    Some(([purse, layout.window_of(2), offer], bit))
-}
-
-fn spot(word: u32) -> Spot {
-    Spot { shard: 0, word }
+    Some((
+        [number(purse), number(layout.window_of(2)), number(offer)],
+        bit,
+    ))
 }
 
 #[test]
 fn words_have_spots(rt: HostRuntime) {
+    assert!(rt; spots(rt.alloc()) == Some(([(0, 3), (0, 1), (0, 2)], 0)));
     layout_laws();
     closing_law();
-    let expected = [spot(3), spot(1), spot(2)];
-    assert_eq!(rt; spots(rt.alloc()), Some((expected, 0)));
 }
 
-// The opening words of both shards, as the purses of one and then its bit words.
-fn words(alloc: Global, shard: u32) -> Option<Vec<u64>> {
+// Whether a shard opens with these purses and these bit words.
+fn opens_with(alloc: Global, shard: u32, purses: &[u64], bits: &[u64]) -> Option<bool> {
     let layout = layout_of(alloc)?;
-    let mut words = Vec::from_slice(alloc, layout.opening_purses(shard.min(1))).ok()?;
-    words
-        .extend_from_slice(layout.opening_bits(shard.min(1)))
-        .ok()?;
-    Some(words)
+    let shard = shard.min(1);
+    Some(layout.opening_purses(shard) == purses && layout.opening_bits(shard) == bits)
 }
 
 #[test]
-fn words_open_with_the_balances(rt: HostRuntime) -> Result<(), Fail> {
-    let first = words(rt.alloc(), 0).ok_or("no layout")?;
-    assert_eq!(rt; first.as_slice(), [10, 20, 40, 50, 0, 0, 0, 0].as_slice());
-    let second = words(rt.alloc(), 1).ok_or("no layout")?;
-    assert_eq!(rt; second.as_slice(), [30, 0, 0].as_slice());
-    Ok(())
+fn words_open_with_the_balances(rt: HostRuntime) {
+    let alloc = rt.alloc();
+    assert!(rt; opens_with(alloc, 0, &[10, 20, 40, 50], &[0, 0, 0, 0]) == Some(true));
+    assert!(rt; opens_with(alloc, 1, &[30, 0], &[0]) == Some(true));
 }
 
 // The word and the bit of a new id.
@@ -69,7 +65,7 @@ fn name(alloc: Global, id: u64) -> Option<(u32, u32)> {
 
 #[test]
 fn new_ids_have_bits(rt: HostRuntime) {
-    for (id, found) in [(9, Some((3, 0))), (11, Some((3, 1))), (10, None)] {
-        assert_eq!(rt; name(rt.alloc(), id), found);
-    }
+    assert!(rt; name(rt.alloc(), 9) == Some((3, 0)));
+    assert!(rt; name(rt.alloc(), 11) == Some((3, 1)));
+    assert!(rt; name(rt.alloc(), 10) == None);
 }

@@ -6,7 +6,6 @@ ghost use Rattle.sx_tx.specs.Transactions.{most_transactions};
 use crate::markets::{cancel, create, one_offer, pay, two_accounts};
 use std::alloc::Global;
 use std::sync::atomic::{AtomicBool, Ordering};
-use std::test::Fail;
 use std::thread::Threads;
 use sx_outcome::Outcome;
 use sx_state::read_state;
@@ -21,7 +20,7 @@ const LOOKS: u32 = 100_000_000;
 
 const SHARDS: u32 = 2;
 
-pub fn debits() -> Option<[Tx; 2]> {
+fn debits() -> Option<[Tx; 2]> {
     Some([pay(1, 1, 2, 60)?, pay(1, 2, 2, 60)?])
 }
 
@@ -39,41 +38,27 @@ fn pairs() -> Option<[Tx; 8]> {
     ])
 }
 
-// What may become of the two of a pair.
-fn allowed() -> [[(Outcome, Outcome); 2]; 4] {
-    let overdrawn = Outcome::Overdraft { seen: 40, need: 60 };
-    let too_much = Outcome::Overdraft {
-        seen: 100,
-        need: 101,
-    };
-    [
-        [
-            (Outcome::Accepted, overdrawn),
-            (overdrawn, Outcome::Accepted),
-        ],
-        [
-            (Outcome::Accepted, Outcome::OfferTaken),
-            (Outcome::OfferTaken, Outcome::Accepted),
-        ],
-        [
-            (Outcome::Accepted, Outcome::NameTaken),
-            (Outcome::NameTaken, Outcome::Accepted),
-        ],
-        [
-            (too_much, Outcome::SeqTaken),
-            (Outcome::SeqTaken, Outcome::Accepted),
-        ],
-    ]
+// What may become of the first of a pair and of the second: the account spends 60 of 100 units twice, the offer
+// is cancelled twice, the account is created twice, and 101 of 100 units are paid beside 5 under one sequence number.
+fn is_allowed(pair: usize, first: Outcome, second: Outcome) -> bool {
+    match (pair, first, second) {
+        (0, Outcome::Accepted, Outcome::Overdraft { seen, need }) => seen == 40 && need == 60,
+        (0, Outcome::Overdraft { seen, need }, Outcome::Accepted) => seen == 40 && need == 60,
+        (1, Outcome::Accepted, Outcome::OfferTaken) => true,
+        (1, Outcome::OfferTaken, Outcome::Accepted) => true,
+        (2, Outcome::Accepted, Outcome::NameTaken) => true,
+        (2, Outcome::NameTaken, Outcome::Accepted) => true,
+        (3, Outcome::Overdraft { seen, need }, Outcome::SeqTaken) => seen == 100 && need == 101,
+        (3, Outcome::SeqTaken, Outcome::Accepted) => true,
+        _ => false,
+    }
 }
 
 // Whether the outcomes are those of the first so many pairs.
-pub fn are_allowed(outcomes: &[Outcome]) -> bool {
-    let pairs = outcomes.len() / 2;
-    for (place, allowed) in allowed().iter().take(pairs).enumerate() {
-        let (Some(first), Some(other)) = (outcomes.get(place), outcomes.get(place + pairs)) else {
-            return false;
-        };
-        if !allowed.contains(&(*first, *other)) {
+fn are_allowed(outcomes: &[Outcome]) -> bool {
+    let (first, second) = outcomes.split_at(outcomes.len() / 2);
+    for (pair, (one, other)) in first.iter().zip(second).enumerate() {
+        if !is_allowed(pair, *one, *other) {
             return false;
         }
     }
@@ -102,17 +87,20 @@ fn gathers<R: Threads + Sync, G: Gate + Sync>(
     Some(are_allowed(outcomes.items()) && are_allowed(others.items()))
 }
 
+// Two workers with the debits, and four with the pairs.
+fn both_gather<R: Threads + Sync>(rt: &R, alloc: Global) -> Option<bool> {
+    let debits = debits()?;
+    let pairs = pairs()?;
+    let two = gathers(rt, alloc, &two_accounts(), &debits, 2, &NoGate)?;
+    let four = gathers(rt, alloc, &one_offer(), &pairs, 4, &NoGate)?;
+    Some(two && four)
+}
+
 #[test]
-fn one_of_two_is_accepted(rt: HostRuntime) -> Result<(), Fail> {
-    let debits = debits().ok_or("no candidates")?;
-    let pairs = pairs().ok_or("no candidates")?;
+fn one_of_two_is_accepted(rt: HostRuntime) {
     for _ in 0..TIMES {
-        let two = gathers(&rt, rt.alloc(), &two_accounts(), &debits, 2, &NoGate);
-        assert_eq!(rt; two, Some(true));
-        let four = gathers(&rt, rt.alloc(), &one_offer(), &pairs, 4, &NoGate);
-        assert_eq!(rt; four, Some(true));
+        assert!(rt; both_gather(&rt, rt.alloc()) == Some(true));
     }
-    Ok(())
 }
 
 // What one of two workers tells the other.
@@ -164,15 +152,18 @@ impl Gate for Meeting {
     }
 }
 
-#[test]
-fn two_workers_run_at_the_same_time(rt: HostRuntime) -> Result<(), Fail> {
-    let debits = debits().ok_or("no candidates")?;
+// Whether two workers gather, and each meets the other.
+fn both_meet<R: Threads + Sync>(rt: &R, alloc: Global) -> Option<bool> {
+    let debits = debits()?;
     let meeting = Meeting {
         one: Side::new(),
         other: Side::new(),
     };
-    let gathered = gathers(&rt, rt.alloc(), &two_accounts(), &debits, 2, &meeting);
-    assert_eq!(rt; gathered, Some(true));
-    assert!(rt; meeting.one.has_met() && meeting.other.has_met());
-    Ok(())
+    let gathered = gathers(rt, alloc, &two_accounts(), &debits, 2, &meeting)?;
+    Some(gathered && meeting.one.has_met() && meeting.other.has_met())
+}
+
+#[test]
+fn two_workers_run_at_the_same_time(rt: HostRuntime) {
+    assert!(rt; both_meet(&rt, rt.alloc()) == Some(true));
 }

@@ -1,3 +1,2 @@
 pub mod SmallMarket
 pub mod Alike
-pub mod Two

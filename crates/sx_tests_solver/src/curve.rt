@@ -47,41 +47,58 @@ fn curves_of(alloc: Global, quotes: &[Quote]) -> Option<Curves> {
     Curves::build(alloc, 3, quotes).ok()
 }
 
-#[test]
-fn sums_go_up_to_a_limit(rt: HostRuntime) -> Result<(), Fail> {
+fn curves(alloc: Global) -> Option<Curves> {
     let quotes = [
-        quote(0, 1, 2 * ONE, 20).ok_or("a quote")?,
-        quote(1, 0, ONE, 7).ok_or("a quote")?,
-        quote(0, 1, ONE, 30).ok_or("a quote")?,
-        quote(0, 2, ONE, 5).ok_or("a quote")?,
-        quote(0, 1, 4 * ONE, 40).ok_or("a quote")?,
-        quote(0, 1, 2 * ONE, 2).ok_or("a quote")?,
+        quote(0, 1, 2 * ONE, 20)?,
+        quote(1, 0, ONE, 7)?,
+        quote(0, 1, ONE, 30)?,
+        quote(0, 2, ONE, 5)?,
+        quote(0, 1, 4 * ONE, 40)?,
+        quote(0, 1, 2 * ONE, 2)?,
     ];
-    let curves = curves_of(rt.alloc(), &quotes).ok_or("curves")?;
-    assert_eq!(rt; curves.assets(), 3);
+    curves_of(alloc, &quotes)
+}
+
+// The amount, and the weighted amount over 2^24, of a pair up to a quotient.
+fn sums(curves: &Curves, sell: u8, buy: u8, num: u128, den: u128) -> Option<(u128, u128)> {
+    if den > 1 << 60 {
+        return None;
+    }
+    let (sell, buy) = (AssetId::new(sell).ok()?, AssetId::new(buy).ok()?);
+    let sums = curves.below(sell, buy, num, den);
+    Some((u128::from(sums.amount), sums.weighted >> 24))
+}
+
+// The number of the first row that comes out otherwise.
+fn first_wrong(curves: &Curves) -> Option<u8> {
     let one = u128::from(ONE);
     // the pair, the highest limit as a quotient; the amount, and the weighted amount over 2^24
-    let table = [
-        (0, 1, one - 1, 1, 0, 0),
-        (0, 1, one, 1, 30, 30),
-        (0, 1, 2 * one - 1, 1, 30, 30),
-        (0, 1, 2 * one, 1, 52, 74),
-        (0, 1, 3 * one, 2, 30, 30),
-        (0, 1, 4 * one, 2, 52, 74),
-        (0, 1, 1 << 84, 1 << 59, 52, 74),
-        (0, 1, 1 << 84, 1, 92, 234),
-        (0, 2, one, 1, 5, 5),
-        (1, 0, one, 1, 7, 7),
-        (1, 2, 1 << 84, 1, 0, 0),
-        (31, 31, 1 << 84, 1, 0, 0),
-    ];
-    for (sell, buy, num, den, amount, weight) in table {
-        let (sell, buy) = (AssetId::new(sell)?, AssetId::new(buy)?);
-        assert!(rt; den <= 1 << 60);
-        let sums = curves.below(sell, buy, num, den);
-        assert_eq!(rt; sums.amount, amount, "up to {num} / {den}");
-        assert_eq!(rt; sums.weighted >> 24, weight, "up to {num} / {den}");
+    for (row, sell, buy, num, den, amount, weight) in [
+        (1, 0, 1, one - 1, 1, 0, 0),
+        (2, 0, 1, one, 1, 30, 30),
+        (3, 0, 1, 2 * one - 1, 1, 30, 30),
+        (4, 0, 1, 2 * one, 1, 52, 74),
+        (5, 0, 1, 3 * one, 2, 30, 30),
+        (6, 0, 1, 4 * one, 2, 52, 74),
+        (7, 0, 1, 1 << 84, 1 << 59, 52, 74),
+        (8, 0, 1, 1 << 84, 1, 92, 234),
+        (9, 0, 2, one, 1, 5, 5),
+        (10, 1, 0, one, 1, 7, 7),
+        (11, 1, 2, 1 << 84, 1, 0, 0),
+        (12, 31, 31, 1 << 84, 1, 0, 0),
+    ] {
+        if sums(curves, sell, buy, num, den) != Some((amount, weight)) {
+            return Some(row);
+        }
     }
+    None
+}
+
+#[test]
+fn sums_go_up_to_a_limit(rt: HostRuntime) -> Result<(), Fail> {
+    let curves = curves(rt.alloc()).ok_or("curves")?;
+    assert!(rt; curves.assets() == 3);
+    assert_eq!(rt; first_wrong(&curves), None);
     value_laws();
     search_laws();
     Ok(())

@@ -17,7 +17,7 @@ use sx_feas::{Feas, feasible};
 use sx_net::Steps;
 
 // What is found of bounds: the greatest value that trades, or the assets of a cut, bit i for asset i.
-#[derive(Clone, Copy, Debug, PartialEq, Eq)]
+#[derive(Clone, Copy, PartialEq, Eq)]
 pub enum Outcome {
     Greatest(u128),
     NoneWithin(u32),
@@ -55,34 +55,41 @@ pub fn answer<L: Ledger>(alloc: Global, bounds: &Bounds, blank: Blank) -> Option
     }
 }
 
-fn answer_of(alloc: Global, kind: Kind, assets: u32) -> Option<Outcome>
-    requires some { 1 ≤ assets }
-    requires few { assets ≤ 32 }
-{
+// The same of the bounds of a kind, for 1 to 32 assets.
+fn answer_of(alloc: Global, kind: Kind, assets: u32) -> Option<Outcome> {
+    if assets < 1 || assets > 32 {
+        return None;
+    }
     let mut generator = Xoshiro256PlusPlus::seed_from_u64(0);
     let bounds = bounds_of(alloc, &mut generator, kind, assets)?;
     answer::<Brand>(alloc, &bounds, Blank::new(1))
 }
 
+// The number of the first row that comes out otherwise.
+fn first_wrong(alloc: Global) -> Option<u8> {
+    for (row, kind, assets, wanted) in [
+        (1, Kind::Nothing, 1u32, Outcome::Greatest(0)),
+        (2, Kind::Nothing, 32, Outcome::Greatest(0)),
+        (3, Kind::Greatest, 1, Outcome::Greatest(0)),
+        (4, Kind::Greatest, 32, Outcome::Greatest(992 << 102)),
+        (5, Kind::Fixed, 6, Outcome::Greatest(180)),
+        (6, Kind::Uneven, 2, Outcome::NoneWithin(2)),
+        (7, Kind::Halves, 2, Outcome::NoneWithin(1)),
+        (8, Kind::Halves, 32, Outcome::NoneWithin(0xFFFF)),
+        (9, Kind::Ring, 3, Outcome::Greatest(30)),
+        (10, Kind::Ring, 32, Outcome::Greatest(320)),
+        (11, Kind::Chord, 3, Outcome::Greatest(30)),
+        (12, Kind::Chord, 32, Outcome::Greatest(320)),
+        (13, Kind::Rings, 32, Outcome::Greatest(27_015)),
+    ] {
+        if answer_of(alloc, kind, assets) != Some(wanted) {
+            return Some(row);
+        }
+    }
+    None
+}
+
 #[test]
 fn bounds_worked_out_by_hand(rt: HostRuntime) {
-    for (kind, assets, wanted) in [
-        (Kind::Nothing, 1u32, Outcome::Greatest(0)),
-        (Kind::Nothing, 32, Outcome::Greatest(0)),
-        (Kind::Greatest, 1, Outcome::Greatest(0)),
-        (Kind::Greatest, 32, Outcome::Greatest(992 << 102)),
-        (Kind::Fixed, 6, Outcome::Greatest(180)),
-        (Kind::Uneven, 2, Outcome::NoneWithin(2)),
-        (Kind::Halves, 2, Outcome::NoneWithin(1)),
-        (Kind::Halves, 32, Outcome::NoneWithin(0xFFFF)),
-        (Kind::Ring, 3, Outcome::Greatest(30)),
-        (Kind::Ring, 32, Outcome::Greatest(320)),
-        (Kind::Chord, 3, Outcome::Greatest(30)),
-        (Kind::Chord, 32, Outcome::Greatest(320)),
-        (Kind::Rings, 32, Outcome::Greatest(27_015)),
-    ] {
-        assert!(rt; 1 <= assets && assets <= 32);
-        let answer = answer_of(rt.alloc(), kind, assets);
-        assert_eq!(rt; answer, Some(wanted), "{kind:?} of {assets}");
-    }
+    assert_eq!(rt; first_wrong(rt.alloc()), None);
 }

@@ -1,10 +1,11 @@
-//! `solve` of `sx_level`: bounds worked out by hand, and small bounds drawn from a seed, of which the plain pair
-//! `feasible` and `best` finds the same. Each answer is looked at by the plain sums of `sx_dual`.
+//! `solve` of `sx_level`: small bounds drawn from a seed, of which the plain pair `feasible` and `best` finds the same, and
+//! bounds for each number of assets. Each answer is looked at by the plain sums of `sx_dual`. Stored cases have the blocks
+//! of bounds that were worked out by hand.
 
-ghost use Rattle.std.specs.Prelude.{◌≡◌, ◌*◌, ◌<◌, ◌≤◌, length};
+ghost use Rattle.std.specs.Prelude.{◌≡◌, ◌<◌, ◌≤◌};
 
 use crate::instances::{Outcome, answer};
-use crate::spans::{Kind, bounds_of, bounds_with};
+use crate::spans::{Kind, bounds_of};
 use rand_core::SeedableRng;
 use rand_xoshiro::Xoshiro256PlusPlus;
 use std::alloc::Global;
@@ -26,53 +27,6 @@ fn solved<L: Ledger>(alloc: Global, bounds: &Bounds, blank: Blank) -> Option<Out
             Some(Outcome::Greatest(flow.value()))
         }
         Solved::Cut(cut) => cuts(bounds, cut).then_some(Outcome::NoneWithin(cut.0)),
-    }
-}
-
-fn solved_of(alloc: Global, assets: u32, low: &[u128], high: &[u128]) -> Option<Outcome>
-    requires some { 1 ≤ assets }
-    requires few { assets ≤ 32 }
-{
-    let bounds = bounds_with(assets, low.to_vec(alloc).ok()?, high.to_vec(alloc).ok()?)?;
-    solved::<Brand>(alloc, &bounds, Blank::new(1))
-}
-
-// Units of 2^24, which is a price of 1.
-fn units(values: [u128; 9]) -> [u128; 9] {
-    values.map(|value| (value % 1024) << 24)
-}
-
-#[test]
-fn bounds_worked_out_by_hand(rt: HostRuntime) {
-    let ring = units([0, 10, 0, 0, 0, 10, 10, 0, 0]);
-    let chord = units([0, 10, 0, 10, 0, 10, 10, 0, 0]);
-    let alloc = rt.alloc();
-    for (found, wanted) in [
-        (solved_of(alloc, 1, &[0], &[0]), Outcome::Greatest(0)),
-        (solved_of(alloc, 3, &[0; 9], &[0; 9]), Outcome::Greatest(0)),
-        (
-            solved_of(alloc, 2, &[0, 0, 60 << 24, 0], &[0, 100 << 24, 60 << 24, 0]),
-            Outcome::Greatest(2_013_265_920),
-        ),
-        (
-            solved_of(alloc, 3, &ring, &ring),
-            Outcome::Greatest(503_316_480),
-        ),
-        (
-            solved_of(alloc, 3, &[0; 9], &chord),
-            Outcome::Greatest(503_316_480),
-        ),
-        (
-            solved_of(
-                alloc,
-                2,
-                &[0, 15 << 20, 16 << 20, 0],
-                &[0, 15 << 20, 16 << 20, 0],
-            ),
-            Outcome::NoneWithin(1),
-        ),
-    ] {
-        assert_eq!(rt; found, Some(wanted));
     }
 }
 
@@ -104,7 +58,7 @@ fn all_the_same(alloc: Global) -> Option<bool> {
 
 #[test]
 fn the_plain_pair_finds_the_same(rt: HostRuntime) {
-    assert_eq!(rt; all_the_same(rt.alloc()), Some(true));
+    assert!(rt; all_the_same(rt.alloc()) == Some(true));
 }
 
 // What is found of the bounds of a kind that are drawn for this many assets.
@@ -132,7 +86,6 @@ fn answers_both(alloc: Global, kind: Kind) -> Option<bool> {
 
 #[test]
 fn bounds_drawn_from_seeds(rt: HostRuntime) {
-    for kind in [Kind::Near, Kind::Far] {
-        assert_eq!(rt; answers_both(rt.alloc(), kind), Some(true), "{kind:?}");
-    }
+    assert!(rt; answers_both(rt.alloc(), Kind::Near) == Some(true));
+    assert!(rt; answers_both(rt.alloc(), Kind::Far) == Some(true));
 }

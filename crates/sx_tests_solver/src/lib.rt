@@ -1,4 +1,4 @@
-//! Tests of lists, networks, bounds, circulations, curves, the price search, books and fills.
+//! Tests of lists, networks, bounds, circulations, curves, the price search and books.
 //!
 //! Most files are named after the crate that they test. `instances` and `spans` are circulations of the plain pair
 //! `feasible` and `best`, and the bounds that they are of; `markets` has what several share. They stand in a crate of their
@@ -11,10 +11,6 @@ mod books;
 mod curve;
 #[cfg(test)]
 mod dual;
-#[cfg(test)]
-mod feas;
-#[cfg(test)]
-mod fills;
 #[cfg(test)]
 mod instances;
 #[cfg(test)]

@@ -5,8 +5,7 @@ ghost use Rattle.sx_curve.specs.Curves.{IsAmong};
 
 use crate::markets::{ONE, quote};
 use std::alloc::Global;
-use std::test::Fail;
-use sx_base::AssetId;
+use std::thread::Threads;
 use sx_bytes::NoMemory;
 use sx_curve::{Curves, Quote};
 use sx_demand::excess;
@@ -35,25 +34,34 @@ fn are(prices: &Prices, raws: [u64; 3]) -> bool {
     prices.items().iter().map(|price| price.get()).eq(raws)
 }
 
+// The net and the whole demand of the first two assets, at prices of 1.
+fn demand<R: Threads + Sync>(rt: &R, alloc: Global) -> Option<([i128; 2], [u128; 2])> {
+    let curves = halves(alloc)?;
+    let start = ones(alloc)?;
+    let found = excess(rt, alloc, &curves, &start, Mu::new(10).ok()?).ok()?;
+    let net = found.net.items();
+    let volume = found.volume.items();
+    Some((
+        [*net.first()?, *net.get(1)?],
+        [*volume.first()?, *volume.get(1)?],
+    ))
+}
+
+// Whether so many rounds of the search lead to these prices.
+fn leads_to<R: Threads + Sync>(rt: &R, alloc: Global, rounds: u32, raws: [u64; 3]) -> Option<bool> {
+    let curves = halves(alloc)?;
+    let start = ones(alloc)?;
+    let prices = search(rt, alloc, &curves, &start, Mu::new(10).ok()?, rounds).ok()?;
+    Some(are(&prices, raws))
+}
+
 #[test]
-fn one_trial(rt: HostRuntime) -> Result<(), Fail> {
-    let curves = halves(rt.alloc()).ok_or("curves")?;
-    let start = ones(rt.alloc()).ok_or("prices")?;
-    let mu = Mu::new(10)?;
-    assert_eq!(rt; curves.count(), 2);
-    let sums = curves.below(AssetId::new(0)?, AssetId::new(1)?, 1 << 48, 1 << 24);
-    assert_eq!(rt; sums.amount, 100);
-    assert_eq!(rt; sums.weighted, 838_860_800);
-    let wanted = 838_860_800;
-    let found = excess(&rt, rt.alloc(), &curves, &start, mu)?;
-    assert_eq!(rt; found.net.items(), [-wanted, wanted, 0].as_slice());
-    let all = 2_516_582_400;
-    assert_eq!(rt; found.volume.items(), [all, all, 0].as_slice());
-    let kept = search(&rt, rt.alloc(), &curves, &start, mu, 0)?;
-    assert!(rt; are(&kept, [ONE, ONE, ONE]));
-    let moved = search(&rt, rt.alloc(), &curves, &start, mu, 1)?;
-    assert!(rt; are(&moved, [16_427_691, 17_126_741, ONE]));
-    Ok(())
+fn one_trial(rt: HostRuntime) {
+    let alloc = rt.alloc();
+    let (sold, all) = (838_860_800, 2_516_582_400);
+    assert!(rt; demand(&rt, alloc) == Some(([-838_860_800, sold], [all, all])));
+    assert!(rt; leads_to(&rt, alloc, 0, [ONE, ONE, ONE]) == Some(true));
+    assert!(rt; leads_to(&rt, alloc, 1, [16_427_691, 17_126_741, ONE]) == Some(true));
 }
 
 // One quote, so many times.
@@ -74,13 +82,17 @@ fn many_ones(alloc: Global) -> Option<Prices>
     Some(Prices::of([one; 32].to_vec(alloc).ok()?))
 }
 
+// What is bought and sold of the first two assets, where one quote stands so often that threads share the pairs.
+fn shared<R: Threads + Sync>(rt: &R, alloc: Global) -> Option<[i128; 2]> {
+    let quote = quote(0, 1, ONE / 2, 1)?;
+    let curves = alike(alloc, quote, 1 << 20).ok()?;
+    let ones = many_ones(alloc)?;
+    let found = excess(rt, alloc, &curves, &ones, Mu::new(10).ok()?).ok()?;
+    let net = found.net.items();
+    Some([*net.first()?, *net.get(1)?])
+}
+
 #[test]
-fn threads_share_many_quotes(rt: HostRuntime) -> Result<(), Fail> {
-    let quote = quote(0, 1, ONE / 2, 1).ok_or("quote")?;
-    let curves = alike(rt.alloc(), quote, 1 << 20)?;
-    let ones = many_ones(rt.alloc()).ok_or("prices")?;
-    let found = excess(&rt, rt.alloc(), &curves, &ones, Mu::new(10)?)?;
-    let sold = 1 << 44;
-    assert_eq!(rt; found.net.items().get(..2), Some([-sold, sold].as_slice()));
-    Ok(())
+fn threads_share_many_quotes(rt: HostRuntime) {
+    assert!(rt; shared(&rt, rt.alloc()) == Some([-17_592_186_044_416, 17_592_186_044_416]));
 }

@@ -9,7 +9,7 @@ use std::alloc::Global;
 use sx_dual::Bounds;
 
 /// Which bounds the pairs have.
-#[derive(Clone, Copy, Debug)]
+#[derive(Clone, Copy)]
 pub enum Kind {
     /// No pair may trade.
     Nothing,
@@ -175,8 +175,8 @@ pub fn is_ordered(low: &[u128], high: &[u128]) -> bool
     low.iter().zip(high).all(|(l, h)| l <= h)
 }
 
-/// The bounds of these entries, where they are bounds.
-pub fn bounds_with(assets: u32, low: Vec<u128>, high: Vec<u128>) -> Option<Bounds>
+// The bounds of these entries, where they are bounds.
+fn bounds_with(assets: u32, low: Vec<u128>, high: Vec<u128>) -> Option<Bounds>
     requires some { 1 ≤ assets }
     requires few { assets ≤ 32 }
 {
