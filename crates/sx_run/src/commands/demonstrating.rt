@@ -80,7 +80,9 @@ fn made<R: Threads + Sync, G: Gate + Sync, L: ledger::Ledger>(
     let candidates = demo_candidates(alloc, number)?;
     let parent = StateDigest::Known(ledger_digest(alloc, &ledger)?);
     let spare = Writer::new(alloc);
-    match make(rt, alloc, ledger, parent, candidates, spare, numbers, gate, steps) {
+    match make(
+        rt, alloc, ledger, parent, candidates, spare, numbers, gate, steps,
+    ) {
         Ok(made) => Ok(made),
         Err(fault) => Err(no_memory(fault)),
     }

@@ -139,7 +139,9 @@ fn made<R: Threads + Sync, G: Gate + Sync, L: ledger::Ledger>(
     ensures rising { steps.old ≤ steps.new }
 {
     let Head { ledger, digest, .. } = head;
-    match make(rt, alloc, ledger, digest, candidates, spare, numbers, gate, steps) {
+    match make(
+        rt, alloc, ledger, digest, candidates, spare, numbers, gate, steps,
+    ) {
         Ok(made) => Ok(made),
         Err(fault) => Err(stop_of(fault)),
     }
