@@ -1,7 +1,7 @@
 """What the program has to answer, computed apart from it: from docs/FORMATS.md, docs/RULES.md and the Python package.
 
-There are three kinds of answers. `Crowd` has inputs of any length whose answers are closed forms. `searched` is the
-price search of docs/RULES.md, and `judge_seal` says what is wrong with what was sealed, of which many outputs are right.
+There are three kinds of answers. `Crowd` has inputs of any length whose answers are closed forms. `Searches` has the
+price search of docs/RULES.md, and `judge_seal` says what is wrong with a sealed block, of which many are right.
 `demo_market` is the market of `demo N`. Nothing here calls the program.
 """
 
@@ -108,7 +108,7 @@ class Crowd:
         return listed([OFFER(id, seq, 3, 0, 1, limit, 1) for id, seq, limit in sorted(made)])
 
     def trading(self, count):
-        """An even number of offers that trade 3 units of the one asset for 3 of the other; their list and the trades."""
+        """An even number of offers that trade 3 units of one asset for 3 of the other; their list and the trades."""
         entries = []
         for at in range(count):
             place, side = at % self.count, at % 2

@@ -51,8 +51,8 @@ class Short:
 
 
 class Run:
-    """A run that ended: its exit code (minus a signal's number), how many threads it started, the most that there were at
-    once beside the first, and its calls.
+    """A run that ended: its exit code (minus a signal's number), how many threads it started, the most that there were
+    at once beside the first, and its calls.
 
     `calls` has for each read of standard input and each write to standard output or error, in their order, what was
     called (READ or WRITE), of which file, for how many bytes, and what was answered.
