@@ -191,21 +191,16 @@ fn kind(number: u8) -> Option<Kind> {
     })
 }
 
-// A transaction of account 1 of this kind.
-fn tx(number: u8, seq: u64) -> Option<Tx> {
-    Some(Tx {
-        account: AccountId(1),
-        seq: Seq::new(seq).ok()?,
-        kind: kind(number)?,
-    })
-}
-
 // The place of the account of a transaction, and 100 more than that of the payee or 200 more than that of the
 // offer. The account is looked for at a place first.
 fn placed(alloc: Global, near: u32, number: u8) -> Option<(u32, u32)> {
     let ledger = state(alloc)?;
     let index = ledger.index().ok()?;
-    let tx = tx(number, 8)?;
+    let tx = Tx {
+        account: AccountId(1),
+        seq: Seq::new(8).ok()?,
+        kind: kind(number)?,
+    };
     let places = ledger.places_of(&index, near, &tx).ok()?;
     match places.target {
         Target::Payee(place) => Some((places.account, place.checked_add(100)?)),
@@ -225,7 +220,12 @@ fn places_are_found(rt: HostRuntime) {
 // The number of what a transaction is refused for, or 0 if it passes.
 fn checked(alloc: Global, number: u8, seq: u64) -> Option<u8> {
     let ledger = state(alloc)?;
-    match ledger.static_check(&tx(number, seq)?) {
+    let tx = Tx {
+        account: AccountId(1),
+        seq: Seq::new(seq).ok()?,
+        kind: kind(number)?,
+    };
+    match ledger.static_check(&tx) {
         Ok(()) => Some(0),
         Err(why) => Some(why.number()),
     }
