@@ -40,7 +40,7 @@ pub use checking::check;
 pub use demonstrating::demonstrate;
 pub use filtering::filter;
 pub use following::follow;
-pub use making::{Made, Numbers, make};
+pub use making::{Made, MadeInPlace, Numbers, make, make_in_place};
 pub use proving::prove;
 pub use replaying::replay;
 pub use sealing::seal;

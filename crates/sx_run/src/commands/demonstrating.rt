@@ -18,9 +18,8 @@ use std::alloc::Global;
 use std::sync::ledger;
 use std::thread::Threads;
 use sx_block::{Block, Checked, check_laws};
-use sx_bytes::{NoMemory, Writer};
+use sx_bytes::NoMemory;
 use sx_check::{CheckFault, check};
-use sx_digests::{StateDigest, ledger_digest};
 use sx_gather::GatherFault;
 use sx_gen::{demo_candidates, demo_laws, demo_state};
 use sx_input::Stop;
@@ -59,30 +58,26 @@ fn no_memory(fault: GatherFault) -> NoMemory
     }
 }
 
-// The block of the demonstration, of its ledger. There is room for all its candidates.
+// The block of the demonstration. There is room for all its candidates.
 fn made<R: Threads + Sync, G: Gate + Sync, L: ledger::Ledger>(
     rt: &R,
     alloc: Global,
-    ledger: Ledger,
+    ledger: &Ledger,
     number: u64,
     numbers: Numbers,
     gate: &G,
     steps: &mut Steps<L>,
 ) -> Result<Made, NoMemory>
-    requires ledger { IsLedger ledger }
-    requires parts { ledger ≡ demo_parts }
+    requires ledger { IsLedger ledger.now }
+    requires parts { ledger.now ≡ demo_parts }
     requires numbers { AreNumbers numbers }
-    ensures made { IfOk result (λ made. IsMadeOf demo_parts (demo_txs number) numbers.mu numbers.rounds numbers.searches made.cleared.block made.outcomes) }
+    ensures made { IfOk result (λ made. IsMadeOf demo_parts (demo_txs number) numbers.mu numbers.rounds numbers.searches made.block made.outcomes) }
     ensures counted { steps.new ≤ steps.old + most_clearing_searches }
     ensures rising { steps.old ≤ steps.new }
 {
     demo_laws();
     let candidates = demo_candidates(alloc, number)?;
-    let parent = StateDigest::Known(ledger_digest(alloc, &ledger)?);
-    let spare = Writer::new(alloc);
-    match make(
-        rt, alloc, ledger, parent, candidates, spare, numbers, gate, steps,
-    ) {
+    match make(rt, alloc, ledger, candidates, numbers, gate, steps) {
         Ok(made) => Ok(made),
         Err(fault) => Err(no_memory(fault)),
     }
@@ -116,10 +111,10 @@ pub fn demonstrate<R: Threads + Sync, G: Gate + Sync, L: ledger::Ledger>(
     ensures counted { steps.new ≤ steps.old + most_clearing_searches }
     ensures rising { steps.old ≤ steps.new }
 {
+    let ledger = demo_state(alloc)?;
     let numbers = numbers_of(workers);
-    let made = made(rt, alloc, demo_state(alloc)?, number, numbers, gate, steps)?;
-    let block = &made.cleared.block;
-    let checked = checked(alloc, &demo_state(alloc)?, block)?;
+    let made = made(rt, alloc, &ledger, number, numbers, gate, steps)?;
+    let checked = checked(alloc, &ledger, &made.block)?;
     let outcomes = made.outcomes.to_list(alloc)?;
-    Ok(demo_lines(alloc, number, &outcomes, &checked, &block.header)?)
+    Ok(demo_lines(alloc, number, &outcomes, &checked, &made.block.header)?)
 }

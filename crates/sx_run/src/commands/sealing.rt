@@ -20,7 +20,7 @@ ghost use Rattle.sx_run.specs.Numbers.{AreNumbers};
 ghost use Rattle.sx_run.specs.Making.{IsStoppedBy, seal_of};
 ghost use Rattle.sx_tx.specs.Transactions.{IsTxList, list_bytes};
 
-use crate::commands::{Made, Numbers, make};
+use crate::commands::{MadeInPlace, Numbers, make_in_place};
 use crate::pieces::Pieces;
 use std::alloc::Global;
 use std::sync::ledger;
@@ -124,7 +124,7 @@ fn made<R: Threads + Sync, G: Gate + Sync, L: ledger::Ledger>(
     numbers: Numbers,
     gate: &G,
     steps: &mut Steps<L>,
-) -> Result<Made, Stop>
+) -> Result<MadeInPlace, Stop>
     requires ledger { IsLedger head.ledger }
     requires head { IsHead head }
     requires candidates { IsTxList candidates }
@@ -138,10 +138,7 @@ fn made<R: Threads + Sync, G: Gate + Sync, L: ledger::Ledger>(
     ensures counted { steps.new ≤ steps.old + most_clearing_searches }
     ensures rising { steps.old ≤ steps.new }
 {
-    let Head { ledger, digest, .. } = head;
-    match make(
-        rt, alloc, ledger, digest, candidates, spare, numbers, gate, steps,
-    ) {
+    match make_in_place(rt, alloc, head, candidates, spare, numbers, gate, steps) {
         Ok(made) => Ok(made),
         Err(fault) => Err(stop_of(fault)),
     }
