@@ -103,10 +103,12 @@ fn cleared<R: Threads + Sync, L: ledger::Ledger>(
     let copy = ledger.copy()?;
     let parent = StateDigest::Known(ledger_digest(alloc, ledger)?);
     let spare = Writer::new(alloc);
-    let made = cleared_in_place(rt, alloc, copy, parent, sealed, spare, numbers, steps)?;
+    let MadeInPlace { cleared, outcomes } = cleared_in_place(
+        rt, alloc, copy, parent, sealed, spare, numbers, steps,
+    )?;
     Ok(Made {
-        block: made.cleared.block,
-        outcomes: made.outcomes,
+        block: cleared.block,
+        outcomes,
     })
 }
 

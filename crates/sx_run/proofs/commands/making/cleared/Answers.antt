@@ -13,5 +13,5 @@ pub returns-clause-cleared : goal.returns-clause-cleared
 returns-clause-cleared g c =
     subst
     (λ (p : Parts). IsClearedFor p c.args.numbers.mu c.args.numbers.rounds c.args.numbers.searches
-    c.in_ok-made.made.cleared.block)
-    c.in_ok-copy.ensures c.in_ok-made.ensures.cleared
+    c.in_ok-cleared.field-0.cleared.block)
+    c.in_ok-copy.ensures c.in_ok-cleared.ensures.cleared
