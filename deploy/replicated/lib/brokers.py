@@ -94,7 +94,7 @@ class Node:
             "cluster_formation.peer_discovery_backend = classic_config",
             *nodes,
             "cluster_partition_handling = pause_minority",
-            f"net_ticktime = {4 * self.cluster.patience}",
+            "net_ticktime = 10",
             "disk_free_limit.absolute = 50MB",
             "vm_memory_high_watermark.absolute = 2GB",
             "log.file.level = info",
@@ -195,8 +195,8 @@ class Node:
 
 
 class Cluster:
-    def __init__(self, folder, apart, patience=1):
-        self.folder, self.apart, self.patience = pathlib.Path(folder), apart, patience
+    def __init__(self, folder, apart):
+        self.folder, self.apart = pathlib.Path(folder), apart
         self.epmd_port = 4369 if apart else free_ports(1)[0]
         self.tls = self.folder / "tls"
         self.passwords = {user: secrets.token_urlsafe(18) for user in USERS}
@@ -273,7 +273,7 @@ class Cluster:
     def queues(self):
         """The same, as the first node says that answers."""
         for node in self.nodes:
-            found = node.queues(10 * self.patience) if self.answers(node) else {}
+            found = node.queues(30) if self.answers(node) else {}
             if found:
                 return found
         return {}
@@ -298,7 +298,7 @@ class Cluster:
             "user": user,
             "password_file": self.folder / f"{user}.password",
             "ca_file": self.tls / "ca.pem",
-            "heartbeat": 5 * self.patience,
+            "heartbeat": 10,
         }
         lines = []
         for section, pairs in {"broker": broker, **sections}.items():

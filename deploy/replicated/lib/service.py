@@ -155,6 +155,7 @@ class Service:
         self.program = keeping.Program(shlex.split(self.node["program"]), words)
         self.pool = concurrent.futures.ThreadPoolExecutor(4)
         self.stopping, self.connection, self.alive, self.trouble = False, None, time.monotonic(), None
+        self.cancelled = False
         self.metrics = Metrics()
         for name, kind, meaning in (
             ("height", "gauge", "The height of the ledger that this node keeps."),
@@ -224,6 +225,7 @@ class Service:
     # ---- the broker
 
     def connect(self):
+        self.cancelled = False
         self.connection = pika.BlockingConnection(self.settings.connections())
         self.metrics.set("connected", 1)
         self.metrics.add("connections_total")
@@ -240,6 +242,17 @@ class Service:
         """Lets the connection send and receive. Called at least once a heartbeat."""
         self.alive = time.monotonic()
         self.connection.process_data_events(time_limit=seconds)
+        if self.cancelled:
+            raise ConnectionError("the broker cancelled a consumer")
+
+    def consume(self, channel, queue, came, arguments=None):
+        """Has the messages of a queue handed to a call. If the broker ends that by itself, as when the queue is deleted,
+        the connection counts as lost: pika alone would wait for ever."""
+        channel.add_on_cancel_callback(self.consumer_cancelled)
+        channel.basic_consume(queue, came, arguments=arguments)
+
+    def consumer_cancelled(self, *_):
+        self.cancelled = True
 
     def meanwhile(self, call, *given):
         """The result of a call that runs in a thread, while the connection goes on."""
@@ -261,7 +274,7 @@ class Service:
         self.channel = self.connection.channel()
         self.channel.basic_qos(prefetch_count=self.node.getint("read_ahead"))
         start = {"x-stream-offset": max(0, self.head.next - 1)}
-        self.channel.basic_consume(BLOCKS, self.entry_came, arguments=start)
+        self.consume(self.channel, BLOCKS, self.entry_came, start)
 
     def entry_came(self, channel, method, properties, body):
         headers = properties.headers or {}
