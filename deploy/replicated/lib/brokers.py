@@ -164,6 +164,7 @@ class Node:
         with contextlib.suppress(ChildProcessError):
             while True:
                 os.waitpid(-self.process.pid, 0)
+        self.process = None
 
     def cut_off(self):
         if self.cluster.apart:
@@ -249,19 +250,23 @@ class Cluster:
         found = {"vhosts": [{"name": "/"}], "users": users, "permissions": permissions}
         (self.folder / "definitions.json").write_text(json.dumps(found))
 
-    def start(self, seconds=120):
-        for node in self.nodes:
-            node.start()
-            time.sleep(1)
-        self.wait_up(seconds)
-
-    def wait_up(self, seconds):
+    def start(self, seconds):
+        """Starts the first node, and the others once it answers: so they join it, however slow the machine is."""
         end = time.monotonic() + seconds
-        for node in self.nodes:
-            while not self.answers(node):
+        for nodes in (self.nodes[:1], self.nodes):
+            while not all(map(self.answers, nodes)):
                 if time.monotonic() > end:
-                    raise RuntimeError(f"node {node.number} did not come up: see {node.folder}")
+                    raise RuntimeError(f"the nodes did not come up within {seconds} seconds: see {self.folder}")
+                self.start_ended(nodes)
                 time.sleep(0.2)
+
+    def start_ended(self, nodes):
+        """Starts those that do not run, as systemd does. Answers how many ended by themselves."""
+        ended = [it for it in nodes if it.process is None or it.process.poll() is not None]
+        count = sum(it.process is not None for it in ended)
+        for node in ended:
+            node.start()
+        return count
 
     def answers(self, node):
         try:
