@@ -243,6 +243,9 @@ class Service:
     def breathe(self, seconds=0.0):
         """Lets the connection send and receive. Called at least once a heartbeat."""
         self.alive = time.monotonic()
+        if not self.connection.is_open:
+            # `meanwhile` passed over the loss, and pika would say ValueError now
+            raise ConnectionError("the connection was lost")
         self.connection.process_data_events(time_limit=seconds)
         if self.cancelled:
             raise ConnectionError("the broker cancelled a consumer")
