@@ -94,7 +94,7 @@ class Node:
             "cluster_formation.peer_discovery_backend = classic_config",
             *nodes,
             "cluster_partition_handling = pause_minority",
-            "net_ticktime = 30",
+            "net_ticktime = 10",
             "disk_free_limit.absolute = 50MB",
             "vm_memory_high_watermark.absolute = 2GB",
             "log.file.level = info",
