@@ -94,7 +94,7 @@ class Node:
             "cluster_formation.peer_discovery_backend = classic_config",
             *nodes,
             "cluster_partition_handling = pause_minority",
-            f"net_ticktime = {4 * self.cluster.patience}",
+            "net_ticktime = 10",
             "disk_free_limit.absolute = 50MB",
             "vm_memory_high_watermark.absolute = 2GB",
             "log.file.level = info",
@@ -164,6 +164,7 @@ class Node:
         with contextlib.suppress(ChildProcessError):
             while True:
                 os.waitpid(-self.process.pid, 0)
+        self.process = None
 
     def cut_off(self):
         if self.cluster.apart:
@@ -195,8 +196,8 @@ class Node:
 
 
 class Cluster:
-    def __init__(self, folder, apart, patience=1):
-        self.folder, self.apart, self.patience = pathlib.Path(folder), apart, patience
+    def __init__(self, folder, apart):
+        self.folder, self.apart = pathlib.Path(folder), apart
         self.epmd_port = 4369 if apart else free_ports(1)[0]
         self.tls = self.folder / "tls"
         self.passwords = {user: secrets.token_urlsafe(18) for user in USERS}
@@ -249,19 +250,23 @@ class Cluster:
         found = {"vhosts": [{"name": "/"}], "users": users, "permissions": permissions}
         (self.folder / "definitions.json").write_text(json.dumps(found))
 
-    def start(self, seconds=120):
-        for node in self.nodes:
-            node.start()
-            time.sleep(1)
-        self.wait_up(seconds)
-
-    def wait_up(self, seconds):
+    def start(self, seconds):
+        """Starts the first node, and the others once it answers: so they join it, however slow the machine is."""
         end = time.monotonic() + seconds
-        for node in self.nodes:
-            while not self.answers(node):
+        for nodes in (self.nodes[:1], self.nodes):
+            while not all(map(self.answers, nodes)):
                 if time.monotonic() > end:
-                    raise RuntimeError(f"node {node.number} did not come up: see {node.folder}")
+                    raise RuntimeError(f"the nodes did not come up within {seconds} seconds: see {self.folder}")
+                self.start_ended(nodes)
                 time.sleep(0.2)
+
+    def start_ended(self, nodes):
+        """Starts those that do not run, as systemd does. Answers how many ended by themselves."""
+        ended = [it for it in nodes if it.process is None or it.process.poll() is not None]
+        count = sum(it.process is not None for it in ended)
+        for node in ended:
+            node.start()
+        return count
 
     def answers(self, node):
         try:
@@ -273,7 +278,7 @@ class Cluster:
     def queues(self):
         """The same, as the first node says that answers."""
         for node in self.nodes:
-            found = node.queues(10 * self.patience) if self.answers(node) else {}
+            found = node.queues(30) if self.answers(node) else {}
             if found:
                 return found
         return {}
@@ -298,7 +303,7 @@ class Cluster:
             "user": user,
             "password_file": self.folder / f"{user}.password",
             "ca_file": self.tls / "ca.pem",
-            "heartbeat": 5 * self.patience,
+            "heartbeat": 10,
         }
         lines = []
         for section, pairs in {"broker": broker, **sections}.items():

@@ -8,7 +8,7 @@ The file `head` of a node's folder has all of it, so that a crash at any moment 
 
     a line of JSON      next: the offset of the next entry to read; last: SHA-256 of the entry before it, or nothing;
                         height; state and names: how many bytes and names follow; digest: SHA-256 of the state record;
-                        whole: SHA-256 of all that follows the line
+                        whole: SHA-256 of the fields before it and of all that follows the line
     the state record    as the program reads and writes it
     the names           of the messages that were decided last, of 16 bytes each, the oldest first
 """
@@ -34,6 +34,9 @@ MALFORMED, REFUSED = 5, 6
 TAG = 2
 
 
+LINE = ("next", "last", "height", "state", "names", "digest", "whole")
+
+
 class Broken(Exception):
     """The program did not answer, or a file is not what was written: nothing may be concluded from it."""
 
@@ -45,6 +48,12 @@ def standing_program():
     if found.returncode:
         sys.exit(found.returncode)
     return found.stdout.strip()
+
+
+def whole(line, rest):
+    """SHA-256 of the fields of a head's line but the last, and of what follows the line."""
+    fields = json.dumps([line[it] for it in LINE[:-1]])
+    return hashlib.sha256(fields.encode() + rest).hexdigest()
 
 
 class Program:
@@ -172,7 +181,8 @@ class Head:
         names = b"".join(self.names)
         line = {"next": self.next, "last": self.last, "height": self.height}
         line |= {"state": len(self.state), "names": len(self.names)}
-        line |= {"digest": self.digest.hex(), "whole": hashlib.sha256(self.state + names).hexdigest()}
+        line |= {"digest": self.digest.hex()}
+        line |= {"whole": whole(line, self.state + names)}
         path, fresh = os.path.join(folder, HEAD), os.path.join(folder, HEAD + ".new")
         with open(fresh, "wb") as file:
             file.write(json.dumps(line).encode() + b"\n" + self.state + names)
@@ -191,11 +201,12 @@ class Head:
         try:
             with open(os.path.join(folder, HEAD), "rb") as file:
                 line, rest = json.loads(file.readline()), file.read()
+            line = {it: line[it] for it in LINE}
         except FileNotFoundError:
             return None
-        except ValueError as error:
+        except (ValueError, KeyError, TypeError) as error:
             raise Broken(f"{folder}/{HEAD} does not begin with its line") from error
-        if hashlib.sha256(rest).hexdigest() != line["whole"]:
+        if line["whole"] != whole(line, rest):
             raise Broken(f"{folder}/{HEAD} is damaged: copy that of another node, or begin with the first state")
         state, rest = rest[: line["state"]], rest[line["state"] :]
         names = [rest[at : at + 16] for at in range(0, len(rest), 16)]

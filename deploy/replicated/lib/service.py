@@ -155,6 +155,7 @@ class Service:
         self.program = keeping.Program(shlex.split(self.node["program"]), words)
         self.pool = concurrent.futures.ThreadPoolExecutor(4)
         self.stopping, self.connection, self.alive, self.trouble = False, None, time.monotonic(), None
+        self.cancelled = self.blocked = False
         self.metrics = Metrics()
         for name, kind, meaning in (
             ("height", "gauge", "The height of the ledger that this node keeps."),
@@ -224,7 +225,10 @@ class Service:
     # ---- the broker
 
     def connect(self):
+        self.cancelled = self.blocked = False
         self.connection = pika.BlockingConnection(self.settings.connections())
+        self.connection.add_on_connection_blocked_callback(lambda *_: self.set_blocked(True))
+        self.connection.add_on_connection_unblocked_callback(lambda *_: self.set_blocked(False))
         self.metrics.set("connected", 1)
         self.metrics.add("connections_total")
         self.log("info", "connected", broker=self.connection._impl.params.host)
@@ -239,7 +243,25 @@ class Service:
     def breathe(self, seconds=0.0):
         """Lets the connection send and receive. Called at least once a heartbeat."""
         self.alive = time.monotonic()
+        if not self.connection.is_open:
+            # `meanwhile` passed over the loss, and pika would say ValueError now
+            raise ConnectionError("the connection was lost")
         self.connection.process_data_events(time_limit=seconds)
+        if self.cancelled:
+            raise ConnectionError("the broker cancelled a consumer")
+
+    def consume(self, channel, queue, came, arguments=None):
+        """Has the messages of a queue handed to a call. If the broker ends that, as when the queue is deleted, the
+        connection counts as lost; pika alone would wait for ever."""
+        channel.add_on_cancel_callback(self.consumer_cancelled)
+        channel.basic_consume(queue, came, arguments=arguments)
+
+    def set_blocked(self, blocked):
+        self.blocked = blocked
+        self.log("warning" if blocked else "info", "nobody may publish" if blocked else "publishing goes on")
+
+    def consumer_cancelled(self, *_):
+        self.cancelled = True
 
     def meanwhile(self, call, *given):
         """The result of a call that runs in a thread, while the connection goes on."""
@@ -261,7 +283,7 @@ class Service:
         self.channel = self.connection.channel()
         self.channel.basic_qos(prefetch_count=self.node.getint("read_ahead"))
         start = {"x-stream-offset": max(0, self.head.next - 1)}
-        self.channel.basic_consume(BLOCKS, self.entry_came, arguments=start)
+        self.consume(self.channel, BLOCKS, self.entry_came, start)
 
     def entry_came(self, channel, method, properties, body):
         headers = properties.headers or {}
@@ -382,6 +404,46 @@ class Service:
         notify("STOPPING=1")
         self.save(at_once=True)
         self.log("info", "stopped", height=self.head.height, next=self.head.next)
+
+
+class Outlet:
+    """A channel that publishes with confirms. pika by itself waits for each one, and for ever; a broker may leave one
+    out while its other nodes fail."""
+
+    def __init__(self, connection):
+        self.channel, self.sent, self.fault = connection.channel(), 0, None
+        # what is not confirmed yet, by the number that it has for the broker, and since when nothing was
+        self.open, self.since = set(), time.monotonic()
+        self.channel.add_on_return_callback(self.returned)
+        self.channel._impl.confirm_delivery(self.answered)
+
+    def publish(self, exchange, body, properties):
+        if not self.open:
+            self.since = time.monotonic()
+        self.sent += 1
+        self.open.add(self.sent)
+        self.channel.basic_publish(exchange, "", body, properties, mandatory=True)
+
+    def returned(self, *_):
+        self.fault = "the broker has no queue for a message"
+
+    def answered(self, frame):
+        method, self.since = frame.method, time.monotonic()
+        if isinstance(method, pika.spec.Basic.Nack):
+            self.fault = "the broker refused a message"
+        else:
+            last = method.delivery_tag
+            self.open -= {it for it in self.open if it == last or method.multiple and it < last}
+
+    def is_done(self, blocked=False):
+        """Whether all is confirmed. A broker that has been silent for long counts as lost, but if its disk is full."""
+        if blocked:
+            self.since = time.monotonic()
+        if self.fault:
+            raise ConnectionError(self.fault)
+        if self.open and time.monotonic() - self.since > PATIENCE:
+            raise ConnectionError(f"the broker confirmed nothing for {PATIENCE:.0f} seconds")
+        return not self.open
 
 
 def notify(word):
