@@ -1,0 +1,6 @@
+pub mod Balances
+pub mod Settled
+pub mod Written
+pub mod Answered
+pub mod Seals
+pub mod Others
