@@ -1,24 +1,28 @@
 -- What an account of a ledger has after a block.
-use Rattle.std.proofs.Common.{◌≡◌, ℕ, zero, suc, ◌+◌, ◌-◌, ◌<◌, ◌≤◌, true, List, [], ◌∷◌, length, get_or, map}
-use Rattle.std.proofs.Common.{Option, Some, None, Contains, inl, inr, refl, ap, subst, ◌∙◌, arith}
-use Rattle.std.specs.Prelude.{nat_lt, slice_index}
+use Rattle.std.proofs.Common.{◌≡◌, ℕ, zero, suc, ◌+◌, ◌-◌, ◌<◌, ◌≤◌, Bool, true, false, List, [], ◌∷◌, length, get_or, map}
+use Rattle.std.proofs.Common.{Option, Some, None, Contains, inl, inr, refl, sym, ap, subst, ◌∙◌, arith, replicate}
+use Rattle.std.specs.Prelude.{nat_lt, not, slice_index}
+use Rattle.std.specs.List.{filter, list_any}
 use Rattle.std.specs.List.Sorted.{IsStrictlyIncreasing}
 use Rattle.std.proofs.lemmas.Bool.{and_from, cases_Bool}
-use Rattle.std.proofs.lemmas.List.{get_or-map, length-map}
+use Rattle.std.proofs.lemmas.List.{get_or-map, get_or-replicate, length-map, length-replicate}
 use Rattle.sx_bytes.specs.Grammar.{in_order, may_follow}
 use Rattle.sx_bytes.proofs.Ordered.{and_parts}
 use Rattle.sx_block.specs.declared.header.Block.{Block}
+use Rattle.sx_block.specs.Effects.{gives_in}
 use Rattle.sx_block.specs.Validity.{flow_of_block, ledger_after, offers_of}
-use Rattle.sx_customer.specs.Fairness.{IsPaid}
+use Rattle.sx_customer.specs.Fairness.{IsOpened, IsPaid, is_cancelled, left_of}
 use Rattle.sx_ledger.specs.declared.account.Account.{Account}
 use Rattle.sx_ledger.specs.declared.offer.Offer.{Offer}
 use Rattle.sx_ledger.specs.declared.parts.Parts.{Parts}
 use Rattle.sx_ledger.specs.Body.{account_after, accounts_after, balances_after, created, holding_of}
-use Rattle.sx_ledger.specs.Body.{new_account, put_account, put_accounts}
+use Rattle.sx_ledger.specs.Body.{cancelled, kept_offers, made, new_account, put_account, put_accounts}
 use Rattle.sx_ledger.specs.Effects.{credits, debits}
-use Rattle.sx_ledger.specs.Ledger.{IsLedger, balance_at, ids}
-use Rattle.sx_ledger.specs.Trade.{account_traded, balances_traded, proceeds}
+use Rattle.sx_ledger.specs.Ledger.{IsLedger, assets_of, balance_at, ids}
+use Rattle.sx_ledger.specs.Order.{key_before, key_of, same_key}
+use Rattle.sx_ledger.specs.Trade.{account_traded, balances_traded, offer_traded, proceeds}
 use Rattle.sx_ledger.proofs.IdsInOrder.{increasing_from_order, order_from_increasing}
+use Rattle.sx_ledger.proofs.Insertion.{id_of, length-put_all, put, put_accounts_are, put_all, put_offers_are}
 use Rattle.sx_ledger.proofs.PlacesOfIds.{holding_at}
 use Rattle.sx_tx.specs.declared.tx.Tx.{Tx}
 
@@ -28,28 +32,59 @@ mapped : {X Y : Type 0} (f : X → Y) (xs : List X) (x : X) → Contains xs x �
 mapped f xs x (k, lt, is) =
     (k, (let same = length-map xs f in omega arith), get_or-map f xs k x (f x) lt ∙ ap f is)
 
-put_keeps : (new : Account) (accounts : List Account) (account : Account) → Contains accounts account
-    → Contains (put_account new accounts) account
-put_keeps new [] account (k, lt, is) = absurd (omega arith)
-put_keeps new (first ∷ accounts) account (zero, lt, is) =
-    elim (cases_Bool (nat_lt new.id.0 first.id.0)) [
-      | inl before ↦ rw before (1, omega arith, is)
-      | inr later ↦ rw later (0, omega arith, is)
-    ]
-put_keeps new (first ∷ accounts) account (suc k, lt, is) =
-    elim (cases_Bool (nat_lt new.id.0 first.id.0)) [
-      | inl before ↦ rw before (suc (suc k), omega arith, is)
-      | inr later ↦ rw later
-          (let rest = put_keeps new accounts account (k, omega arith, is) in
-          let within = rest.1 in
-          (suc rest.0, omega arith, rest.2))
-    ]
+module _ {X K : Type 0} (mark : X → K) (before : K → K → Bool) where
+  keeps : (new : X) (xs : List X) (x : X) → Contains xs x → Contains (put mark before new xs) x
+  keeps new [] x (k, lt, is) = absurd (omega arith)
+  keeps new (y ∷ xs) x (zero, lt, is) =
+      elim (cases_Bool (before (mark new) (mark y))) [
+        | inl first ↦ rw first (1, omega arith, is)
+        | inr later ↦ rw later (0, omega arith, is)
+      ]
+  keeps new (y ∷ xs) x (suc k, lt, is) =
+      elim (cases_Bool (before (mark new) (mark y))) [
+        | inl first ↦ rw first (suc (suc k), omega arith, is)
+        | inr later ↦ rw later
+            (let rest = keeps new xs x (k, omega arith, is) in
+            let within = rest.1 in
+            (suc rest.0, omega arith, rest.2))
+      ]
 
-put_all_keep : (new accounts : List Account) (account : Account) → Contains accounts account
-    → Contains (put_accounts new accounts) account
-put_all_keep [] accounts account has = has
-put_all_keep (one ∷ new) accounts account has =
-    put_keeps one (put_accounts new accounts) account (put_all_keep new accounts account has)
+  keeps_all : (new xs : List X) (x : X) → Contains xs x → Contains (put_all mark before new xs) x
+  keeps_all [] xs x has = has
+  keeps_all (one ∷ new) xs x has = keeps one (put_all mark before new xs) x (keeps_all new xs x has)
+
+  put_there : (new : X) (xs : List X) → Contains (put mark before new xs) new
+  put_there new [] = (0, omega arith, refl)
+  put_there new (y ∷ xs) =
+      elim (cases_Bool (before (mark new) (mark y))) [
+        | inl first ↦ rw first (0, omega arith, refl)
+        | inr later ↦ rw later
+            (let rest = put_there new xs in
+            let within = rest.1 in
+            (suc rest.0, omega arith, rest.2))
+      ]
+
+  all_there : (new xs : List X) (x : X) → Contains new x → Contains (put_all mark before new xs) x
+  all_there [] xs x (k, lt, is) = absurd (omega arith)
+  all_there (one ∷ new) xs x (zero, lt, is) =
+      subst (λ (y : X). Contains (put_all mark before (one ∷ new) xs) y) is
+      (put_there one (put_all mark before new xs))
+  all_there (one ∷ new) xs x (suc k, lt, is) =
+      keeps one (put_all mark before new xs) x (all_there new xs x (k, omega arith, is))
+
+passed : {X : Type 0} (test : X → Bool) (xs : List X) (x : X) → Contains xs x → test x ≡ true
+    → Contains (filter test xs) x
+passed test [] x (k, lt, is) passes = absurd (omega arith)
+passed {X} test (y ∷ xs) x (zero, lt, is) passes =
+    let here : test y ≡ true = subst (λ (z : X). test z ≡ true) (sym is) passes in
+    rw here (0, omega arith, is)
+passed test (y ∷ xs) x (suc k, lt, is) passes =
+    let rest = passed test xs x (k, omega arith, is) passes in
+    let within = rest.1 in
+    elim (cases_Bool (test y)) [
+      | inl kept ↦ rw kept (suc rest.0, omega arith, rest.2)
+      | inr dropped ↦ rw dropped rest
+    ]
 
 -- ---- ids in order
 
@@ -150,6 +185,16 @@ traded-at prices flow offers account start (balance ∷ balances) (suc asset) lt
 
 -- ---- the whole
 
+-- what is there by the order of ids is there
+accounts_there : (parts : Parts) (txs : List Tx) (account : Account)
+    → Contains (put_all id_of nat_lt (map (new_account parts txs) (created txs))
+    (map (account_after parts txs) parts.accounts)) account
+    → Contains (accounts_after parts txs) account
+accounts_there parts txs account there =
+    subst (λ (xs : List Account). Contains xs account)
+    (sym (put_accounts_are (map (new_account parts txs) (created txs))
+    (map (account_after parts txs) parts.accounts))) there
+
 module _ (parts : Parts) (said : Block) (is : IsLedger (ledger_after parts said)) where
   pub paid : ((account asset : ℕ) → debits said.txs account asset
       ≤ holding_of parts.accounts account asset + credits parts.offers said.txs account asset)
@@ -164,8 +209,8 @@ module _ (parts : Parts) (said : Block) (is : IsLedger (ledger_after parts said)
       record {
         after = account_traded prices flow offers between;
         there = mapped (account_traded prices flow offers) (accounts_after parts txs) between
-            (put_all_keep (map (new_account parts txs) (created txs)) (map (account_after parts txs) parts.accounts)
-            between (mapped (account_after parts txs) parts.accounts account has));
+            (accounts_there parts txs between (keeps_all id_of nat_lt (map (new_account parts txs) (created txs))
+            (map (account_after parts txs) parts.accounts) between (mapped (account_after parts txs) parts.accounts account has)));
         same = refl;
         balance = λ asset lt.
             let zero_first : 0 + asset ≡ asset = omega arith in
@@ -184,3 +229,81 @@ module _ (parts : Parts) (said : Block) (is : IsLedger (ledger_after parts said)
             let there = covered id asset in
             omega arith;
       }
+
+module _ (parts : Parts) (said : Block) where
+  pub opened : (id : ℕ) → Contains (created said.txs) id → IsOpened parts said id
+  opened id has =
+      let txs = said.txs in
+      let prices = said.header.prices in
+      let flow = flow_of_block said in
+      let offers = offers_of parts said in
+      let between : Account = new_account parts txs id in
+      let nothing : List ℕ = replicate (assets_of parts) 0 in
+      record {
+        after = account_traded prices flow offers between;
+        there = mapped (account_traded prices flow offers) (accounts_after parts txs) between
+            (accounts_there parts txs between (all_there id_of nat_lt (map (new_account parts txs) (created txs))
+            (map (account_after parts txs) parts.accounts) between
+            (mapped (new_account parts txs) (created txs) id has)));
+        same = refl;
+        balance = λ asset lt.
+            let zero_first : 0 + asset ≡ asset = omega arith in
+            let many : length nothing ≡ assets_of parts = length-replicate (assets_of parts) 0 in
+            let none : get_or nothing asset 0 ≡ 0 = get_or-replicate (assets_of parts) asset 0 0 lt in
+            let body : get_or (balances_after parts.offers txs id 0 nothing) asset 0
+            ≡ (get_or nothing asset 0 + credits parts.offers txs id asset) - debits txs id asset =
+            rw zero_first at (after-at parts.offers txs id 0 nothing asset (omega arith)) in
+            let range = length-after parts.offers txs id 0 nothing in
+            let trade : get_or (balances_traded prices flow offers id 0
+            (balances_after parts.offers txs id 0 nothing)) asset 0
+            ≡ get_or (balances_after parts.offers txs id 0 nothing) asset 0 + proceeds prices flow offers id asset =
+            rw zero_first at
+            (traded-at prices flow offers id 0 (balances_after parts.offers txs id 0 nothing) asset (omega arith)) in
+            omega arith;
+      }
+
+  pub no_other : length (ledger_after parts said).accounts ≡ length parts.accounts + length (created said.txs)
+  no_other =
+      let txs = said.txs in
+      let news = map (new_account parts txs) (created txs) in
+      let olds = map (account_after parts txs) parts.accounts in
+      let traded = length-map (accounts_after parts txs)
+      (account_traded said.header.prices (flow_of_block said) (offers_of parts said)) in
+      let put : length (accounts_after parts txs) ≡ length news + length olds =
+      ap length (put_accounts_are news olds) ∙ length-put_all id_of nat_lt news olds in
+      omega (
+        arith,
+        traded,
+        put,
+        length-map (created txs) (new_account parts txs),
+        length-map parts.accounts (account_after parts txs),
+      )
+
+  -- ---- offers
+
+  offers_there : (offer : Offer)
+      → Contains (put_all key_of key_before (made said.txs) (kept_offers parts.offers said.txs)) offer
+      → Contains (offers_of parts said) offer
+  offers_there offer there =
+      subst (λ (xs : List Offer). Contains xs offer)
+      (sym (put_offers_are (made said.txs) (kept_offers parts.offers said.txs))) there
+
+  pub stays : (offer : Offer) → Contains parts.offers offer → is_cancelled said offer ≡ false
+      → Contains (offers_of parts said) offer
+  stays offer has uncancelled =
+      offers_there offer
+      (keeps_all key_of key_before (made said.txs) (kept_offers parts.offers said.txs) offer
+      (passed (λ offer. not (list_any (same_key (key_of offer)) (cancelled said.txs))) parts.offers offer has
+      (rw uncancelled refl)))
+
+  pub joins : (offer : Offer) → Contains (made said.txs) offer → Contains (offers_of parts said) offer
+  joins offer has =
+      offers_there offer (all_there key_of key_before (made said.txs) (kept_offers parts.offers said.txs) offer has)
+
+  pub left : (offer : Offer) → Contains (offers_of parts said) offer → gives_in parts said offer < offer.amount
+      → Contains (ledger_after parts said).offers (left_of parts said offer)
+  left offer has less =
+      let trade = offer_traded said.header.prices (flow_of_block said) (offers_of parts said) in
+      passed (λ offer. nat_lt 0 offer.amount) (map trade (offers_of parts said)) (trade offer)
+      (mapped trade (offers_of parts said) offer has)
+      (let some : nat_lt 0 (offer.amount - gives_in parts said offer) ≡ true = grind arith in some)

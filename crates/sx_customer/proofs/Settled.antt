@@ -3,7 +3,7 @@ use Rattle.std.proofs.Common.{ℕ, ◌+◌, ◌≤◌, arith, ◌==◌, inl, inr
 use Rattle.std.proofs.lemmas.Bool.{cases_Bool}
 use Rattle.sx_block.specs.declared.header.Block.{Block}
 use Rattle.sx_customer.specs.Fairness.{Circulates, IsFair}
-use Rattle.sx_customer.proofs.Balances.{paid}
+use Rattle.sx_customer.proofs.Balances.{joins, left, no_other, opened, paid, stays}
 use Rattle.sx_dual.specs.Circulation.{IsCirculation}
 use Rattle.sx_ledger.specs.declared.parts.Parts.{Parts}
 use Rattle.sx_ledger.specs.Body.{holding_of, spendable}
@@ -47,6 +47,11 @@ pub fair : (parts : Parts) (said : Block) → Settles parts said → IsFair part
 fair parts said s = record {
   covered = covered_by_both parts said s;
   paid = paid parts said s.ledger (covered_by_both parts said s);
+  opened = opened parts said;
+  no_other = no_other parts said;
+  stays = stays parts said;
+  joins = joins parts said;
+  left = left parts said;
   falls = s.falls;
   kept = s.rises;
   within_limit = s.within_limits;

@@ -1,7 +1,7 @@
 -- What a block does to accounts, offers and totals, in plain sums.
-use Rattle.std.specs.Prelude.{◌≡◌, ◌≢◌, ℕ, ◌+◌, ◌-◌, ◌*◌, ◌^◌, ◌<◌, ◌≤◌, length, None, Some, nat_le, slice_index}
+use Rattle.std.specs.Prelude.{◌≡◌, ◌≢◌, ℕ, ◌+◌, ◌-◌, ◌*◌, ◌^◌, ◌<◌, ◌≤◌, Bool, false, length, None, Some, nat_le, slice_index}
 use Rattle.std.specs.Prelude.{◌==◌, ◌&&◌, if◌then◌else◌}
-use Rattle.std.specs.List.{Contains, filter, sum_by}
+use Rattle.std.specs.List.{Contains, filter, list_any, sum_by}
 use Rattle.sx_block.specs.declared.header.Block.{Block}
 use Rattle.sx_block.specs.Effects.{gets_in, gives_in, value_in}
 use Rattle.sx_block.specs.Validity.{flow_of_block, ledger_after, low_in, offers_of, undropped_low_in}
@@ -10,9 +10,10 @@ use Rattle.sx_dual.specs.Sums.{between, sum_below}
 use Rattle.sx_ledger.specs.declared.account.Account.{Account}
 use Rattle.sx_ledger.specs.declared.offer.Offer.{Offer}
 use Rattle.sx_ledger.specs.declared.parts.Parts.{Parts}
-use Rattle.sx_ledger.specs.Body.{holding_of}
+use Rattle.sx_ledger.specs.Body.{cancelled, created, holding_of, made}
 use Rattle.sx_ledger.specs.Effects.{credits, debits}
 use Rattle.sx_ledger.specs.Ledger.{IsLedger}
+use Rattle.sx_ledger.specs.Order.{key_of, same_key}
 
 -- ---- an account
 
@@ -33,6 +34,26 @@ pub record IsPaid (parts : Parts) (said : Block) (account : Account) : Type 0 wh
       slice_index after.balances asset + debits said.txs account.id.0 asset
       ≡ slice_index account.balances asset
       + (credits parts.offers said.txs account.id.0 asset + earned parts said account.id.0 asset)
+
+-- An account that the block creates is there afterwards. Of each asset it has what is credited to it less what is
+-- debited, and what its offers get.
+pub record IsOpened (parts : Parts) (said : Block) (id : ℕ) : Type 0 where
+  pub after : Account
+  pub there : Contains (ledger_after parts said).accounts after
+  pub same : after.id.0 ≡ id
+  pub balance : (asset : ℕ) → asset < length parts.prices →
+      slice_index after.balances asset
+      ≡ (credits parts.offers said.txs id asset - debits said.txs id asset) + earned parts said id asset
+
+-- ---- an offer
+
+-- a transaction of the block cancels the offer
+abbrev pub is_cancelled : Block → Offer → Bool
+is_cancelled said offer = list_any (same_key (key_of offer)) (cancelled said.txs)
+
+-- what stays of an offer: what it has less what it gives
+abbrev pub left_of : Parts → Block → Offer → Offer
+left_of parts said offer = record offer { amount = offer.amount - gives_in parts said offer }
 
 -- ---- an asset
 
@@ -75,7 +96,16 @@ pub record IsFair (parts : Parts) (said : Block) : Type 0 where
   pub covered : (account asset : ℕ) →
       debits said.txs account asset
       ≤ holding_of parts.accounts account asset + credits parts.offers said.txs account asset
+  -- each account has what it has to have, and no other one is there
   pub paid : (account : Account) → Contains parts.accounts account → IsPaid parts said account
+  pub opened : (id : ℕ) → Contains (created said.txs) id → IsOpened parts said id
+  pub no_other : length (ledger_after parts said).accounts ≡ length parts.accounts + length (created said.txs)
+  -- the offers that trade are those that are not cancelled and those that are made, and what they do not give stays
+  pub stays : (offer : Offer) → Contains parts.offers offer → is_cancelled said offer ≡ false →
+      Contains (offers_of parts said) offer
+  pub joins : (offer : Offer) → Contains (made said.txs) offer → Contains (offers_of parts said) offer
+  pub left : (offer : Offer) → Contains (offers_of parts said) offer → gives_in parts said offer < offer.amount →
+      Contains (ledger_after parts said).offers (left_of parts said offer)
   -- of each asset accounts and offers lose what the block says of rounding, and the ledger keeps it
   pub falls : (asset : ℕ) → asset < length parts.prices →
       total_in parts asset ≡ total_in (ledger_after parts said) asset + slice_index said.header.rounding asset
