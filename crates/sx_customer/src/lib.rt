@@ -17,9 +17,11 @@ mod filtering;
 mod proving;
 mod replaying;
 mod sealing;
+mod words;
 
 pub use asking::ask;
 pub use filtering::filter;
 pub use proving::{prove, verify};
 pub use replaying::{check, follow, replay};
 pub use sealing::{demonstrate, seal};
+pub use words::seal_line;
