@@ -1,18 +1,20 @@
 -- What each answer says, from what `run` says of it.
-use Rattle.std.proofs.Common.{◌≡◌, ◌≢◌, ◌⊎◌, ℕ, List, Option, Some, None, inl, inr, refl, subst}
+use Rattle.std.proofs.Common.{◌≡◌, ◌≢◌, ◌⊎◌, ℕ, List, Option, Some, None, false, [], inl, inr, refl, subst}
 use Rattle.std.specs.Prelude.{IfSome, IsTrue}
 use Rattle.std.proofs.lemmas.Option.{same_Some}
 use Rattle.sx_block.specs.declared.invalid.Invalid.{Invalid}
 use Rattle.sx_bytes.specs.declared.fault.FormFault.{FormFault}
-use Rattle.sx_customer.specs.Asked.{IsComplete, IsMalformed, WroteFirst}
+use Rattle.sx_customer.specs.Asked.{IsComplete, IsMalformed, WroteAll, WroteFirst}
 use Rattle.sx_customer.proofs.Written.{of_command}
-use Rattle.sx_meaning.specs.Answers.{Answers, Completes, FindsIn, FitsWords, reads_nothing}
+use Rattle.sx_meaning.specs.Answers.{Answers, Completes, FindsIn, FitsWords, IsRead, reads_nothing, takes_no_input}
 use Rattle.sx_meaning.specs.Findings.{Finds, malformed, no_fault, refused}
 use Rattle.sx_meaning.specs.Status.{UnlessReadFails, UnlessWriteFails, is_silent}
 use Rattle.sx_text.specs.declared.status.Status.{Status}
 use Rattle.sx_text.specs.declared.status.Status.TheVariants.{Done, Usage, ReadFault, WriteFault, Malformed, Refused}
 use Rattle.sx_text.specs.declared.status.Status.TheVariants.{NoMemory}
 use Rattle.sx_words.specs.declared.command.Command.{Command}
+use Rattle.sx_words.specs.declared.command.Command.TheVariants.{Check, Demo, Filter, Follow, Interleave, Migrate, Prove}
+use Rattle.sx_words.specs.declared.command.Command.TheVariants.{Replay, Seal, Show, Verify}
 
 -- ---- words
 
@@ -46,6 +48,30 @@ silent_unasked result either = elim either [ inl is ↦ rw is refl | inr is ↦ 
 pub unwritten_unasked : (words : Option Command) (result : Status) → words ≡ None → FitsWords words result
     → IsTrue (is_silent result)
 unwritten_unasked words result none fits = silent_unasked result (unasked words result none fits)
+
+-- ---- the end of the source
+
+read_whole : (command : Command) (input : List ℕ) (after : Option (List ℕ)) → takes_no_input command ≡ false
+    → IsRead command (Some input) after → after ≡ Some []
+read_whole Check input after takes read = read
+read_whole (Replay workers) input after takes read = read
+read_whole Interleave input after takes read = read
+read_whole (Seal workers shards mu rounds searches) input after takes read = read
+read_whole Show input after takes read = read
+read_whole Migrate input after takes read = read
+read_whole (Filter workers) input after takes read = read
+read_whole (Prove id) input after takes read = read
+read_whole Verify input after takes read = read
+read_whole Follow input after takes read = read
+read_whole (Demo number workers) input after takes read = absurd cc
+
+pub whole : (words : Option Command) (command : Command) (input : List ℕ) (before after : Option (List ℕ))
+    → words ≡ Some command → takes_no_input command ≡ false → before ≡ Some input
+    → IfSome words (λ c. IsRead c before after) → after ≡ Some []
+whole words command input before after asks takes told read =
+    read_whole command input after takes
+    (subst (λ (o : Option (List ℕ)). IsRead command o after) told
+    (of_command words command asks (λ c. IsRead c before after) read))
 
 -- ---- silence and faults
 
@@ -103,6 +129,24 @@ module _
           within = told.2.1;
           appended = same_Some now _ told.2.2;
         }
+
+    pub done_is : (input was now : List ℕ) → before ≡ Some input → old ≡ Some was → new ≡ Some now
+        → result ≡ Done → WroteAll command input was now
+    done_is input was now read had has is =
+        let told : Answers command (Some input) after (Some was) (Some now) Done =
+        subst (λ (o : Option (List ℕ)). Answers command (Some input) after (Some was) o Done) has
+        (subst (λ (o : Option (List ℕ)). Answers command (Some input) after o new Done) had
+        (subst (λ (o : Option (List ℕ)). Answers command o after old new Done) read (answers Done is))) in
+        record { text = told.0; left = told.1.0; may = told.1.1; appended = same_Some now _ told.2 }
+
+    pub done_untold : (was now : List ℕ) → before ≡ None → old ≡ Some was → new ≡ Some now → result ≡ Done
+        → (input : List ℕ) × WroteAll command input was now
+    done_untold was now read had has is =
+        let told : Answers command None after (Some was) (Some now) Done =
+        subst (λ (o : Option (List ℕ)). Answers command None after (Some was) o Done) has
+        (subst (λ (o : Option (List ℕ)). Answers command None after o new Done) had
+        (subst (λ (o : Option (List ℕ)). Answers command o after old new Done) read (answers Done is))) in
+        (told.1.0, record { text = told.0; left = told.1.1; may = told.1.2; appended = same_Some now _ told.2 })
 
     pub malformed_is : (input : List ℕ) (fault : FormFault) → before ≡ Some input → result ≡ Malformed fault
         → IsMalformed command input fault

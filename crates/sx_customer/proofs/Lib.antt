@@ -4,3 +4,4 @@ pub mod Written
 pub mod Answered
 pub mod Seals
 pub mod Others
+pub mod Told

@@ -33,7 +33,7 @@ use Rattle.sx_meaning.specs.Answers.{takes_no_input}
 -- ---- what was read
 
 -- the records of the items are the whole input
-whole : (command : Command) (bytes text left : List ℕ) → takes_no_input command ≡ false
+pub whole : (command : Command) (bytes text left : List ℕ) → takes_no_input command ≡ false
     → (may : MayWrite command bytes text left) → bytes ≡ records may.found.items
 whole command bytes text left takes may =
     let found = may.found in
@@ -44,7 +44,7 @@ whole command bytes text left takes may =
     ∙ append-nil (records found.items)
 
 -- one record
-one : (item : Item) → records (item ∷ []) ≡ item_record item
+pub one : (item : Item) → records (item ∷ []) ≡ item_record item
 one item = append-nil (item_record item)
 
 -- ---- filter

@@ -1,22 +1,29 @@
 -- What a seal and a demonstration may write, in plain words.
-use Rattle.std.proofs.Common.{◌≡◌, ℕ, ◌≤◌, List, [], ◌∷◌, ◌++◌, refl, ap, subst, ◌∙◌}
+use Rattle.std.proofs.Common.{◌≡◌, ℕ, ◌+◌, ◌<◌, ◌≤◌, List, [], ◌∷◌, ◌++◌, Result, Ok, Err, length, ◌==◌, inl, inr, refl, sym, ap, subst, ◌∙◌, arith}
+use Rattle.std.specs.Prelude.{nat_lt}
+use Rattle.std.proofs.lemmas.Bool.{cases_Bool, eqb-true}
 use Rattle.std.proofs.lemmas.List.{append-nil}
 use Rattle.sx_block.specs.declared.header.Block.{Block}
+use Rattle.sx_block.specs.declared.invalid.Invalid.{Invalid}
 use Rattle.sx_customer.specs.Demonstrated.{Demonstrated}
 use Rattle.sx_customer.specs.Made.{IsMade}
-use Rattle.sx_customer.specs.Sealed.{Gathered, Sealed, valid_line}
+use Rattle.sx_customer.specs.Sealed.{Gathered, HasNoRoom, LacksRoom, Sealed, valid_line}
 use Rattle.sx_customer.proofs.Settled.{circulation, fair, plain_circulation}
 use Rattle.sx_gen.specs.State.{demo_parts}
 use Rattle.sx_ledger.specs.declared.parts.Parts.{Parts}
-use Rattle.sx_ledger.specs.Body.{spendable}
+use Rattle.sx_ledger.specs.Body.{created, made as made_by_all, spendable}
 use Rattle.sx_ledger.specs.Effects.{debits}
-use Rattle.sx_meaning.specs.Findings.{FindsAtEnd, MayComeAll, no_fault}
+use Rattle.sx_ledger.specs.Ledger.{most_accounts, most_height, most_offers}
+use Rattle.sx_meaning.specs.Findings.{Finds, FindsAtEnd, MayComeAll, as_invalid, no_fault, refused}
 use Rattle.sx_meaning.specs.Items.{Item, block, candidates, item_record, records, state}
 use Rattle.sx_meaning.specs.Outputs.{MayWrite, Writes}
 use Rattle.sx_meaning.specs.SealLaws.{DemosSettle, LeavesItsMeaning, SealsLeaveTheirMeaning}
 use Rattle.sx_meaning.specs.Sealing.{IsMadeOf, IsSealed}
 use Rattle.sx_meaning.proofs.Ends.{reads_to_end}
 use Rattle.sx_outcome.specs.declared.outcome.Outcome.{Outcome}
+use Rattle.sx_outcome.specs.declared.space.NoRoom.{NoRoom}
+use Rattle.sx_outcome.specs.declared.space.NoRoom.TheVariants.{Crowded, Ended}
+use Rattle.sx_outcome.specs.Room.{room_for}
 use Rattle.sx_tx.specs.declared.tx.Tx.{Tx}
 use Rattle.sx_words.specs.declared.command.Command.TheVariants.{Check, Demo, Seal}
 
@@ -94,6 +101,7 @@ gathered workers shards mu rounds searches bytes text left may =
           ∙ two (state c.parts) (candidates c.txs);
       written = wrote.encoded;
       ledger = each.0.form;
+      room = c.finds;
       made = made c.parts c.txs mu rounds searches wrote.said wrote.told wrote.made;
     }
 
@@ -110,3 +118,60 @@ demonstrated law number workers bytes text left may =
       made = made demo_parts _ _ _ _ d.0.said d.0.told d.0.made;
       fair = fair demo_parts d.0.said d.1;
     }
+
+-- ---- no room
+
+abbrev reason_of : Result (Unit {0}) NoRoom → NoRoom
+reason_of (Ok there) = Ended
+reason_of (Err why) = why
+
+abbrev failed : NoRoom → Result (Unit {0}) NoRoom
+failed why = Err why
+
+same_Err : (one other : NoRoom) → failed one ≡ failed other → one ≡ other
+same_Err one other is = ap (λ (r : Result (Unit {0}) NoRoom). reason_of r) is
+
+lacking : (parts : Parts) (txs : List Tx) (reason : NoRoom) → room_for parts txs ≡ Err reason
+    → LacksRoom parts txs (as_invalid reason)
+lacking parts txs reason is =
+    let room = λ (one : NoRoom). LacksRoom parts txs (as_invalid one) in
+    let accounts = length parts.accounts + length (created txs) in
+    let offers = length parts.offers + length (made_by_all txs) in
+    elim (cases_Bool (parts.height == most_height)) [
+      | inl last ↦
+          subst room (same_Err Ended reason (rw last at is)) (inl (refl, eqb-true parts.height most_height last))
+      | inr more ↦ elim (cases_Bool (nat_lt most_accounts accounts)) [
+        | inl above ↦
+            subst room (same_Err (Crowded (length parts.accounts) (length (created txs)) most_accounts) reason
+            (rw above at (rw more at is))) (inr (inl (refl, (let big : most_accounts < accounts = grind arith in big))))
+        | inr fit ↦ elim (cases_Bool (nat_lt most_offers offers)) [
+          | inl above ↦
+              subst room (same_Err (Crowded (length parts.offers) (length (made_by_all txs)) most_offers) reason
+              (rw above at (rw fit at (rw more at is))))
+              (inr (inr (refl, (let big : most_offers < offers = grind arith in big))))
+          | inr all ↦
+              absurd (let none = rw all at (rw fit at (rw more at is)) in cc)
+        ]
+      ]
+    ]
+
+pub seal_refused : (workers shards mu rounds searches : ℕ) (bytes left : List ℕ) (number : ℕ) (why : Invalid)
+    → Finds (Seal workers shards mu rounds searches) bytes (refused number why) left → HasNoRoom bytes number why
+seal_refused workers shards mu rounds searches bytes left number why f =
+    elim f.finds [
+      | inl end ↦
+          let c = end.concludes in
+          record {
+            parts = c.parts;
+            txs = c.txs;
+            read = f.read
+                ∙ ap (λ (r : List ℕ). records f.items ++ r)
+                (reads_to_end (Seal workers shards mu rounds searches) f.items f.rest left refl end.done).0
+                ∙ append-nil (records f.items) ∙ ap (λ (l : List Item). records l) c.are
+                ∙ two (state c.parts) (candidates c.txs);
+            first = c.finds.0;
+            lacks = subst (λ (w : Invalid). LacksRoom c.parts c.txs w) (sym c.finds.1.2)
+                (lacking c.parts c.txs c.finds.1.0 c.finds.1.1);
+          }
+      | inr stop ↦ absurd stop.stops
+    ]

@@ -22,6 +22,13 @@ Tells words command result old new Fact =
 abbrev pub HasRisen : ℕ → ℕ → Type 0
 HasRisen old new = (old < new) ⊎ (new ≡ 2 ^ 64 - 1)
 
+-- a text that the command may write came after what was there
+pub record WroteAll (command : Command) (input old new : List ℕ) : Type 0 where
+  pub text : List ℕ
+  pub left : List ℕ
+  pub may : MayWrite command input text left
+  pub appended : new ≡ old ++ text
+
 -- some first bytes of a text that the command may write came after what was there
 pub record WroteFirst (command : Command) (input old new : List ℕ) : Type 0 where
   pub text : List ℕ

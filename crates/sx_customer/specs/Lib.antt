@@ -6,3 +6,4 @@ pub mod Demonstrated
 pub mod Filtered
 pub mod Proved
 pub mod Replayed
+pub mod Told

@@ -1,12 +1,14 @@
 -- What a seal wrote.
-use Rattle.std.specs.Prelude.{◌≡◌, ℕ, ◌≤◌, List, [], ◌∷◌, ◌++◌, length, codes, is_some}
+use Rattle.std.specs.Prelude.{◌≡◌, ◌⊎◌, ℕ, ◌+◌, ◌-◌, ◌^◌, ◌<◌, ◌≤◌, List, [], ◌∷◌, ◌++◌, length, codes, is_some, Ok}
 use Rattle.std.specs.Fmt.{decimal}
 use Rattle.sx_block.specs.declared.header.Block.{Block}
 use Rattle.sx_block.specs.Validity.{flow_of_block, ledger_after}
+use Rattle.sx_block.specs.declared.invalid.Invalid.{Invalid}
+use Rattle.sx_block.specs.declared.invalid.Invalid.TheVariants as invalid
 use Rattle.sx_customer.specs.Fairness.{IsFair, value_of_all}
 use Rattle.sx_customer.specs.Made.{IsMade}
 use Rattle.sx_ledger.specs.declared.parts.Parts.{Parts}
-use Rattle.sx_ledger.specs.Body.{holding_of}
+use Rattle.sx_ledger.specs.Body.{created, holding_of, made}
 use Rattle.sx_ledger.specs.Effects.{debits}
 use Rattle.sx_ledger.specs.Ledger.{IsLedger}
 use Rattle.sx_meaning.specs.Items.{block, candidates, item_record, outcomes, state_record}
@@ -14,6 +16,7 @@ use Rattle.sx_meaning.specs.Outputs.{MayWrite}
 use Rattle.sx_multi.specs.Quotes.{posted_at}
 use Rattle.sx_outcome.specs.declared.outcome.Outcome.{Outcome}
 use Rattle.sx_outcome.specs.Gathering.{body_of, decisions}
+use Rattle.sx_outcome.specs.Room.{room_for}
 use Rattle.sx_text.specs.Texts.{bounds_text}
 use Rattle.sx_tx.specs.declared.tx.Tx.{Tx}
 use Rattle.sx_words.specs.declared.command.Command.TheVariants.{Check, Replay}
@@ -63,4 +66,26 @@ pub record Gathered (mu rounds searches : ℕ) (input text : List ℕ) : Type 0 
   pub read : input ≡ state_record parts ++ item_record (candidates txs)
   pub written : text ≡ item_record (block said) ++ item_record (outcomes told)
   pub ledger : IsLedger parts
+  -- a block may follow, and has room for all that the candidates create and make
+  pub room : room_for parts txs ≡ Ok tt
   pub made : IsMade parts txs mu rounds searches said told
+
+-- ---- no seal
+
+-- why a block that takes all candidates cannot follow: the last height is reached, or there would be too many accounts
+-- or offers
+abbrev pub LacksRoom : Parts → List Tx → Invalid → Type 0
+LacksRoom parts txs why =
+    ((why ≡ invalid.Ended) × (parts.height ≡ 2 ^ 63 - 1))
+    ⊎ (((why ≡ invalid.Crowded (length parts.accounts) (length (created txs)) 65536)
+    × (65536 < length parts.accounts + length (created txs)))
+    ⊎ ((why ≡ invalid.Crowded (length parts.offers) (length (made txs)) 262144)
+    × (262144 < length parts.offers + length (made txs))))
+
+-- a state and candidates were read, for which there is no room
+pub record HasNoRoom (input : List ℕ) (number : ℕ) (why : Invalid) : Type 0 where
+  pub parts : Parts
+  pub txs : List Tx
+  pub read : input ≡ state_record parts ++ item_record (candidates txs)
+  pub first : number ≡ 0
+  pub lacks : LacksRoom parts txs why

@@ -1,12 +1,11 @@
 //! Any command, and what each answer says.
 
-ghost use Rattle.std.specs.Prelude.{◌≡◌, ◌≢◌, ◌⊎◌, ◌≤◌, ◌+◌, ℕ, List, None, Some, IsTrue};
+ghost use Rattle.std.specs.Prelude.{◌≡◌, ◌≢◌, ◌⊎◌, ◌≤◌, ◌+◌, ℕ, false, List, [], None, Some, IsTrue};
 ghost use Rattle.sx_block.specs.declared.invalid.Invalid.{Invalid};
 ghost use Rattle.sx_bytes.specs.declared.fault.FormFault.{FormFault};
-ghost use Rattle.sx_customer.specs.Asked.{HasRisen, IsComplete, IsMalformed, WroteFirst};
-ghost use Rattle.sx_meaning.specs.Answers.{asked};
+ghost use Rattle.sx_customer.specs.Asked.{HasRisen, IsComplete, IsMalformed, WroteAll, WroteFirst};
+ghost use Rattle.sx_meaning.specs.Answers.{asked, takes_no_input};
 ghost use Rattle.sx_meaning.specs.Findings.{Finds, refused};
-ghost use Rattle.sx_meaning.specs.Outputs.{MayWrite};
 ghost use Rattle.sx_words.specs.declared.command.Command.{Command};
 
 use std::alloc::Global;
@@ -36,6 +35,14 @@ pub fn ask<R: Threads + Sync, S: Source, K: Sink, G: Gate + Sync, L: Ledger>(
     ensures no_command { asked words.now ≡ None → (source.new ≡ source.old) × (sink.new ≡ sink.old)
         × ((result ≡ Status.Usage) ⊎ (result ≡ Status.NoMemory)) }
 
+    // At Done a text that the command may write was written, and the whole source read.
+    ensures done { (command : Command) (input old new : List ℕ) → asked words.now ≡ Some command →
+        S.left source.old ≡ Some input → K.written sink.old ≡ Some old → K.written sink.new ≡ Some new →
+        result ≡ Status.Done → WroteAll command input old new }
+    ensures whole { (command : Command) (input : List ℕ) → asked words.now ≡ Some command →
+        takes_no_input command ≡ false → S.left source.old ≡ Some input → result ≡ Status.Done →
+        S.left source.new ≡ Some [] }
+
     // Nothing is written but by a command that is done, or one that the sink failed.
     ensures unwritten { result ≢ Status.Done → result ≢ Status.WriteFault → sink.new ≡ sink.old }
     ensures cut_off { (command : Command) (input old new : List ℕ) → asked words.now ≡ Some command →
@@ -58,11 +65,18 @@ pub fn ask<R: Threads + Sync, S: Source, K: Sink, G: Gate + Sync, L: Ledger>(
     ensures refused_untold { (command : Command) (number : ℕ) (why : Invalid) → asked words.now ≡ Some command →
         S.left source.old ≡ None → result ≡ Status.Refused number why →
         (input : List ℕ) × (left : List ℕ) × Finds command input (refused number why) left }
+    ensures done_untold { (command : Command) (old new : List ℕ) → asked words.now ≡ Some command →
+        S.left source.old ≡ None → K.written sink.old ≡ Some old → K.written sink.new ≡ Some new →
+        result ≡ Status.Done → (input : List ℕ) × WroteAll command input old new }
 
     // Where no fault was counted, the answer is what is found of the input, unless memory ran out.
     ensures complete { (command : Command) (input : List ℕ) → asked words.now ≡ Some command →
         S.left source.old ≡ Some input → ¬ HasRisen (S.faults source.old) (S.faults source.new) →
         ¬ HasRisen (K.faults sink.old) (K.faults sink.new) → IsComplete command input result }
+
+    // A call makes at most so many searches of circulations, whatever it is asked for.
+    ensures counted { steps.new ≤ steps.old + 29000400 }
+    ensures rising { steps.old ≤ steps.new }
 {
     run(rt, alloc, words, source, sink, gate, steps)
 }

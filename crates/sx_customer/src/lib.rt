@@ -17,6 +17,7 @@ mod filtering;
 mod proving;
 mod replaying;
 mod sealing;
+mod telling;
 mod words;
 
 pub use asking::ask;
@@ -24,4 +25,5 @@ pub use filtering::filter;
 pub use proving::{prove, verify};
 pub use replaying::{check, follow, replay};
 pub use sealing::{demonstrate, seal};
+pub use telling::{interleave, migrate, show};
 pub use words::seal_line;

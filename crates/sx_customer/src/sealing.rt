@@ -1,9 +1,10 @@
 //! Seals and demonstrations.
 
 ghost use Rattle.std.specs.Prelude.{◌≡◌, ℕ, []};
+ghost use Rattle.sx_block.specs.declared.invalid.Invalid.{Invalid};
 ghost use Rattle.sx_customer.specs.Asked.{Tells};
 ghost use Rattle.sx_customer.specs.Demonstrated.{Demonstrated};
-ghost use Rattle.sx_customer.specs.Sealed.{Gathered, Sealed};
+ghost use Rattle.sx_customer.specs.Sealed.{Gathered, HasNoRoom, Sealed};
 ghost use Rattle.sx_meaning.specs.Answers.{asked};
 ghost use Rattle.sx_meaning.specs.Outputs.{MayWrite};
 
@@ -45,6 +46,10 @@ pub fn seal<R: Threads + Sync, G: Gate + Sync, L: Ledger>(
     ensures whole { (workers shards mu rounds searches : ℕ) →
         asked words.now ≡ Some (Command.Seal workers shards mu rounds searches) → result ≡ Status.Done →
         source.new.left ≡ [] }
+    // It is refused only where no block could take all candidates, and then nothing is written.
+    ensures refused { (workers shards mu rounds searches number : ℕ) (why : Invalid) →
+        asked words.now ≡ Some (Command.Seal workers shards mu rounds searches) →
+        result ≡ Status.Refused number why → HasNoRoom source.old.left number why × (sink.new ≡ sink.old) }
 {
     run(rt, alloc, words, source, sink, gate, steps)
 }

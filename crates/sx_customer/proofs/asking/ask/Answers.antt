@@ -1,5 +1,5 @@
-use Rattle.sx_customer.proofs.Answered.{completes, cut_off, malformed_is, refused_untold, silent, steady_read}
-use Rattle.sx_customer.proofs.Answered.{steady_write, unasked, untouched, unwritten_unasked, usage}
+use Rattle.sx_customer.proofs.Answered.{completes, cut_off, done_is, done_untold, malformed_is, refused_untold, silent, steady_read}
+use Rattle.sx_customer.proofs.Answered.{steady_write, unasked, untouched, unwritten_unasked, usage, whole}
 use Rattle.sx_meaning.specs.Answers.{asked}
 use Rattle.sx_customer.proofs.asking.ask.Goals as goal
 
@@ -43,3 +43,15 @@ returns-clause-refused_untold g c = λ command number why asks untold is.
 pub returns-clause-complete : goal.returns-clause-complete
 returns-clause-complete g c = λ command input asks read calm still.
     completes (asked c.args.words.now) command _ input c.run.result asks read (c.run.ensures.complete calm still)
+
+pub returns-clause-done : goal.returns-clause-done
+returns-clause-done g c = λ command input old new asks read had has is.
+    done_is (asked c.args.words.now) command asks _ _ _ _ c.run.result c.run.ensures.answer input old new read had has is
+
+pub returns-clause-done_untold : goal.returns-clause-done_untold
+returns-clause-done_untold g c = λ command old new asks untold had has is.
+    done_untold (asked c.args.words.now) command asks _ _ _ _ c.run.result c.run.ensures.answer old new untold had has is
+
+pub returns-clause-whole : goal.returns-clause-whole
+returns-clause-whole g c = λ command input asks takes told done.
+    whole (asked c.args.words.now) command input _ _ asks takes told (c.run.ensures.read done)

@@ -1,6 +1,7 @@
-use Rattle.std.proofs.Common.{ℕ, List, Some, subst}
+use Rattle.std.proofs.Common.{ℕ, List, Some, refl, subst}
 use Rattle.std.proofs.lemmas.Option.{same_Some}
-use Rattle.sx_customer.proofs.Seals.{gathered, sealed}
+use Rattle.sx_customer.proofs.Answered.{refused_is}
+use Rattle.sx_customer.proofs.Seals.{gathered, seal_refused, sealed}
 use Rattle.sx_customer.proofs.Written.{of_command, wrote}
 use Rattle.sx_meaning.specs.Answers.{IsRead, asked}
 use Rattle.sx_meaning.specs.Outputs.{MayWrite}
@@ -36,3 +37,12 @@ pub returns-clause-whole : goal.returns-clause-whole
 returns-clause-whole g c = λ workers shards mu rounds searches asks done.
     same_Some _ _ (of_command (asked c.args.words.now) (Seal workers shards mu rounds searches) asks
     (λ command. IsRead command (Some c.args.source.now.left) (Some c.run.new.source.left)) (c.run.ensures.read done))
+
+pub returns-clause-refused : goal.returns-clause-refused
+returns-clause-refused g c = λ workers shards mu rounds searches number why asks is.
+    let f = refused_is (asked c.args.words.now) (Seal workers shards mu rounds searches) asks
+    (Some c.args.source.now.left) (Some c.run.new.source.left) (Some c.args.sink.now.written)
+    (Some c.run.new.sink.written) c.run.result c.run.ensures.answer c.args.source.now.left number why refl is in (
+      seal_refused workers shards mu rounds searches c.args.source.now.left f.0 number why f.1,
+      c.run.ensures.silent (rw is refl),
+    )
