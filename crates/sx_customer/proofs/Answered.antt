@@ -73,6 +73,12 @@ whole words command input before after asks takes told read =
     (subst (λ (o : Option (List ℕ)). IsRead command o after) told
     (of_command words command asks (λ c. IsRead c before after) read))
 
+-- of a source that tells its bytes none are left
+pub emptied : (words : Option Command) (command : Command) (input after : List ℕ) → words ≡ Some command
+    → takes_no_input command ≡ false → IfSome words (λ c. IsRead c (Some input) (Some after)) → after ≡ []
+emptied words command input after asks takes read =
+    same_Some after [] (whole words command input (Some input) (Some after) asks takes refl read)
+
 -- ---- silence and faults
 
 pub silent : (result : Status) → result ≢ Done → result ≢ WriteFault → IsTrue (is_silent result)
@@ -146,13 +152,20 @@ module _
         subst (λ (o : Option (List ℕ)). Answers command None after (Some was) o Done) has
         (subst (λ (o : Option (List ℕ)). Answers command None after o new Done) had
         (subst (λ (o : Option (List ℕ)). Answers command o after old new Done) read (answers Done is))) in
-        (told.1.0, record { text = told.0; left = told.1.1; may = told.1.2; appended = same_Some now _ told.2 })
+        let wrote : WroteAll command told.1.0 was now = record {
+          text = told.0;
+          left = told.1.1;
+          may = told.1.2;
+          appended = same_Some now _ told.2;
+        } in
+        (told.1.0, wrote)
 
     pub malformed_is : (input : List ℕ) (fault : FormFault) → before ≡ Some input → result ≡ Malformed fault
         → IsMalformed command input fault
     malformed_is input fault read is =
         let told : FindsIn command (Some input) after (malformed fault) =
-        subst (λ (o : Option (List ℕ)). FindsIn command o after (malformed fault)) read (answers (Malformed fault) is) in
+        subst (λ (o : Option (List ℕ)). FindsIn command o after (malformed fault)) read
+        (answers (Malformed fault) is) in
         let f : Finds command input (malformed fault) told.0 = told.1 in
         record { items = f.items; rest = f.rest; left = told.0; each = f.each; read = f.read; fails = f.finds }
 

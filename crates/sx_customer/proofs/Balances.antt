@@ -1,5 +1,6 @@
 -- What an account of a ledger has after a block.
-use Rattle.std.proofs.Common.{◌≡◌, ℕ, zero, suc, ◌+◌, ◌-◌, ◌<◌, ◌≤◌, Bool, true, false, List, [], ◌∷◌, length, get_or, map}
+use Rattle.std.proofs.Common.{◌≡◌, ℕ, zero, suc, ◌+◌, ◌-◌, ◌<◌, ◌≤◌, Bool, true, false, List, [], ◌∷◌, length, get_or}
+use Rattle.std.proofs.Common.{map}
 use Rattle.std.proofs.Common.{Option, Some, None, Contains, inl, inr, refl, sym, ap, subst, ◌∙◌, arith, replicate}
 use Rattle.std.specs.Prelude.{nat_lt, not, slice_index}
 use Rattle.std.specs.List.{filter, list_any}
@@ -210,7 +211,8 @@ module _ (parts : Parts) (said : Block) (is : IsLedger (ledger_after parts said)
         after = account_traded prices flow offers between;
         there = mapped (account_traded prices flow offers) (accounts_after parts txs) between
             (accounts_there parts txs between (keeps_all id_of nat_lt (map (new_account parts txs) (created txs))
-            (map (account_after parts txs) parts.accounts) between (mapped (account_after parts txs) parts.accounts account has)));
+            (map (account_after parts txs) parts.accounts) between
+            (mapped (account_after parts txs) parts.accounts account has)));
         same = refl;
         balance = λ asset lt.
             let zero_first : 0 + asset ≡ asset = omega arith in

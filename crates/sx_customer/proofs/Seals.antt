@@ -1,5 +1,6 @@
 -- What a seal and a demonstration may write, in plain words.
-use Rattle.std.proofs.Common.{◌≡◌, ℕ, ◌+◌, ◌<◌, ◌≤◌, List, [], ◌∷◌, ◌++◌, Result, Ok, Err, length, ◌==◌, inl, inr, refl, sym, ap, subst, ◌∙◌, arith}
+use Rattle.std.proofs.Common.{◌≡◌, ℕ, ◌+◌, ◌<◌, ◌≤◌, List, [], ◌∷◌, ◌++◌, Result, Ok, Err, length, ◌==◌, inl, inr, refl}
+use Rattle.std.proofs.Common.{sym, ap, subst, ◌∙◌, arith}
 use Rattle.std.specs.Prelude.{nat_lt}
 use Rattle.std.proofs.lemmas.Bool.{cases_Bool, eqb-true}
 use Rattle.std.proofs.lemmas.List.{append-nil}
@@ -44,7 +45,8 @@ of_meaning mu rounds searches bytes text m = record {
   written = m.encoded;
   one_each = m.one_each;
   accepted = m.accepted_are;
-  checks = subst (λ (b : List ℕ). MayWrite Check b (valid_line m.said) []) (two (state m.parts) (block m.said)) m.checks;
+  checks = subst (λ (b : List ℕ). MayWrite Check b (valid_line m.said) []) (two (state m.parts) (block m.said))
+      m.checks;
   replays = m.replays;
   covered = λ account asset.
       subst (λ (v : ℕ). debits m.said.txs account asset ≤ spendable v m.parts m.said.txs account asset) m.version

@@ -1,5 +1,6 @@
 -- What a block does to accounts, offers and totals, in plain sums.
-use Rattle.std.specs.Prelude.{◌≡◌, ◌≢◌, ℕ, ◌+◌, ◌-◌, ◌*◌, ◌^◌, ◌<◌, ◌≤◌, Bool, false, length, None, Some, nat_le, slice_index}
+use Rattle.std.specs.Prelude.{◌≡◌, ◌≢◌, ℕ, ◌+◌, ◌-◌, ◌*◌, ◌^◌, ◌<◌, ◌≤◌, Bool, false, length, None, Some, nat_le}
+use Rattle.std.specs.Prelude.{slice_index}
 use Rattle.std.specs.Prelude.{◌==◌, ◌&&◌, if◌then◌else◌}
 use Rattle.std.specs.List.{Contains, filter, list_any, sum_by}
 use Rattle.sx_block.specs.declared.header.Block.{Block}

@@ -52,7 +52,8 @@ pub fn interleave<R: Threads + Sync, G: Gate + Sync, L: Ledger>(
     gate: &G,
     steps: &mut Steps<L>,
 ) -> Status
-    ensures { Tells words.now Command.Interleave result sink.old.written sink.new.written (Interleaved source.old.left) }
+    ensures { Tells words.now Command.Interleave result sink.old.written sink.new.written
+        (Interleaved source.old.left) }
 {
     run(rt, alloc, words, source, sink, gate, steps)
 }

@@ -1,4 +1,5 @@
-use Rattle.sx_customer.proofs.Answered.{completes, cut_off, done_is, done_untold, malformed_is, refused_untold, silent, steady_read}
+use Rattle.sx_customer.proofs.Answered.{completes, cut_off, done_is, done_untold, malformed_is, refused_untold, silent}
+use Rattle.sx_customer.proofs.Answered.{steady_read}
 use Rattle.sx_customer.proofs.Answered.{steady_write, unasked, untouched, unwritten_unasked, usage, whole}
 use Rattle.sx_meaning.specs.Answers.{asked}
 use Rattle.sx_customer.proofs.asking.ask.Goals as goal
@@ -18,13 +19,8 @@ returns-clause-unwritten g c = λ done fails. c.run.ensures.silent (silent c.run
 
 pub returns-clause-cut_off : goal.returns-clause-cut_off
 returns-clause-cut_off g c = λ command input old new asks read had has is.
-    cut_off (asked c.args.words.now) command asks _ _ _ _ c.run.result c.run.ensures.answer input old new read had has is
-
-pub returns-clause-read_fault : goal.returns-clause-read_fault
-returns-clause-read_fault g c = c.run.ensures.read_fault
-
-pub returns-clause-write_fault : goal.returns-clause-write_fault
-returns-clause-write_fault g c = c.run.ensures.write_fault
+    cut_off (asked c.args.words.now) command asks _ _ _ _ c.run.result c.run.ensures.answer
+    input old new read had has is
 
 pub returns-clause-steady_source : goal.returns-clause-steady_source
 returns-clause-steady_source g c = steady_read c.run.result _ c.run.ensures.steady_source
@@ -46,11 +42,13 @@ returns-clause-complete g c = λ command input asks read calm still.
 
 pub returns-clause-done : goal.returns-clause-done
 returns-clause-done g c = λ command input old new asks read had has is.
-    done_is (asked c.args.words.now) command asks _ _ _ _ c.run.result c.run.ensures.answer input old new read had has is
+    done_is (asked c.args.words.now) command asks _ _ _ _ c.run.result c.run.ensures.answer
+    input old new read had has is
 
 pub returns-clause-done_untold : goal.returns-clause-done_untold
 returns-clause-done_untold g c = λ command old new asks untold had has is.
-    done_untold (asked c.args.words.now) command asks _ _ _ _ c.run.result c.run.ensures.answer old new untold had has is
+    done_untold (asked c.args.words.now) command asks _ _ _ _ c.run.result c.run.ensures.answer
+    old new untold had has is
 
 pub returns-clause-whole : goal.returns-clause-whole
 returns-clause-whole g c = λ command input asks takes told done.

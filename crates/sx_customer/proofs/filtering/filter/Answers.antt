@@ -1,8 +1,8 @@
-use Rattle.std.proofs.Common.{ℕ, List, Some, subst}
-use Rattle.std.proofs.lemmas.Option.{same_Some}
+use Rattle.std.proofs.Common.{ℕ, List, refl, subst}
+use Rattle.sx_customer.proofs.Answered.{emptied}
 use Rattle.sx_customer.proofs.Others.{filtered, kept}
-use Rattle.sx_customer.proofs.Written.{of_command, wrote}
-use Rattle.sx_meaning.specs.Answers.{IsRead, asked}
+use Rattle.sx_customer.proofs.Written.{wrote}
+use Rattle.sx_meaning.specs.Answers.{asked}
 use Rattle.sx_meaning.specs.Outputs.{MayWrite}
 use Rattle.sx_words.specs.declared.command.Command.TheVariants.{Filter}
 use Rattle.sx_customer.proofs.filtering.filter.Goals as goal
@@ -23,8 +23,8 @@ pub returns-clause-alike : goal.returns-clause-alike
 returns-clause-alike g c = λ workers others asks done.
     let w = wrote (asked c.args.words.now) (Filter workers) asks c.args.source.now.left c.run.new.source.left
     c.args.sink.now.written c.run.new.sink.written c.run.result c.run.ensures.answer done in
-    let ended = same_Some _ _ (of_command (asked c.args.words.now) (Filter workers) asks
-    (λ command. IsRead command (Some c.args.source.now.left) (Some c.run.new.source.left)) (c.run.ensures.read done)) in (
+    let ended = emptied (asked c.args.words.now) (Filter workers)
+    c.args.source.now.left c.run.new.source.left asks refl (c.run.ensures.read done) in (
       w.text,
       w.appended,
       subst (λ (left : List ℕ). MayWrite (Filter others) c.args.source.now.left w.text left) ended

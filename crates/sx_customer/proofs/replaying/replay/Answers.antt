@@ -1,9 +1,8 @@
 use Rattle.std.proofs.Common.{ℕ, List, Some, refl, subst}
-use Rattle.std.proofs.lemmas.Option.{same_Some}
-use Rattle.sx_customer.proofs.Answered.{refused_is}
+use Rattle.sx_customer.proofs.Answered.{emptied, refused_is}
 use Rattle.sx_customer.proofs.Others.{replay_refused, replayed}
-use Rattle.sx_customer.proofs.Written.{of_command, wrote}
-use Rattle.sx_meaning.specs.Answers.{IsRead, asked}
+use Rattle.sx_customer.proofs.Written.{wrote}
+use Rattle.sx_meaning.specs.Answers.{asked}
 use Rattle.sx_meaning.specs.Outputs.{MayWrite}
 use Rattle.sx_words.specs.declared.command.Command.TheVariants.{Replay}
 use Rattle.sx_customer.proofs.replaying.replay.Goals as goal
@@ -12,8 +11,8 @@ pub returns-clause-replayed : goal.returns-clause-replayed
 returns-clause-replayed g c = λ workers asks done.
     let w = wrote (asked c.args.words.now) (Replay workers) asks c.args.source.now.left c.run.new.source.left
     c.args.sink.now.written c.run.new.sink.written c.run.result c.run.ensures.answer done in
-    let ended = same_Some _ _ (of_command (asked c.args.words.now) (Replay workers) asks
-    (λ command. IsRead command (Some c.args.source.now.left) (Some c.run.new.source.left)) (c.run.ensures.read done)) in (
+    let ended = emptied (asked c.args.words.now) (Replay workers)
+    c.args.source.now.left c.run.new.source.left asks refl (c.run.ensures.read done) in (
       w.text,
       w.appended,
       replayed c.run.ensures.replayed_settle c.run.ensures.follows workers _ w.text

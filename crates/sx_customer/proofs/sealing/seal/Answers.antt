@@ -1,31 +1,33 @@
 use Rattle.std.proofs.Common.{ℕ, List, Some, refl, subst}
-use Rattle.std.proofs.lemmas.Option.{same_Some}
-use Rattle.sx_customer.proofs.Answered.{refused_is}
+use Rattle.sx_customer.proofs.Answered.{emptied, refused_is}
 use Rattle.sx_customer.proofs.Seals.{gathered, seal_refused, sealed}
-use Rattle.sx_customer.proofs.Written.{of_command, wrote}
-use Rattle.sx_meaning.specs.Answers.{IsRead, asked}
+use Rattle.sx_customer.proofs.Written.{wrote}
+use Rattle.sx_meaning.specs.Answers.{asked}
 use Rattle.sx_meaning.specs.Outputs.{MayWrite}
 use Rattle.sx_words.specs.declared.command.Command.TheVariants.{Seal}
 use Rattle.sx_customer.proofs.sealing.seal.Goals as goal
 
 pub returns-clause-sealed : goal.returns-clause-sealed
 returns-clause-sealed g c = λ workers shards mu rounds searches asks done.
-    let w = wrote (asked c.args.words.now) (Seal workers shards mu rounds searches) asks c.args.source.now.left c.run.new.source.left
-    c.args.sink.now.written c.run.new.sink.written c.run.result c.run.ensures.answer done in
+    let w = wrote (asked c.args.words.now) (Seal workers shards mu rounds searches) asks
+    c.args.source.now.left c.run.new.source.left c.args.sink.now.written c.run.new.sink.written
+    c.run.result c.run.ensures.answer done in
     (w.text, w.appended, sealed c.run.ensures.seals workers shards mu rounds searches _ w.text _ w.may)
 
 pub returns-clause-gathered : goal.returns-clause-gathered
 returns-clause-gathered g c = λ workers shards mu rounds searches asks done.
-    let w = wrote (asked c.args.words.now) (Seal workers shards mu rounds searches) asks c.args.source.now.left c.run.new.source.left
-    c.args.sink.now.written c.run.new.sink.written c.run.result c.run.ensures.answer done in
+    let w = wrote (asked c.args.words.now) (Seal workers shards mu rounds searches) asks
+    c.args.source.now.left c.run.new.source.left c.args.sink.now.written c.run.new.sink.written
+    c.run.result c.run.ensures.answer done in
     (w.text, w.appended, gathered workers shards mu rounds searches _ w.text _ w.may)
 
 pub returns-clause-alike : goal.returns-clause-alike
 returns-clause-alike g c = λ workers shards mu rounds searches others more asks done.
-    let w = wrote (asked c.args.words.now) (Seal workers shards mu rounds searches) asks c.args.source.now.left c.run.new.source.left
-    c.args.sink.now.written c.run.new.sink.written c.run.result c.run.ensures.answer done in
-    let ended = same_Some _ _ (of_command (asked c.args.words.now) (Seal workers shards mu rounds searches) asks
-    (λ command. IsRead command (Some c.args.source.now.left) (Some c.run.new.source.left)) (c.run.ensures.read done)) in (
+    let w = wrote (asked c.args.words.now) (Seal workers shards mu rounds searches) asks
+    c.args.source.now.left c.run.new.source.left c.args.sink.now.written c.run.new.sink.written
+    c.run.result c.run.ensures.answer done in
+    let ended = emptied (asked c.args.words.now) (Seal workers shards mu rounds searches)
+    c.args.source.now.left c.run.new.source.left asks refl (c.run.ensures.read done) in (
       w.text,
       w.appended,
       subst (λ (left : List ℕ). MayWrite (Seal others more mu rounds searches)
@@ -35,8 +37,8 @@ returns-clause-alike g c = λ workers shards mu rounds searches others more asks
 
 pub returns-clause-whole : goal.returns-clause-whole
 returns-clause-whole g c = λ workers shards mu rounds searches asks done.
-    same_Some _ _ (of_command (asked c.args.words.now) (Seal workers shards mu rounds searches) asks
-    (λ command. IsRead command (Some c.args.source.now.left) (Some c.run.new.source.left)) (c.run.ensures.read done))
+    emptied (asked c.args.words.now) (Seal workers shards mu rounds searches)
+    c.args.source.now.left c.run.new.source.left asks refl (c.run.ensures.read done)
 
 pub returns-clause-refused : goal.returns-clause-refused
 returns-clause-refused g c = λ workers shards mu rounds searches number why asks is.
