@@ -19,7 +19,7 @@ use Rattle.sx_ledger.specs.Ledger.{IsLedger}
 use Rattle.sx_meaning.specs.FilterLaws.{FiltersBodies}
 use Rattle.sx_meaning.specs.Findings.{Finds, FindsAtEnd, MayComeAll, no_fault, refused}
 use Rattle.sx_meaning.specs.Items.{Item, block, candidates, item_record, proof, records, state}
-use Rattle.sx_meaning.specs.Laws.{FollowsReplays}
+use Rattle.sx_meaning.specs.Laws.{ChainConserves, FollowsReplays, ReplaysChains}
 use Rattle.sx_meaning.specs.Outputs.{MayWrite, Writes}
 use Rattle.sx_meaning.specs.ProofLaws.{ProvedIsGood}
 use Rattle.sx_meaning.specs.Proving.{IsFollowed, IsVerdict, account_from, proved as proof_bytes, shown_account}
@@ -217,12 +217,13 @@ fair_chain settles parts blocks (next ∷ others) ledger is =
     let s = settles parts next ledger is.0.valid in
     (fair parts next s, fair_chain settles (ledger_after parts next) blocks others s.ledger is.1)
 
-pub replayed : ReplaysSettle → FollowsReplays → (workers : ℕ) (bytes text : List ℕ)
+pub replayed : ReplaysSettle → FollowsReplays → ReplaysChains → ChainConserves → (workers : ℕ) (bytes text : List ℕ)
     → MayWrite (Replay workers) bytes text [] → Replayed bytes text
-replayed settle follows workers bytes text may =
+replayed settle follows chains conserves workers bytes text may =
     let end : FindsAtEnd (Replay workers) may.found.items may.found.rest no_fault [] = may.found.finds in
     let c = end.concludes in
     let each = subst (λ (l : List Item). MayComeAll (Replay workers) [] l) c.are may.found.each in
+    let chain = chains workers c.parts c.others each in
     record {
       parts = c.parts;
       others = c.others;
@@ -230,6 +231,7 @@ replayed settle follows workers bytes text may =
       ledger = each.0.form;
       fair = fair_each c.parts (blocks_of c.others) (settle workers c.parts c.others each);
       written = subst (λ (l : List Item). Writes (Replay workers) l text) c.are may.writes;
+      keeps = λ asset lt. conserves c.parts (blocks_of c.others) asset chain.ledger chain.valid lt;
       follows = follows workers bytes text [] may;
     }
 

@@ -20,6 +20,7 @@ use Rattle.sx_meaning.specs.Items.{Item, block, candidates, item_record, records
 use Rattle.sx_meaning.specs.Outputs.{MayWrite, Writes}
 use Rattle.sx_meaning.specs.SealLaws.{DemosSettle, LeavesItsMeaning, SealsLeaveTheirMeaning}
 use Rattle.sx_meaning.specs.Sealing.{IsMadeOf, IsSealed}
+use Rattle.sx_meaning.specs.Settling.{ValidSettles}
 use Rattle.sx_meaning.proofs.Ends.{reads_to_end}
 use Rattle.sx_outcome.specs.declared.outcome.Outcome.{Outcome}
 use Rattle.sx_outcome.specs.declared.space.NoRoom.{NoRoom}
@@ -83,9 +84,9 @@ made parts txs mu rounds searches said told m = record {
   prices = m.cleared.prices;
 }
 
-pub gathered : (workers shards mu rounds searches : ℕ) (bytes text left : List ℕ)
+pub gathered : ValidSettles → (workers shards mu rounds searches : ℕ) (bytes text left : List ℕ)
     → MayWrite (Seal workers shards mu rounds searches) bytes text left → Gathered mu rounds searches bytes text
-gathered workers shards mu rounds searches bytes text left may =
+gathered settles workers shards mu rounds searches bytes text left may =
     let found = may.found in
     let end : FindsAtEnd (Seal workers shards mu rounds searches) found.items found.rest no_fault left = found.finds in
     let c = end.concludes in
@@ -105,6 +106,7 @@ gathered workers shards mu rounds searches bytes text left may =
       ledger = each.0.form;
       room = c.finds;
       made = made c.parts c.txs mu rounds searches wrote.said wrote.told wrote.made;
+      fair = fair c.parts wrote.said (settles c.parts wrote.said each.0.form wrote.made.cleared.valid);
     }
 
 -- ---- a demonstration

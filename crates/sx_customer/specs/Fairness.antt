@@ -64,6 +64,13 @@ total_in parts asset =
     sum_by (λ account. slice_index account.balances asset) parts.accounts
     + sum_by (λ offer. if offer.sell == asset then offer.amount else 0) parts.offers
 
+-- the same with what the ledger keeps of rounding
+abbrev pub total_with_rounding : Parts → ℕ → ℕ
+total_with_rounding parts asset =
+    sum_by (λ account. slice_index account.balances asset) parts.accounts
+    + (sum_by (λ offer. if offer.sell == asset then offer.amount else 0) parts.offers
+    + slice_index parts.rounding asset)
+
 -- ---- trade
 
 -- the price of an asset in a block

@@ -6,7 +6,7 @@ use Rattle.sx_block.specs.Chain.{IsChain, ledger_after_all}
 use Rattle.sx_block.specs.Refusals.{Breaks, rule_of}
 use Rattle.sx_block.specs.Rule.{Rule, rank}
 use Rattle.sx_block.specs.Validity.{Holds, ledger_after}
-use Rattle.sx_customer.specs.Fairness.{IsFair}
+use Rattle.sx_customer.specs.Fairness.{IsFair, total_with_rounding}
 use Rattle.sx_customer.specs.Sealed.{valid_line}
 use Rattle.sx_ledger.specs.declared.parts.Parts.{Parts}
 use Rattle.sx_ledger.specs.Ledger.{IsLedger}
@@ -55,6 +55,9 @@ pub record Replayed (input text : List ℕ) : Type 0 where
   pub ledger : IsLedger parts
   pub fair : AreFair parts (blocks_of others)
   pub written : text ≡ state_record (ledger_after_all parts (blocks_of others))
+  -- of each asset there is as much as before, with what is kept of rounding
+  pub keeps : (asset : ℕ) → asset < length parts.prices →
+      total_with_rounding (ledger_after_all parts (blocks_of others)) asset ≡ total_with_rounding parts asset
   -- a follower that takes the same blocks writes the same state
   pub follows : MayWrite Follow input text []
 

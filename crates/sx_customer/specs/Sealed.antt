@@ -69,6 +69,7 @@ pub record Gathered (mu rounds searches : ℕ) (input text : List ℕ) : Type 0 
   -- a block may follow, and has room for all that the candidates create and make
   pub room : room_for parts txs ≡ Ok tt
   pub made : IsMade parts txs mu rounds searches said told
+  pub fair : IsFair parts said
 
 -- ---- no seal
 

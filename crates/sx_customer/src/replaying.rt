@@ -11,7 +11,7 @@ use std::sync::ledger::Ledger;
 use std::thread::Threads;
 use sx_base::{MemSink, MemSource};
 use sx_net::Steps;
-use sx_run::{Status, run};
+use sx_run::{Status, chain_laws, run};
 use sx_words::Command;
 use sx_workers::Gate;
 
@@ -49,6 +49,7 @@ pub fn replay<R: Threads + Sync, G: Gate + Sync, L: Ledger>(
     ensures refused { (workers number : ℕ) (why : Invalid) → asked words.now ≡ Some (Command.Replay workers) →
         result ≡ Status.Refused number why → ReplayRefused source.old.left number why × (sink.new ≡ sink.old) }
 {
+    chain_laws();
     run(rt, alloc, words, source, sink, gate, steps)
 }
 

@@ -15,7 +15,8 @@ returns-clause-replayed g c = λ workers asks done.
     c.args.source.now.left c.run.new.source.left asks refl (c.run.ensures.read done) in (
       w.text,
       w.appended,
-      replayed c.run.ensures.replayed_settle c.run.ensures.follows workers _ w.text
+      replayed c.run.ensures.replayed_settle c.run.ensures.follows c.chain_laws.ensures.replays
+          c.chain_laws.ensures.conserves workers _ w.text
           (subst (λ (left : List ℕ). MayWrite (Replay workers) c.args.source.now.left w.text left) ended w.may),
     )
 

@@ -19,7 +19,7 @@ returns-clause-gathered g c = λ workers shards mu rounds searches asks done.
     let w = wrote (asked c.args.words.now) (Seal workers shards mu rounds searches) asks
     c.args.source.now.left c.run.new.source.left c.args.sink.now.written c.run.new.sink.written
     c.run.result c.run.ensures.answer done in
-    (w.text, w.appended, gathered workers shards mu rounds searches _ w.text _ w.may)
+    (w.text, w.appended, gathered c.run.ensures.checked_settles workers shards mu rounds searches _ w.text _ w.may)
 
 pub returns-clause-alike : goal.returns-clause-alike
 returns-clause-alike g c = λ workers shards mu rounds searches others more asks done.
